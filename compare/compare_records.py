@@ -1,17 +1,18 @@
 #!/usr/bin/env python3
-"""Whether `rx replay` reads records, and runs them again, as a second engine does.
+"""Whether `rx replay` and `rx convert` read records, and run them again, as a second engine does.
 
 The second engine is the folder `second`: its reader of records is written from the form of a record, its replay from the rules of one. It
 shares nothing with rx.
 
-With --sessions, sessions at random run in rx, as in compare_runs.py; then rx replays the record that each left, over the same input. What
-comes out has to be the frames of all sends of the recorded run. Then something of the record or of the input is changed at random (an answer
-of malloc, the number of instructions or of items, a byte of the trunk), and what rx answers and writes has to be what the second engine
-does.
+With --sessions, sessions at random run in rx, as in compare_runs.py; then rx replays and converts the record that each left, over the
+same input, and what version 1 says of it. What a replay writes has to be the frames of all sends of the recorded run, and what a
+conversion writes the record that was left. Then something of either record or of the input is changed at random (what was asked and
+answered, the number of instructions or of items, the version, a byte of the trunk), and what rx answers and writes has to be what the
+second engine does. A new record that was there before a conversion that fails has to stay.
 
-With --spoil, records at random are spoilt: a byte is changed, put in or taken out, a line is dropped, doubled, moved or cut, a number
-written otherwise, the file cut short. The line that rx refuses has to be that of the second reader; a record that still has a reading
-is replayed in both.
+With --spoil, records at random, of both versions, are spoilt: a byte is changed, put in or taken out, a line is dropped, doubled, moved or
+cut, a number written otherwise, the file cut short. The line that rx refuses has to be that of the second reader; a record that still has a
+reading is replayed or converted in both.
 
 usage: compare_records.py (--sessions | --spoil) [--runs N] [--seed N] [RX]
 RX is the built rx, crates/rx/out/rx unless it is given. The status is 0 where none differs.

@@ -4,12 +4,16 @@
 The second engine is the folder `second`. It is written from the RISC-V unprivileged manual (RV32I and "M") and from the project's
 rules, and shares nothing with rx. Its modules say what each is written from.
 
-With --sessions, sessions at random run in both: servers with planted faults of the heap, and programs of pseudo-random words; many
-connections, in each framing; with options at random, in any order; at times a trunk that breaks a rule of the grammar. Compared are
-standard output, the status, the answer as standard error tells it (failing point and cause, refusal and offset, connection, code), and
-the record and the report. An rx that recovers and writes neither of them yet is compared with --no-files, in all else. Where rx doesn't
-recover either, --no-recovery takes each first failure for the end. With --wild all programs are of pseudo-random words, and
-with --long sessions have up to 250 messages or more, a ring and frames of any size, and a wider hold and --every.
+With --sessions, sessions at random run in both: servers with planted faults of the heap, whose blocks come of malloc, calloc and
+realloc, and programs of pseudo-random words; many connections, in each framing; with options at random, in any order; at times a trunk
+that breaks a rule of the grammar. Compared are standard output, the status, the answer as standard error tells it (failing point and
+cause, refusal and offset, connection, code), and the record and the report. An rx that recovers and writes neither of them yet is
+compared with --no-files, in all else. Where rx doesn't recover either, --no-recovery takes each first failure for the end. With --wild all
+programs are of pseudo-random words, and with --long sessions have up to 250 messages or more, a ring and frames of any size, and a wider
+hold and --every.
+
+With --code the sessions are those of a few programs that go where code and memory meet: they write their own code, jump into a second
+segment of code or to half of an instruction, load and store across pages, and store into pages that a checkpoint shares.
 
 With --code the sessions are those of a few programs that go where code and memory meet: they write their own code, jump into a second
 segment of code or to half of an instruction, load and store across pages, and store into pages that a checkpoint shares.

@@ -96,10 +96,12 @@ def run(engine, program, framing, frames):
 
 # ---- what an rx can do
 
-LINES, MALLOC, RECOVERY, REPORTS = "lines of several connections", "malloc and free", "recovery", "reports"
+LINES, MALLOC, REALLOC = "lines of several connections", "malloc and free", "calloc and realloc"
+RECOVERY, REPORTS = "recovery", "reports"
 BAD_WORDS, INPUT_REFUSED, GAVE_UP = 2, 4, 5
 
 ALLOCATES = "li a0, 16\nli a7, 3\necall\n"
+CALLOC_AND_REALLOC = "li a0, 4\nli a1, 4\nli a7, 7\necall\nli a1, 32\nli a7, 8\necall\n"
 FREES_TWICE = "mv s0, a0\nli a7, 4\necall\nmv a0, s0\necall\n"
 EXITS = "li a0, 0\nli a7, 5\necall\n"
 
@@ -114,13 +116,15 @@ def run_text(engine, text):
 
 
 def abilities(rx):
-    """What an rx can do of the four. It can't where it refuses to; what it does wrong isn't looked at here."""
+    """What an rx can do of the five. It can't where it refuses to; what it does wrong isn't looked at here."""
     found = set()
     frames = frame(OPENS, 0) + frame(OPENS, 1)
     if run(rx, os.path.join(HERE, "echo"), "line", frames).status not in (BAD_WORDS, INPUT_REFUSED):
         found.add(LINES)
     if run_text(rx, ALLOCATES + EXITS).status != GAVE_UP:
         found.add(MALLOC)
+    if run_text(rx, CALLOC_AND_REALLOC + EXITS).status != GAVE_UP:
+        found.add(REALLOC)
     freed_twice = run_text(rx, ALLOCATES + FREES_TWICE + EXITS)
     if freed_twice.status != GAVE_UP:
         found.add(RECOVERY)
@@ -189,7 +193,7 @@ GUESTS = [
             b"...\nmessage 3: 0 words of 0.00 letters; in all 5 words, the longest of 7, "
             b"the most frequent letter E\n",
         ))),
-    Guest("store", "line", [LINES, MALLOC], Talk(
+    Guest("store", "line", [LINES, REALLOC], Talk(
         (0, OPEN, None),
         (1, OPEN, None),
         (0, b"set city New York\n", b"ok\n"),
@@ -200,6 +204,10 @@ GUESTS = [
         (1, b"stats\n", b"lines 4, sets 1, found 1, missed 1\n"),
         (0, b"set city Rome\n", b"ok\n"),
         (1, b"get city\n", b"Rome\n"),
+        (1, b"set city the eternal one\n", b"ok\n"),
+        (0, b"get city\n", b"the eternal one\n"),
+        (1, b"count\n", b"values 2, yours 2\n"),
+        (0, b"set city Rome\n", b"ok\n"),
         (0, b"del tree\n", b"ok\n"),
         (0, b"del tree\n", b"none\n"),
         (0, b"hello\n", b"error: unknown command\n"),
@@ -216,7 +224,7 @@ GUESTS = [
         (1, b"count\n", b"values 0, yours 0\n"),
         (1, CLOSE, None))),
     # The heap holds 4096 blocks. The first is that of connection 0.
-    Guest("store", "line", [LINES, MALLOC], Talk(
+    Guest("store", "line", [LINES, REALLOC], Talk(
         (0, OPEN, None),
         *[(0, b"set %d v\n" % number, b"ok\n") for number in range(4095)],
         (0, b"set more v\n", b"error: there is no room for it\n"),
@@ -252,6 +260,20 @@ GUESTS = [
         (1, b"look\n", b"hall: users 1, looks 1\n"),
         (1, CLOSE, None)),
         0, [(8, "BadFree", tries("BadFree", 7, 6, 5) + survives("BadFree", 4, "delay"))]),
+    # The table moves with the fifth name, which is put onto the first sum of the old one; the sixth name is put onto the second sum. With
+    # padding the fifth one is put there too, and the sixth one isn't.
+    Guest("moved", "line", [LINES, REALLOC, RECOVERY], alone(
+        (b"ann 30 bob 12 ann 5 cid 7\n", b"ann 35, bob 12, cid 7; most ann\n"),
+        (b"ann 3 bob 12 cid 7 dan 9 eve 5\n", b"ann 3, bob 12, cid 7, dan 9, eve 5; most bob\n"),
+        (b"ann 30 bob 12 cid 7 dan 9 eve 5 bob 20 ann 1\n", b"ann 31, bob 32, cid 7, dan 9, eve 5; most bob\n"),
+        (b"ann\n", b"error: it is NAME AMOUNT NAME AMOUNT ..\n"),
+        (b"ann 1 bob x\n", b"error: it is NAME AMOUNT NAME AMOUNT ..\n"),
+        (b" ".join(b"n%d %d" % (number, 30 - number) for number in range(20)) + b"\n",
+         b", ".join(b"n%d %d" % (number, 30 - number) for number in range(20)) + b"; most n0\n"),
+        (b"ann 1 bob 2 cid 3 dan 4 eve 5\n", b"ann 1, bob 2, cid 3, dan 4, eve 5; most eve\n"),
+        (b"ann 1 bob 5 cid 3 dan 4 eve 2 fay 3\n", b"ann 1, bob 5, cid 3, dan 4, eve 2, fay 3; most bob\n")),
+        0, [(4, "AssertFailed 1", survives("AssertFailed 1", 3, "delay")),
+            (9, "AssertFailed 1", survives("AssertFailed 1", 8, "pad"))]),
     Guest("unset", "line", [LINES, MALLOC, RECOVERY], alone(
         (b"add " + b" ".join(b"%d" % number for number in range(1, 71)) + b"\n", b"numbers 70\n"),
         (b"show\n", b"numbers 70, least 1, most 70, mean 35.50, above it 35\n"),
@@ -297,7 +319,7 @@ class Check:
     def __init__(self, rx):
         self.rx, self.wrong = rx, 0
         self.can = abilities([rx]) if rx else set()
-        for missing in [need for need in (LINES, MALLOC, RECOVERY, REPORTS) if rx and need not in self.can]:
+        for missing in [need for need in (LINES, MALLOC, REALLOC, RECOVERY, REPORTS) if rx and need not in self.can]:
             print("this rx has no %s yet" % missing)
 
     def say(self, name, holds, right, wrong):

@@ -62,8 +62,8 @@ static inline void *guest_malloc(unsigned size)
     return (void *)a0;
 }
 
-/* Call 4. Frees a block that guest_malloc answered and that wasn't freed since. NULL is passed over. With any other
- * address the program fails. */
+/* Call 4. Frees a block that was allocated and that wasn't freed since. NULL is passed over. With any other address the
+ * program fails. */
 static inline void guest_free(void *block)
 {
     register unsigned a0 __asm__("a0") = (unsigned)block;
@@ -92,6 +92,31 @@ static inline void guest_assert(int holds, unsigned code)
         return;
     __asm__ volatile("ecall" : : "r"(a0), "r"(a7) : "memory");
     __builtin_unreachable();
+}
+
+/* Call 7. Allocates a block of `count` times `size` bytes, all of them 0, and answers as guest_malloc. It answers NULL also where
+ * the product isn't below 2 to the 32. */
+static inline void *guest_calloc(unsigned count, unsigned size)
+{
+    register unsigned a0 __asm__("a0") = count;
+    register unsigned a1 __asm__("a1") = size;
+    register unsigned a7 __asm__("a7") = 7;
+
+    __asm__ volatile("ecall" : "+r"(a0) : "r"(a1), "r"(a7) : "memory");
+    return (void *)a0;
+}
+
+/* Call 8. Allocates a block of `size` bytes in place of another one, and answers where it is: always elsewhere. What stood in the old
+ * block stands in the new one, up to the lesser size, and the old one is freed. Where there is no room, the answer is NULL, and the
+ * old block stays. With NULL it is guest_malloc. With any other address that isn't a block's the program fails. */
+static inline void *guest_realloc(void *block, unsigned size)
+{
+    register unsigned a0 __asm__("a0") = (unsigned)block;
+    register unsigned a1 __asm__("a1") = size;
+    register unsigned a7 __asm__("a7") = 8;
+
+    __asm__ volatile("ecall" : "+r"(a0) : "r"(a1), "r"(a7) : "memory");
+    return (void *)a0;
 }
 
 #endif

@@ -67,13 +67,16 @@ static void remove_entry(struct entry **place)
     guest_free(entry);
 }
 
-static struct entry *make_entry(struct client *owner, struct text key, struct text value)
+/* Puts a value at the place of its key: in the entry that hangs there, with the size that it needs now, or in a new one. Tells whether
+ * there was room. */
+static int put_entry(struct entry **place, struct client *owner, struct text key, struct text value)
 {
-    struct entry *entry = guest_malloc(sizeof *entry + key.length + value.length);
+    struct entry *next = *place != NULL ? (*place)->next : NULL;
+    struct entry *entry = guest_realloc(*place, sizeof *entry + key.length + value.length);
 
     if (entry == NULL)
-        return NULL;
-    entry->next = NULL;
+        return 0;
+    entry->next = next;
     entry->owner = owner;
     entry->key_length = key.length;
     entry->value_length = value.length;
@@ -81,28 +84,20 @@ static struct entry *make_entry(struct client *owner, struct text key, struct te
         entry->bytes[i] = key.at[i];
     for (unsigned i = 0; i < value.length; i++)
         entry->bytes[key.length + i] = value.at[i];
-    return entry;
+    *place = entry;
+    return 1;
 }
 
 static void do_set(struct client *client, struct text key, struct text value)
 {
-    struct entry *entry;
-    struct entry **place;
-
     if (value.length == 0) {
         put("error: it is set KEY VALUE");
         return;
     }
-    entry = make_entry(client, key, value);
-    if (entry == NULL) {
+    if (!put_entry(place_of(key), client, key, value)) {
         put("error: there is no room for it");
         return;
     }
-    place = place_of(key);
-    if (*place != NULL)
-        remove_entry(place);
-    entry->next = *place;
-    *place = entry;
     client->sets++;
     put("ok");
 }
@@ -185,11 +180,7 @@ static void answer(struct client *client, struct text line)
 
 static void open_client(unsigned connection)
 {
-    struct client *client = guest_malloc(sizeof *client);
-
-    if (client != NULL)
-        *client = (struct client){0};
-    clients[connection] = client;
+    clients[connection] = guest_calloc(1, sizeof *clients[connection]);
 }
 
 static void close_client(unsigned connection)

@@ -7,12 +7,13 @@ the answer that standard error tells are compared with what was worked out by ha
 line that differs is printed, so that it can be run again.
 
 Behind a run that came to its end its record is replayed, `printf INPUT | rx replay GUEST record`. That has to write the same bytes; but where
-replies were held back, they may come in another order, the same to each connection.
+replies were held back, they may come in another order, the same to each connection. Then it is converted, as it is and as version 1 says
+it, `printf INPUT | rx convert GUEST record new`. That has to give the record, both times.
 
 With --no-recovery the first failure has to be the end. Without it the values are those of an rx that recovers. With --no-replay nothing
-is replayed.
+is replayed or converted, with --no-convert nothing is converted.
 
-usage: shipped.py [--no-recovery] [--no-replay] [RX]
+usage: shipped.py [--no-recovery] [--no-replay | --no-convert] [RX]
 RX is the built rx, crates/rx/out/rx unless it is given. The status is 0 where all runs are right.
 """
 
@@ -102,6 +103,9 @@ WITHOUT_FAULT = [
     Run("keys", "", opens(0, 1) + piece(0, b"set city Rome\n") + piece(1, b"get city\n") + piece(1, b"set city Oslo\n") + piece(0, b"get city\n")
         + piece(0, b"get sea\n") + piece(0, b"put sea\n") + piece(0, b"set sea \n") + piece(0, b"set " + b"k" * 16 + b" v\n"),
         out((0, b"ok\n"), (1, b"Rome\n"), (1, b"ok\n"), (0, b"Oslo\n"), (0, b"none\n"), (0, b"bad\n"), (0, b"bad\n"), (0, b"ok\n"))),
+    Run("grow", "", opens(0, 1) + piece(0, b"a\n") + piece(1, b"b\n") + piece(0, b"\n"),
+        out((0, b"a\n"), (1, b"a\nb\n"), (0, b"a\nb\n\n"))),
+    Run("grow", "", lines_in(*[LONGEST] * 17), out(*[(0, LONGEST * number) for number in range(1, 16)])),
     Run("keys", "", lines_in(*[b"set %s v\n" % name for name in NAMES], b"set name000 w\n", b"get name000\n"),
         out(*[(0, b"ok\n")] * 128, (0, b"full\n"), (0, b"ok\n"), (0, b"w\n"))),
 ]
@@ -120,6 +124,7 @@ WITH_FAULT = [
     Run("twice", "", lines_in(b"hi\n"), b"", gave_up(2, "BadFree"), (out((0, b"hi\n")), FINISHED)),
     Run("stale", "", lines_in(b"a\n", b"b\n", b"c\n"), out((0, b"a\n")), gave_up(3, "AssertFailed 3"),
         (out((0, b"a\n"), (0, b"b\n"), (0, b"c\n")), FINISHED)),
+    Run("stale_grow", "", lines_in(b"a\n", b"b\n"), b"", gave_up(2, "AssertFailed 7"), (out((0, b"a\n"), (0, b"b\n")), FINISHED)),
     Run("tell_free", "", lines_in(b"a\n"), out((0, told(HEAP))), gave_up(2, "BadFree"), (out((0, told(HEAP))), FINISHED)),
     Run("tell_over", "", lines_in(b"a\n"), out((0, told(HEAP))), gave_up(2, "AssertFailed 5")),
     # held back when it fails, and passed at the end
@@ -133,18 +138,22 @@ SEVENTY = b"add " + b" ".join(b"%d" % number for number in range(1, 71)) + b"\n"
 SAW = out((0, b"<tr><td>saw 12&quot;</td><td>steel</td><td>24.90</td></tr>\n"))
 HAND_SAW = out((0, b"<tr><td>hand saw 12&quot;</td><td>steel</td><td>19.90</td></tr>\n"))
 HALL = out((0, b"hall: users 1\n"), (0, b"hall: users 1\n"), (0, b"hall: users 1, looks 1\n"))
+FOUR = out((0, b"ann 30, bob 12, cid 7, dan 9; most ann\n"))
 NUMBERS = out((0, b"numbers 70\n"), (0, b"numbers 0\n"), (0, b"numbers 2\n"))
 
 IN_C = [
     Run("C echo", "--frame whole", lines_in(b"hi\n", b"\0\xff"), out((0, b"hi\n"), (0, b"\0\xff"))),
     Run("C upper", "", lines_in(b"two words\n"), out((0, b"TWO WORDS\nmessage 1: 2 words of 4.00 letters; in all 2 words, "
         b"the longest of 5, the most frequent letter O\n"))),
-    Run("C store", "", opens(0, 1) + piece(0, b"set city Rome\n") + piece(1, b"get city\n") + frame(CLOSES, 0) + piece(1, b"get city\n"),
-        out((0, b"ok\n"), (1, b"Rome\n"), (1, b"none\n"))),
+    Run("C store", "", opens(0, 1) + piece(0, b"set city Rome\n") + piece(1, b"get city\n") + piece(0, b"set city Oslo\n")
+        + piece(1, b"get city\n") + frame(CLOSES, 0) + piece(1, b"get city\n"),
+        out((0, b"ok\n"), (1, b"Rome\n"), (0, b"ok\n"), (1, b"Oslo\n"), (1, b"none\n"))),
     Run("C overrun", "", lines_in(b"saw 12\",steel,24.90\n", b"hand saw 12\",steel,19.90\n"),
         SAW, gave_up(3, "AssertFailed 1"), (SAW + HAND_SAW, FINISHED)),
     Run("C dangling", "", lines_in(b"enter hall\n", b"enter hall\n", b"look\n", b"leave\n"), HALL, gave_up(5, "BadFree"),
         (HALL + out((0, b"left hall\n")), FINISHED)),
+    Run("C moved", "", lines_in(b"ann 30 bob 12 cid 7 dan 9\n", b"ann 30 bob 12 cid 7 dan 9 eve 5 bob 20\n"), FOUR,
+        gave_up(3, "AssertFailed 1"), (FOUR + out((0, b"ann 30, bob 32, cid 7, dan 9, eve 5; most bob\n")), FINISHED)),
     Run("C unset", "", lines_in(SEVENTY, b"clear\n", b"add 5 8\n", b"show\n"), NUMBERS, gave_up(5, "AssertFailed 1"),
         (NUMBERS + out((0, b"numbers 2, least 5, most 8, mean 6.50, above it 1\n")), FINISHED)),
     Run("C hopeless", "", lines_in(b"90 min in h\n", b"90 min in fortnights\n"), out((0, b"1.50 h\n")), gave_up(3, "BadAccess")),
@@ -157,6 +166,9 @@ WORDS = "--record record --report report"
 LINES = [
     ('"$RX"', b"", 2),
     ('"$RX" replay echo', b"", 2),
+    ('"$RX" convert echo record', b"", 2),
+    ('"$RX" convert echo record record', b"", 2),
+    ('echo nonsense > unread; "$RX" convert echo unread new2 < /dev/null; status=$?; test -e new2 || exit $status', b"", 3),
     ('"$RX" run echo --record record', b"", 2),
     ('"$RX" run echo --record report --report report', b"", 2),
     ('"$RX" run echo other %s' % WORDS, b"", 2),
@@ -248,6 +260,20 @@ def replay_differs(shell, run):
     return None if same else "replay: output %r in place of %r" % (came, output)
 
 
+AS_VERSION_1 = "sed -e '1s/2/1/' -e 's/^[mcr] \\(........ .\\).*/m \\1/' record > first"
+
+
+def conversion_differs(shell, run):
+    """What differs where the run's record is converted, or None."""
+    program, stream = shell.program(run.guest), quoted(run.stream)
+    shell.run(AS_VERSION_1)
+    for record in ("record", "first"):
+        came, status, said = shell.run('printf %s | "$RX" convert %s %s new && cmp record new' % (stream, program, record))
+        if status or came:
+            return "conversion of %s: status %d, output %r, %r" % (record, status, came, said)
+    return None
+
+
 def line_differs(shell, line, output, status):
     """What differs in a line, or None. Each status but 0 comes with a sentence."""
     came, found, said = shell.run(line)
@@ -259,7 +285,9 @@ def line_differs(shell, line, output, status):
 def main(words):
     parser = argparse.ArgumentParser(description="Runs each shipped guest from the shell.")
     parser.add_argument("--no-recovery", action="store_true")
-    parser.add_argument("--no-replay", action="store_true")
+    again = parser.add_mutually_exclusive_group()
+    again.add_argument("--no-replay", action="store_true")
+    again.add_argument("--no-convert", action="store_true")
     parser.add_argument("rx", nargs="?", default=os.path.join(TOP, "crates", "rx", "out", "rx"))
     asked = parser.parse_args(words)
     right, wrong, replays = collections.Counter(), 0, 0
@@ -273,7 +301,8 @@ def main(words):
             found, line = differences(shell, run, not asked.no_recovery)
             if not (found or asked.no_replay) and has_end(shell):
                 replays += 1
-                found = [difference for difference in [replay_differs(shell, run)] if difference]
+                tests = [replay_differs] if asked.no_convert else [replay_differs, conversion_differs]
+                found = [difference for difference in [test(shell, run) for test in tests] if difference]
             right[run.guest] += not found
             wrong += bool(found)
             for difference in found:

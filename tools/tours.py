@@ -18,7 +18,7 @@ import tempfile
 TOP = os.path.abspath(os.path.join(os.path.dirname(os.path.abspath(__file__)), ".."))
 PAGES = ["README.md", "docs/USING.md", "docs/ASSEMBLER.md", "guests/README.md"]
 BLOCK = re.compile(r"^```(\w*)\n(.*?)^```$", re.MULTILINE | re.DOTALL)
-RUNS = re.compile(r"crates/rx/out/rx (run|asm|replay)|guests/run_second.py run")
+RUNS = re.compile(r"crates/rx/out/rx (run|asm|replay|convert)|guests/run_second.py run")
 
 
 def tours(page):

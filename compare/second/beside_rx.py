@@ -30,9 +30,14 @@ Rx = collections.namedtuple("Rx", "path recovers writes_files")
 
 
 class NotedSession(Session):
-    """A session that notes whether frames were too few for a checkpoint."""
+    """A session that notes whether frames were too few for a checkpoint, and in how many trials a block got another size."""
 
-    left_by_frames = False
+    left_by_frames, resized = False, 0
+
+    def attempt(self, checkpoint, environment, point):
+        trial, result = super().attempt(checkpoint, environment, point)
+        self.resized += any(choice.ask.replaced for choice in trial.choices[len(checkpoint.machine.choices):])
+        return trial, result
 
     def is_full(self):
         full = super().is_full()
@@ -130,24 +135,27 @@ class Seen:
         self.answers[answer[0] + (" %d" % answer[1] if answer[0] == "InputRefused" else "")] += 1
         if answer[0] == "GaveUp":
             self.causes[re.sub(r" \d+", "", answer[2])] += 1
-        places = {at.to_bytes(4, "little") for at, _ in machine.choices if at}
+        places = {choice.at.to_bytes(4, "little") for choice in machine.choices if choice.at}
         tells = any(content[i:i + 4] in places for _, content, _, _ in machine.sends for i in range(0, len(content), 4))
         self.sums.update({"items": machine.taken, "bytes of output": len(link.sink.content), "choices": len(machine.choices),
                           "instructions": machine.steps, "sessions of several connections": len(link.spans.opened) > 1,
                           "sessions that send where a block stands": tells, "sessions with a hold": done.session.options.hold > 0,
                           "sessions with waits": pair.is_patient})
+        self.recoveries.choices(machine.choices)
         if self.recovers:
             self.recovery(done.session)
 
     def recovery(self, session):
         episodes = session.notes.episodes
         self.sums.update({"episodes": len(episodes), "sessions with an episode": bool(episodes), "sessions with several": len(episodes) > 1,
-                          "sessions whose frames dropped a checkpoint": session.left_by_frames})
+                          "sessions whose frames dropped a checkpoint": session.left_by_frames,
+                          "trials with a block of another size": session.resized,
+                          "sessions with such a trial": session.resized > 0})
         for episode in episodes:
             self.recoveries.episode(episode)
 
     def lines(self):
-        counters = {"answers": self.answers, "causes": self.causes}
+        counters = {"answers": self.answers, "causes": self.causes, "choices": self.recoveries.of["choices"]}
         if self.recovers:
             counters = {"answers": self.answers, **self.recoveries.of}  # the causes are those of all failures
         found = ["%s: %s" % (name, ", ".join("%s %d" % pair for pair in sorted(counter.items())))

@@ -81,7 +81,8 @@ class Ran:
         say([tuple(t) for t in self.episodes[0].tries], list(expected), "tries")
 
     def choices(self):
-        return self.done.session.survivor.choices
+        """The address of each block that was asked for, and whether it was zeroed."""
+        return [(choice.at, choice.zeroed) for choice in self.done.session.survivor.choices]
 
 
 def run_rows(rows):

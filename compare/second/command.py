@@ -1,7 +1,7 @@
-"""The commands run, serve, replay and drill over things in memory, in the order in which they touch files.
+"""The commands run, serve, replay, convert and drill over things in memory, in the order in which they touch files.
 
-Written from the order of a command, the table of answers and statuses, the rules of a replay and the drill's generator. What a program
-file or a line of words may be isn't looked at here.
+Written from the order of a command, the table of answers and statuses, the rules of a replay and of a conversion, and the drill's
+generator. What a program file or a line of words may be isn't looked at here.
 """
 
 from second import record, report
@@ -93,7 +93,7 @@ def serve(image, listener, count, options=None):
     return run_session(image, options or Options(), PortLink(listener, count), MemoryFiles({}))
 
 
-# ---- replay
+# ---- replay and convert
 
 
 class Mismatch(Exception):
@@ -153,14 +153,38 @@ class Limit(Exception):
     """An event is refused: the answer."""
 
 
+def replay_of(program, text, source, sink):
+    """The reading of a record and its replay, which hasn't run yet. `program` makes the image for a window in bytes."""
+    reading = record.read_record(text)
+    image = program(reading.window * MIB)
+    return reading, Replay(image, reading.lines, reading.frame, TrunkLink(source, sink))
+
+
 def replay(program, text, source, sink):
-    """The command replay. `program` makes the image for a window in bytes."""
+    """The command replay."""
     try:
-        window, frame_name, choices, steps, taken = record.read_record(text)
+        reading, run_again = replay_of(program, text, source, sink)
     except record.RecordRefused as refused:
         return Done(("RecordRefused",) + refused.args)
-    image = program(window * MIB)
-    return Done(Replay(image, choices, frame_name, TrunkLink(source, sink)).run(steps, taken))
+    return Done(run_again.run(reading.steps, reading.taken))
+
+
+def convert(program, text, source, files):
+    """The command convert, with the new record as "o". It gives nothing to an output, and starts "o" once the run has ended."""
+    sink = MemorySink()
+    try:
+        reading, run_again = replay_of(program, text, source, sink)
+    except record.RecordRefused as refused:
+        return Done(("RecordRefused",) + refused.args)
+    answer = run_again.run(reading.steps, reading.taken)
+    if answer != ("Finished",):
+        return Done(answer)
+    try:
+        files.start("o")
+        files.add("o", record.record_text(reading._replace(version=2, lines=run_again.machine.choices)))
+    except FileFault:
+        answer = ("FileFault",)
+    return Done(answer)
 
 
 def image_maker(segments, entry):

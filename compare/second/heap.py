@@ -1,7 +1,8 @@
-"""The blocks of a guest's heap, and the six environments that malloc and free can have.
+"""The blocks of a guest's heap, and the six environments that malloc, calloc, realloc and free can have.
 
 Written from ISO C (9899:2018, 7.22.3) and the table of environments. A standing block is live or delayed. Its extent is what it
-takes of the heap: its bytes, rounded up to 16, and its padding.
+takes of the heap: its bytes, rounded up to 16, and its padding. A choice is an answer of one of the first three calls, together with
+what was asked.
 """
 
 import bisect
@@ -12,8 +13,39 @@ ENVIRONMENTS = (PAD, ZERO, ISOLATE, DELAY, ALL)  # in the order in which they ar
 
 PADDING = 256
 MOST_BLOCKS = 4096
+MOST_BYTES = (1 << 32) - 1
+
+MALLOC, CALLOC, REALLOC = "malloc", "calloc", "realloc"
 
 Block = collections.namedtuple("Block", "at size live")
+Choice = collections.namedtuple("Choice", "at zeroed ask")  # what is asked is None where a record doesn't say it
+
+
+class Ask(collections.namedtuple("Ask", "call first second")):
+    """A call that asks for a block, and its numbers: of malloc the size and 0, of calloc count and size, of realloc the old address
+    and the size."""
+
+    @property
+    def bytes(self):
+        """How many bytes are asked for; more than an address counts, maybe."""
+        return {MALLOC: self.first, CALLOC: self.first * self.second, REALLOC: self.second}[self.call]
+
+    @property
+    def replaced(self):
+        """The address of the block that the new one takes the place of, or 0."""
+        return self.first if self.call == REALLOC else 0
+
+
+def malloc_of(size):
+    return Ask(MALLOC, size, 0)
+
+
+def calloc_of(count, size):
+    return Ask(CALLOC, count, size)
+
+
+def realloc_of(old, size):
+    return Ask(REALLOC, old, size)
 
 
 def reserved(size):
@@ -22,7 +54,7 @@ def reserved(size):
 
 
 class BadFree(Exception):
-    """free of what isn't a block."""
+    """free or realloc of what isn't a block."""
 
 
 class Illegal(Exception):
@@ -92,15 +124,30 @@ class Heap:
         self.put(start, start + length, Block(start + side, size, True))
         return start + side
 
-    def malloc(self, environment, size):
-        """The choice: an address or 0, and whether the block is zeroed."""
-        at = self.place(environment, size)
+    def live_size(self, at):
+        """The size of the live block at an address, or None."""
+        block = self.find(at)
+        return block.size if block is not None and block.live else None
+
+    def serve(self, environment, ask):
+        """The choice. The old block of a realloc stands while the new one is placed."""
+        if ask.replaced and self.live_size(ask.replaced) is None:
+            raise BadFree
+        choice = self.choose(environment, ask)
+        if choice.at and ask.replaced:
+            self.free(environment, ask.replaced)
+        return choice
+
+    def choose(self, environment, ask):
+        if ask.bytes > MOST_BYTES:
+            return Choice(0, False, ask)
+        at = self.place(environment, ask.bytes)
         if at is None:
             self.recycle()
-            at = self.place(environment, size)
+            at = self.place(environment, ask.bytes)
         if at is None:
-            return 0, False
-        return at, environment in (ZERO, ALL)
+            return Choice(0, False, ask)
+        return Choice(at, ask.call == CALLOC or environment in (ZERO, ALL), ask)
 
     def free(self, environment, at):
         if at == 0:
@@ -127,7 +174,10 @@ class RecordedHeap:
         other.used, other.live, other.starts = self.used, dict(self.live), list(self.starts)
         return other
 
-    def allowed(self, at, size):
+    def live_size(self, at):
+        return self.live.get(at)
+
+    def is_clear(self, at, size):
         """Whether a block may stand there; one of size 0 counts as one byte."""
         end = at + max(size, 1)
         if at % 16 or at < self.start or end > self.end:
@@ -137,19 +187,32 @@ class RecordedHeap:
             return False
         return i == 0 or self.starts[i - 1] + max(self.live[self.starts[i - 1]], 1) <= at
 
-    def malloc(self, _, size):
+    def allows(self, choice):
+        """Whether C allows the answer to what it says was asked."""
+        if choice.at == 0:
+            return not choice.zeroed
+        if choice.ask.bytes > MOST_BYTES or choice.ask.call == CALLOC and not choice.zeroed:
+            return False
+        return self.is_clear(choice.at, choice.ask.bytes)
+
+    def serve(self, _, ask):
+        """The choice, with what is asked."""
+        if ask.replaced and ask.replaced not in self.live:
+            raise BadFree
         if self.used == len(self.choices):
             raise Illegal
-        at, zeroed = self.choices[self.used]
-        if at == 0 and zeroed:
+        choice = self.choices[self.used]
+        if choice.ask not in (None, ask):
             raise Illegal
-        if at:
-            if not self.allowed(at, size) or len(self.live) >= MOST_BLOCKS:
-                raise Illegal
-            self.live[at] = size
-            bisect.insort(self.starts, at)
+        choice = choice._replace(ask=ask)
+        if not self.allows(choice) or choice.at and len(self.live) >= MOST_BLOCKS:
+            raise Illegal
+        if choice.at:
+            self.live[choice.at] = ask.bytes
+            bisect.insort(self.starts, choice.at)
+            self.free(None, ask.replaced)
         self.used += 1
-        return at, zeroed
+        return choice
 
     def free(self, _, at):
         if at in self.live:

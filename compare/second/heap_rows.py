@@ -3,9 +3,10 @@
 import random
 
 from second.checks import row, say
-from second.heap import ALL, BadFree, Block, DELAY, Heap, ISOLATE, PAD, PLAIN, ZERO, reserved
+from second.heap import ALL, BadFree, Block, DELAY, Heap, ISOLATE, PAD, PLAIN, ZERO, calloc_of, malloc_of, realloc_of, reserved
 
 START, END = 0x20000, 0x22000
+EVERY = (PLAIN, PAD, ZERO, ISOLATE, DELAY, ALL)
 
 
 def place(heap, size, side, least):
@@ -16,6 +17,20 @@ def place(heap, size, side, least):
         return None
     heap.put(start, start + length, Block(start + side, size, True))
     return start + side
+
+
+def serve(heap, environment, ask):
+    """Address and mark of the answer, or None where it is a bad free."""
+    try:
+        choice = heap.serve(environment, ask)
+    except BadFree:
+        return None
+    say(choice.ask, ask)
+    return choice.at, choice.zeroed
+
+
+def malloc(heap, environment, size):
+    return serve(heap, environment, malloc_of(size))
 
 
 def is_bad_free(heap, environment, at):
@@ -36,26 +51,26 @@ def _():
 
 @row("a block in each environment")
 def _():
-    for environment in (PLAIN, PAD, ZERO, ISOLATE, DELAY, ALL):
+    for environment in EVERY:
         heap = Heap(START, END)
-        at, zeroed = heap.malloc(environment, 100)
+        at, zeroed = malloc(heap, environment, 100)
         start = 0x21000 if environment in (ISOLATE, ALL) else START
         say(at, start + (256 if environment in (PAD, ALL) else 0), environment)
         say(zeroed, environment in (ZERO, ALL), environment)
-        say(heap.malloc(environment, 0x3000), (0, False), environment)
+        say(malloc(heap, environment, 0x3000), (0, False), environment)
         heap.free(environment, at)
         say(bool(heap.blocks), environment in (DELAY, ALL), environment)
-        say(heap.malloc(PLAIN, 0x2000), (START, False), environment)
+        say(malloc(heap, PLAIN, 0x2000), (START, False), environment)
 
 
 @row("delayed blocks stay when Plain returns")
 def _():
     heap = Heap(START, END)
-    say(heap.malloc(ZERO, 0), (START, True))
+    say(malloc(heap, ZERO, 0), (START, True))
     heap.free(DELAY, START)
-    say([is_bad_free(heap, e, START) for e in (PLAIN, PAD, ZERO, ISOLATE, DELAY, ALL)], [True, True, True, True, False, False])
-    say(heap.malloc(PLAIN, 16), (START + 16, False))
-    say(heap.malloc(PLAIN, 0x1FF0), (0, False))
+    say([is_bad_free(heap, e, START) for e in EVERY], [True, True, True, True, False, False])
+    say(malloc(heap, PLAIN, 16), (START + 16, False))
+    say(malloc(heap, PLAIN, 0x1FF0), (0, False))
     say(heap.find(START), None)
     say(is_bad_free(heap, DELAY, START), True)
 
@@ -63,10 +78,91 @@ def _():
 @row("padding stays until a block is released")
 def _():
     heap = Heap(START, END)
-    say([heap.malloc(PAD, 16)[0], heap.malloc(PLAIN, 16)[0]], [START + 0x100, START + 0x210])
-    say(heap.malloc(ALL, 16), (0x21100, True))
+    say([malloc(heap, PAD, 16)[0], malloc(heap, PLAIN, 16)[0]], [START + 0x100, START + 0x210])
+    say(malloc(heap, ALL, 16), (0x21100, True))
     heap.free(PLAIN, START + 0x100)
-    say(heap.malloc(PLAIN, 16), (START, False))
+    say(malloc(heap, PLAIN, 16), (START, False))
+
+
+@row("a count and a size whose product passes an address")
+def _():
+    for environment in EVERY:
+        heap = Heap(START, END)
+        malloc(heap, PLAIN, 16)
+        malloc(heap, PLAIN, 16)
+        heap.free(DELAY, START)
+        before = heap.copy().blocks
+        for count, size in ((65536, 65536), (1 << 31, 2), (0xFFFFFFFF, 0xFFFFFFFF)):
+            say(serve(heap, environment, calloc_of(count, size)), (0, False), environment)
+            say(heap.blocks, before, environment)
+        say(serve(heap, environment, calloc_of(65537, 65535)), (0, False), environment)
+        say(len(heap.blocks), 1, environment)
+
+
+@row("a zeroed block in each environment")
+def _():
+    for environment in EVERY:
+        heap = Heap(START, END)
+        start = (0x21000 if environment in (ISOLATE, ALL) else START) + (256 if environment in (PAD, ALL) else 0)
+        say(serve(heap, environment, calloc_of(3, 7)), (start, True), environment)
+        say(heap.find(start), Block(start, 21, True), environment)
+        say(serve(heap, environment, calloc_of(0, 7))[1], True, environment)
+
+
+@row("a new size of what isn't live")
+def _():
+    for environment in EVERY:
+        heap = Heap(START, END)
+        malloc(heap, PLAIN, 16)
+        malloc(heap, PLAIN, 16)
+        heap.free(DELAY, START)
+        before = heap.copy().blocks
+        for old in (START, START + 1, START + 32, 16, END):
+            say(serve(heap, environment, realloc_of(old, 16)), None, environment)
+        say(heap.blocks, before, environment)
+
+
+@row("a new size of nothing is a new block")
+def _():
+    say(serve(Heap(START, END), PLAIN, realloc_of(0, 16)), (START, False))
+    for environment in EVERY:
+        heap, other = Heap(START, END), Heap(START, END)
+        say(serve(heap, environment, realloc_of(0, 100)), malloc(other, environment, 100), environment)
+        say(heap.blocks, other.blocks, environment)
+
+
+@row("a new size in each environment")
+def _():
+    for environment in EVERY:
+        heap = Heap(START, END)
+        malloc(heap, PLAIN, 16)
+        expected = {PLAIN: START + 16, ZERO: START + 16, DELAY: START + 16, PAD: START + 272, ISOLATE: 0x21000, ALL: 0x21100}[environment]
+        say(serve(heap, environment, realloc_of(START, 8)), (expected, environment in (ZERO, ALL)), environment)
+        say(heap.find(START), Block(START, 16, False) if environment in (DELAY, ALL) else None, environment)
+        say(heap.find(expected), Block(expected, 8, True), environment)
+
+
+@row("a new size for which there is no room")
+def _():
+    heap = Heap(START, END)
+    malloc(heap, PLAIN, 0x1000)
+    malloc(heap, PLAIN, 0x800)
+    heap.free(DELAY, START + 0x1000)
+    say(serve(heap, DELAY, realloc_of(START, 0x1001)), (0, False))
+    say(heap.blocks, [Block(START, 0x1000, True)])
+    say(serve(heap, DELAY, realloc_of(START, 0x1000)), (START + 0x1000, False))
+    say(heap.blocks, [Block(START, 0x1000, False), Block(START + 0x1000, 0x1000, True)])
+
+
+@row("a new size where 4096 blocks stand")
+def _():
+    heap = Heap(START, START + 16 * 5000)
+    for _ in range(4096):
+        malloc(heap, PLAIN, 16)
+    say(serve(heap, PLAIN, realloc_of(START, 8)), (0, False))
+    heap.free(DELAY, START + 16)
+    say(serve(heap, PLAIN, realloc_of(START, 8)), (START + 16, False))
+    say(heap.find(START), None)
 
 
 class EveryAddress:
@@ -107,6 +203,21 @@ class EveryAddress:
             at = self.place(environment, size)
         return (at, environment in ("zero", "all")) if at else (0, False)
 
+    def calloc(self, environment, count, size):
+        if count * size >= 1 << 32:
+            return 0, False
+        at = self.malloc(environment, count * size)[0]
+        return at, at != 0
+
+    def realloc(self, environment, old, size):
+        """The answer, or None where it is a bad free."""
+        if old and self.blocks.get(old) != "live":
+            return None
+        answer = self.malloc(environment, size)
+        if old and answer[0]:
+            self.free(environment, old)
+        return answer
+
     def free(self, environment, at):
         """Whether the free is a bad one."""
         keeps, state = environment in ("delay", "all"), self.blocks.get(at)
@@ -127,12 +238,17 @@ def _():
         environment, known = PLAIN, [0, START + 16]
         for _ in range(150):
             if rng.random() < 0.1:
-                environment = rng.choice([PLAIN, PAD, ZERO, ISOLATE, DELAY, ALL])
-            if rng.random() < 0.6:
-                size = rng.choice([0, 1, 16, 17, 40, 100, 400, 1 << 31])
-                choice = heap.malloc(environment, size)
-                say(choice, every.malloc(environment, size), "choice of seed %d" % seed)
-                known.append(choice[0])
+                environment = rng.choice(EVERY)
+            size, old, kind = rng.choice([0, 1, 16, 17, 40, 100, 400, 1 << 31]), rng.choice(known[-12:]), rng.random()
+            if kind < 0.4:
+                choices = malloc(heap, environment, size), every.malloc(environment, size)
+            elif kind < 0.5:
+                count = rng.choice([0, 1, 2, 3, 1 << 16])
+                choices = serve(heap, environment, calloc_of(count, size)), every.calloc(environment, count, size)
+            elif kind < 0.7:
+                choices = serve(heap, environment, realloc_of(old, size)), every.realloc(environment, old, size)
             else:
-                at = rng.choice(known[-12:])
-                say(is_bad_free(heap, environment, at), every.free(environment, at), "free of seed %d" % seed)
+                say(is_bad_free(heap, environment, old), every.free(environment, old), "free of seed %d" % seed)
+                continue
+            say(*choices, "choice of seed %d" % seed)
+            known.append(choices[0][0] if choices[0] else 0)

@@ -1,4 +1,4 @@
-"""A guest's machine: areas exact to the byte, registers, the calls 1 to 6, and what the guest did.
+"""A guest's machine: areas exact to the byte, registers, the calls 1 to 8, and what the guest did.
 
 Written from the RISC-V unprivileged manual and from the tables of areas, calls and causes. A machine is saved by a copy of all of it,
 and restored by running a copy of the copy.
@@ -6,15 +6,15 @@ and restored by running a copy of the copy.
 
 import struct
 
-from second.heap import BadFree, Heap, PLAIN, RecordedHeap
+from second.heap import BadFree, Heap, PLAIN, RecordedHeap, calloc_of, malloc_of, realloc_of
 from second.instructions import (
     BAD_ACCESS, BAD_CALL, BAD_FREE, CALLS, EXECUTE, Failure, HANG, MASK, READ, WRITE, action_of, assert_failed)
 
 PAGE, MIB = 4096, 1 << 20
 STACK, STACK_AND_GUARD = 65536, 69632
 MOST_SENT = 65535
-RECV, SEND, MALLOC, FREE, EXIT, ASSERTION = 1, 2, 3, 4, 5, 6
-ALL_CALLS = (RECV, SEND, MALLOC, FREE, EXIT, ASSERTION)
+RECV, SEND, MALLOC, FREE, EXIT, ASSERTION, CALLOC, REALLOC = 1, 2, 3, 4, 5, 6, 7, 8
+ALL_CALLS = (RECV, SEND, MALLOC, FREE, EXIT, ASSERTION, CALLOC, REALLOC)
 OPEN, MESSAGE, CLOSE = 1, 2, 3  # kinds of items
 
 
@@ -147,7 +147,7 @@ class Machine:
 
     def step(self):
         """Does an instruction. What it did besides is returned: ("asks",), in which nothing was done yet, ("sent", connection,
-        bytes), ("chose", address, zeroed) or ("exits", code). A sensor raises Failure, and nothing was done."""
+        bytes), ("chose", choice) or ("exits", code). A sensor raises Failure, and nothing was done."""
         if self.since >= self.budget:
             raise Failure(HANG)
         action = self.fetch()
@@ -197,7 +197,11 @@ class Machine:
         if number == SEND:
             event = self.send(a0, a1, a2)
         elif number == MALLOC:
-            event = self.malloc(a0)
+            event = self.allocate(malloc_of(a0))
+        elif number == CALLOC:
+            event = self.allocate(calloc_of(a0, a1))
+        elif number == REALLOC:
+            event = self.allocate(realloc_of(a0, a1))
         elif number == FREE:
             self.free(a0)
         elif number == EXIT:
@@ -235,13 +239,21 @@ class Machine:
                 return ("sent", connection, content)
         return None
 
-    def malloc(self, size):
-        at, zeroed = self.heap.malloc(self.environment, size)
-        if zeroed:
-            self.memory.write(at, bytes(size))
-        self.choices.append((at, zeroed))
-        self.x[10] = at
-        return ("chose", at, zeroed)
+    def allocate(self, ask):
+        """The new block begins with what is kept of the old one; where it is zeroed, the rest of it is zeros."""
+        kept = min(self.heap.live_size(ask.replaced) or 0, ask.bytes)
+        try:
+            choice = self.heap.serve(self.environment, ask)
+        except BadFree:
+            raise Failure(BAD_FREE) from None
+        if choice.at:
+            content = self.memory.read(ask.replaced, kept)
+            if choice.zeroed:
+                content = content.ljust(ask.bytes, b"\0")
+            self.memory.write(choice.at, content)
+        self.choices.append(choice)
+        self.x[10] = choice.at
+        return ("chose", choice)
 
     def free(self, at):
         try:
@@ -251,7 +263,7 @@ class Machine:
 
 
 def recorded_machine(image, choices):
-    """A machine at its start that answers malloc from a list, without a budget."""
+    """A machine at its start whose blocks stand where a list says, without a budget."""
     return Machine(image, 1 << 63, RecordedHeap(image.heap_start, image.heap_end, choices))
 
 

@@ -5,10 +5,11 @@ import struct
 from second import guests
 from second.assembler import assemble
 from second.checks import OPENS_0, Ran, lines_in, out, piece, row, say
-from second.command import drill, image_maker, replay
+from second.command import convert, drill, image_maker, replay
+from second.heap import Choice, calloc_of, malloc_of, realloc_of
 from second.machine import Image, MIB, executable
 from second.outside import MemoryFiles, MemorySink, MemorySource
-from second.record import RecordRefused, choice_lines, end_line, head_line, read_record, record_text
+from second.record import Reading, RecordRefused, choice_lines, end_line, head_line, read_record, record_text, without_asks
 from second.instructions import BY_FUNCT7
 
 import compare_elf
@@ -141,7 +142,7 @@ def _():
 def _():
     ran = Ran("three", b"")
     ran.says(("Finished",), 0, b"")
-    say(ran.record, "rx record 1 window 4 frame line\nend 3 0\n")
+    say(ran.record, "rx record 2 window 4 frame line\nend 3 0\n")
     say(ran.report, "rx report 1\nend 0 taken 0 steps 3\n")
 
 
@@ -152,10 +153,10 @@ def _():
 
 @row("records that have no reading")
 def _():
-    head, last = head_line(4, "line"), end_line(3, 0)
+    head, last = b"rx record 1 window 4 frame line\n", end_line(3, 0)
     texts = [
         (b"", 1), (head, 2), (head[:-1], 1), (head + last + b"x", 3), (head + last[:-1], 2), (head + last + last, 3),
-        (b"rx record 2 window 4 frame line\n" + last, 1), (b"rx record 1 window 65 frame line\n" + last, 1),
+        (b"rx record 3 window 4 frame line\n" + last, 1), (b"rx record 1 window 65 frame line\n" + last, 1),
         (b"rx record 1 window 04 frame line\n" + last, 1), (head + b"m 00000000 z\n" + last, 2), (head + b"m 0001000A -\n" + last, 2),
         (head + b"m 00010000 -\nm 10000 -\n" + last, 3), (head + b"end 03 0\n", 2), (head + b"end 9223372036854775808 0\n", 2),
         (head + b"end 0 1048577\n", 2)]
@@ -165,8 +166,35 @@ def _():
             raise AssertionError("%r is read" % text)
         except RecordRefused as refused:
             say(refused.args[0], line, repr(text))
-    whole = record_text(64, "whole", [(0, False), (0xFFFFFFF0, True)], (1 << 63) - 1, 1 << 20)
-    say(record_text(*read_record(whole)), whole)
+
+
+@row("records of version 2 that have no reading")
+def _():
+    head, last = b"rx record 2 window 4 frame line\n", end_line(3, 0)
+    lines = [
+        b"m 00010000 -", b"m 00000000 z 00000001", b"m 00010000 - 00000001 00000001", b"m 00010000 - 1", b"m 0001000A - 00000001",
+        b"m 00010000 - 0000000A", b"c 00010000 z 00000001", b"c 00010000 - 00000001 00000001", b"c 00000000 z 00000001 00000001",
+        b"r 00010000 - 00000001", b"r 00000000 z 00000001 00000001", b"r 00010000 -  00000001 00000001", b"f 00010000 - 00000001"]
+    for line in lines:
+        for before in (b"", b"m 00000000 - ffffffff\n"):
+            text = head + before + line + b"\n" + last
+            try:
+                read_record(text)
+                raise AssertionError("%r is read" % text)
+            except RecordRefused as refused:
+                say(refused.args[0], 2 + before.count(b"\n"), repr(text))
+
+
+@row("records that are read")
+def _():
+    last = ((1 << 63) - 1, 1 << 20)
+    lines = [(0, False), (0xFFFFFFF0, True), (16, False)]
+    asks = [malloc_of(0), calloc_of(0xFFFFFFFF, 0xFFFFFFFF), realloc_of(0, 0xA0)]
+    for version, of_version in ((1, [None] * 3), (2, asks)):
+        reading = Reading(version, 64, "whole", [Choice(*line, ask) for line, ask in zip(lines, of_version)], *last)
+        say(read_record(record_text(reading)), reading)
+    say(record_text(reading), b"rx record 2 window 64 frame whole\nm 00000000 - 00000000\nc fffffff0 z ffffffff ffffffff\n"
+        b"r 00000010 - 00000000 000000a0\nend 9223372036854775807 1048576\n")
 
 
 def replayed(guest, text, stream):
@@ -181,12 +209,18 @@ def _():
     ran = Ran("overflow", stream)
     text = ran.record.encode()
     say(replayed("overflow", text, stream), (("Finished",), 0, ran.output))
-    first, second = b"m %08x -\n" % (ran.heap + 256), b"m %08x -\n" % (ran.heap + 784)
+    first, second = b"m %08x - 00000010\n" % (ran.heap + 256), b"m %08x - 00000010\n" % (ran.heap + 784)
     say(text.count(first) + text.count(second), 2)
     answer = replayed("overflow", text.replace(second, first), stream)
     say((answer[0][0], answer[1]), ("Mismatch", 3))
-    upper = text.replace(first, b"m 0001210A -\n")
+    upper = text.replace(first, b"m 0001210A - 00000010\n")
     say(replayed("overflow", upper, stream), (("RecordRefused", 2), 3, b""))
+
+
+def converted(guest, text, stream, files=None, source=None):
+    files = files or MemoryFiles({})
+    done = convert(image_maker(*guests.program(guest)), text, source or MemorySource(stream), files)
+    return done.answer, done.status, files.files
 
 
 BLOCKS_THEN_NULL = """
@@ -214,13 +248,17 @@ def _():
     say(done.answer, ("Finished",))
 
 
+def two_of_16(heap):
+    return [Choice(heap, False, malloc_of(16)), Choice(heap + 16, False, malloc_of(16))]
+
+
 @row("a sink that fails in the reply")
 def _():
     sink = MemorySink(fails=[2], most=3)
     ran = Ran("overflow", ROW_1, sink=sink)
     ran.says(("WriteFault",), 8, bytes.fromhex("020000"))
-    say((ran.done.recorded, ran.done.tail), (0, [(ran.heap, False), (ran.heap + 16, False)]))
-    say(ran.record, "rx record 1 window 4 frame line\n")
+    say((ran.done.recorded, ran.done.tail), (0, two_of_16(ran.heap)))
+    say(ran.record, "rx record 2 window 4 frame line\n")
     text = (ran.record.encode() + choice_lines(ran.done.tail) + end_line(ran.done.steps, ran.done.taken))
     say(replayed("overflow", text, ROW_1), (("Finished",), 0, REPLY_1))
 
@@ -230,7 +268,7 @@ def _():
     sink = MemorySink(fails=[12], most=1)
     ran = Ran("overflow", lines_in(b"hi\n", b"hi\n"), sink=sink, ring=1)
     ran.says(("WriteFault",), 8, REPLY_1 + bytes.fromhex("020000"))
-    two = [(ran.heap, False), (ran.heap + 16, False)]
+    two = two_of_16(ran.heap)
     say((ran.done.recorded, ran.done.tail), (2, two))
     say(ran.record.encode(), head_line(4, "line") + choice_lines(two))
 
@@ -247,6 +285,66 @@ def _():
     ran = Ran("echo", ROW_1, files=MemoryFiles({}))
     ran.says(("FileFault",), 9, b"")
     say(ran.files.files, {})
+
+
+# ---- a block with a new size
+
+
+@row("guest grow, and what version 1 says of it")
+def _():
+    stream = lines_in(b"a\n", b"b\n")
+    ran = Ran("grow", stream)
+    ran.says(("Finished",), 0, bytes.fromhex("0200000200 610a 0200000400 610a620a"))
+    say(ran.choices(), [(ran.heap, False), (ran.heap + 16, False)])
+    head, last = "rx record 2 window 4 frame line\n", ran.record.splitlines(keepends=True)[-1]
+    lines = "r %08x - 00000000 00000002\nr %08x - %08x 00000004\n" % (ran.heap, ran.heap + 16, ran.heap)
+    say(ran.record, head + lines + last)
+    first = "rx record 1 window 4 frame line\nm %08x -\nm %08x -\n%s" % (ran.heap, ran.heap + 16, last)
+    for text in (first, ran.record):
+        say(converted("grow", text.encode(), stream), (("Finished",), 0, {"o": ran.record.encode()}))
+        say(replayed("grow", text.encode(), stream), (("Finished",), 0, ran.output))
+    swapped = ran.record.replace("- 00000000 00000002", "- 00000002 00000000")
+    say(converted("grow", swapped.encode(), stream)[0][0], "Mismatch")
+    of_malloc = ran.record.replace("r %08x - 00000000 00000002" % ran.heap, "m %08x - 00000002" % ran.heap)
+    say(converted("grow", of_malloc.encode(), stream)[0][0], "Mismatch")
+
+
+# ---- conversion
+
+
+@row("conversion of a record with no choice")
+def _():
+    text = b"rx record %d window 4 frame line\nend 3 0\n"
+    for version in (1, 2):
+        say(converted("three", text % version, b""), (("Finished",), 0, {"o": text % 2}))
+
+
+@row("replay and conversion of an overrun's record")
+def _():
+    stream = lines_in(b"a" * 39 + b"\n")
+    ran = Ran("overflow", stream)
+    text = ran.record.encode()
+    first = record_text(without_asks(read_record(text)))
+    say(first, text.replace(b"rx record 2", b"rx record 1").replace(b" - 00000010", b" -"))
+    say(converted("overflow", first, stream)[2], {"o": text})
+    say(replayed("overflow", first, stream), replayed("overflow", text, stream))
+    other = text.replace(b" - 00000010\nm", b" - 00000011\nm")
+    answer, status, output = replayed("overflow", other, stream)
+    say((answer[0], status, output), ("Mismatch", 3, b""))
+
+
+@row("a conversion that fails leaves the new record as it was")
+def _():
+    stream = lines_in(b"a" * 39 + b"\n")
+    text, old = Ran("overflow", stream).record.encode(), {"o": b"old"}
+    cases = [(text[:-1], stream, ("RecordRefused", 4)), (text, stream[:-1], ("InputRefused", 5, 5)), (text, b"", ("Mismatch", 6)),
+             (text, lines_in(b"z" * 4097), ("MessageTooLong", 0))]
+    for wrong, wrong_stream, answer in cases:
+        say(converted("overflow", wrong, wrong_stream, MemoryFiles(old))[::2], (answer, old))
+    for call, left in ((1, b"old"), (2, b"")):
+        say(converted("overflow", text, stream, MemoryFiles(old, [call])), (("FileFault",), 9, {"o": left}))
+    source = MemorySource(stream, [2])
+    say(converted("overflow", text, None, MemoryFiles(old), source), (("ReadFault",), 7, old))
 
 
 # ---- drill

@@ -1,8 +1,9 @@
 """Servers with planted faults of the heap, as assembler texts.
 
 A program works on each item that it receives, by small pieces of work that are put together at random: some are right, and some overrun
-a block, use one that was freed, free twice or what isn't live, read what was never written, or test contents. Most depend on the
-message's first byte or on the number of items, so that a session goes well for a while. Some send where malloc put a block.
+a block, use one that was freed or where it stood before it got another size, free twice or what isn't live, read what was never
+written, or test contents. Most depend on the message's first byte or on the number of items, so that a session goes well for a while.
+Some send where a block stands. Blocks come of malloc, calloc and realloc.
 
 s0 to s3 are the item's length, connection, kind and number; s4 is its first byte; s5 is a sum that replies tell; s6 to s9 are for a
 piece of work.
@@ -39,6 +40,27 @@ class Author:
         self.add("li a0, %d" % size)
         self.call(3)
         self.add("mv %s, a0" % register)
+
+    def calloc(self, count, size, register):
+        self.add("li a0, %d" % count, "li a1, %d" % size)
+        self.call(7)
+        self.add("mv %s, a0" % register)
+
+    def realloc(self, old, size, register):
+        self.add("mv a0, %s" % old, "li a1, %d" % size)
+        self.call(8)
+        self.add("mv %s, a0" % register)
+
+    def allocate(self, size, register):
+        """A new block by one of the three calls."""
+        kind = self.rng.random()
+        if kind < 0.6:
+            self.malloc(size, register)
+        elif kind < 0.8:
+            count = self.rng.choice([count for count in (1, 2, 3, 5) if size % count == 0])
+            self.calloc(count, size // count, register)
+        else:
+            self.realloc("zero", size, register)
 
     def free(self, register):
         self.add("mv a0, %s" % register)
@@ -104,14 +126,14 @@ class Author:
 
     def use_block(self):
         size = self.word_size()
-        self.malloc(size, "s6")
+        self.allocate(size, "s6")
         self.fill("s6", size, self.rng.choice([1, 2, 0x41414141]))
         self.perhaps_tell("s6", 0.05)
         self.free("s6")
 
     def keep_block(self):
         """Puts a new block in a slot; the old one is lost."""
-        self.malloc(self.word_size(), "s6")
+        self.allocate(self.word_size(), "s6")
         self.mark("s6")
         self.perhaps_tell("s6", 0.05)
         self.add("la t0, slots", "sw s6, %d(t0)" % (4 * self.rng.randrange(SLOTS)))
@@ -133,6 +155,72 @@ class Author:
     def ask_too_much(self):
         self.malloc(self.rng.choice([0x100000, 0x7FFFFFFF, -1]), "s6")
         self.add("add s5, s5, s6")
+        if self.rng.random() < 0.5:
+            self.realloc("zero", self.rng.choice([0x200000, -1]), "s6")
+            self.add("add s5, s5, s6")
+            self.calloc(*self.rng.choice([(65536, 65536), (-1, -1), (2, -0x80000000), (65537, 65535), (1024, 4096)]), "s6")
+            self.add("add s5, s5, s6")
+
+    def grow_too_much(self):
+        """Asks for more than there is in place of a block, which stays."""
+        self.allocate(16, "s6")
+        self.mark("s6")
+        self.realloc("s6", self.rng.choice([0x200000, 0x7FFFFFFF, -1]), "s7")
+        self.fail_unless("s7", "zero", 10)
+        self.holds_mark("s6", 10)
+        self.free("s6")
+
+    def use_zeros(self):
+        """Looks at a word of a block of zeros, and uses it."""
+        size = self.word_size()
+        self.calloc(size // 4, 4, "s6")
+        self.add("lw t0, %d(s6)" % (4 * self.rng.randrange(size // 4)))
+        self.fail_unless("t0", "zero", 11)
+        self.fill("s6", size, 4)
+        self.perhaps_tell("s6", 0.05)
+        self.free("s6")
+
+    def resize(self):
+        """Gives a block another size, and looks at what it kept."""
+        first, second = self.word_size(), self.rng.choice([4, 8, 16, 17, 31, 32, 64, 100, 200])
+        self.allocate(first, "s6")
+        self.fill("s6", first, 7)
+        self.realloc("s6", second, "s7")
+        self.perhaps_tell("s7", 0.05)
+        self.add("li t0, 7", "lw t1, %d(s7)" % (4 * self.rng.randrange(min(first, second) // 4)))
+        self.fail_unless("t0", "t1", 12)
+        self.free("s7")
+
+    def resize_to_nothing(self):
+        self.allocate(self.size(), "s6")
+        self.realloc("s6", 0, "s6")
+        self.realloc("s6", self.size(), "s6")
+        self.free("s6")
+
+    def resize_slot(self):
+        """Gives the block of a slot another size, or makes one."""
+        self.add("la s8, slots", "addi s8, s8, %d" % (4 * self.rng.randrange(SLOTS)), "lw s6, 0(s8)")
+        self.realloc("s6", self.word_size(), "s6")
+        self.mark("s6")
+        self.add("sw s6, 0(s8)")
+
+    def resize_pages(self):
+        """Moves a block of some pages, of which each has a byte."""
+        again, pages, others = self.label(), self.rng.choice([1, 3, 9]), self.rng.choice([1, 2, 5, 20])
+        self.malloc(4096 * pages, "s6")
+        self.add("mv t0, s6", "li t1, %d" % pages, "li t2, 4096")
+        self.add(again + ":", "sb s3, 5(t0)", "add t0, t0, t2", "addi t1, t1, -1", "bnez t1, %s" % again)
+        self.realloc("s6", 4096 * others, "s7")
+        self.add("lbu t0, 5(s7)", "andi t1, s3, 255")
+        self.fail_unless("t0", "t1", 12)
+        self.free("s7")
+
+    def append(self):
+        """Adds the item's first byte to a block that grows, and sends the last ones of it."""
+        self.add("la s8, grown", "lw s6, 0(s8)", "lw s7, 4(s8)", "addi s7, s7, 1", "mv a0, s6", "mv a1, s7")
+        self.call(8)
+        self.add("sw a0, 0(s8)", "sw s7, 4(s8)", "add s6, a0, s7", "addi s6, s6, -1", "sb s4, 0(s6)")
+        self.send(self.connection(), "s6", 1)
 
     def stack(self):
         self.add("sw s3, -8(sp)", "lw t0, -8(sp)", "mul s5, s5, t0", "addi s5, s5, 7")
@@ -158,8 +246,8 @@ class Author:
     def overrun(self, twice=False):
         size = self.size()
         behind = max(16, (size + 15) // 16 * 16) + self.rng.choice([4, 4, 16, 60, 200, 252, 300, 500, 520])
-        self.malloc(size, "s6")
-        self.malloc(16, "s7")
+        self.allocate(size, "s6")
+        self.allocate(16, "s7")
         self.mark("s7")
         self.perhaps_tell("s6")
         self.fill("s6", behind, 0x41414141)
@@ -209,6 +297,64 @@ class Author:
         self.holds_mark("s6", 3)
         self.free("s7")
 
+    def stale_grow(self):
+        """Uses a block where it stood before it got another size."""
+        size = self.word_size()
+        self.allocate(size, "s6")
+        self.mark("s6")
+        self.realloc("s6", self.rng.choice([size, size // 2, 2 * size, 300]), "s8")
+        self.allocate(size, "s7")
+        self.perhaps_tell(self.rng.choice(["s7", "s8"]))
+        self.fill("s7", size, 2)
+        self.holds_mark("s6", 14)
+        self.free("s7")
+        self.free("s8")
+
+    def free_grown(self):
+        """Frees a block where it stood before it got another size."""
+        self.allocate(self.size(), "s6")
+        self.realloc("s6", self.size(), "s7")
+        self.perhaps_tell("s7")
+        self.free("s6")
+        self.free("s7")
+
+    def grow_twice(self):
+        """Gives a block another size where it doesn't stand any more: nothing helps where it did so."""
+        other, done = self.label(), self.label()
+        self.allocate(16, "s6")
+        self.free("s6")
+        self.add("la t0, kept", "lw t1, 0(t0)")
+        if self.rng.random() < 0.7:
+            self.add("bne s6, t1, %s" % other)
+        self.realloc("s6", 32, "s6")
+        self.add("j %s" % done, other + ":")
+        self.malloc(32, "s6")
+        self.add(done + ":")
+        self.free("s6")
+
+    def unset_rest(self):
+        """Takes it that what is new in a larger block is 0."""
+        self.allocate(16, "s6")
+        self.malloc(96, "s7")
+        self.fill("s7", 96, 9)
+        self.free("s7")
+        self.realloc("s6", 96, "s6")
+        self.perhaps_tell("s6", 0.3)
+        self.add("lw t0, %d(s6)" % (16 + 4 * self.rng.randrange(20)))
+        self.fail_unless("t0", "zero", 15)
+        self.free("s6")
+
+    def overrun_shrunk(self):
+        """Writes as many bytes as a block had before it was made smaller."""
+        self.allocate(self.rng.choice([100, 300]), "s6")
+        self.realloc("s6", 16, "s6")
+        self.allocate(16, "s7")
+        self.mark("s7")
+        self.fill("s6", self.rng.choice([20, 32, 100, 300]), 6)
+        self.holds_mark("s7", 16)
+        self.free("s7")
+        self.free("s6")
+
     def write_at_old_place(self):
         """Writes by the address of a large block that was freed at the start."""
         self.malloc(self.word_size(), "s6")
@@ -231,9 +377,9 @@ class Author:
         self.add(none + ":")
 
     def same_place(self):
-        """Goes wrong where malloc answers the address that it answered at the start."""
+        """Goes wrong where a block gets the address that malloc answered at the start."""
         other, done = self.label(), self.label()
-        self.malloc(600, "s6")
+        self.allocate(600, "s6")
         self.add("la t0, kept", "lw t1, 0(t0)", "bne s6, t1, %s" % other)
         if self.rng.random() < 0.7:
             self.send(self.connection(), "t0", 2)
@@ -261,8 +407,11 @@ class Author:
             self.fill("s6", size + 16, 0x41414141)
         elif kind == "stale":
             self.mark("s6")
-            self.free("s6")
-            self.malloc(size, "s8")
+            if self.rng.random() < 0.5:
+                self.free("s6")
+            else:
+                self.realloc("s6", 2 * size, "s7")
+            self.allocate(size, "s8")
             self.fill("s8", size, 2)
             self.add("mv s7, s6")
         else:
@@ -308,7 +457,7 @@ class Author:
             self.add("ebreak")
         elif kind == 5:
             self.add("li a0, 0x12340")
-            self.call(4)
+            self.call(self.rng.choice([4, 8]))
         elif kind == 6:
             here = self.label()
             self.add(here + ":", "j %s" % here)
@@ -326,9 +475,11 @@ class Author:
 
     # -- the whole
 
-    RIGHT = ["echo", "echo", "reply_sum", "two_sends", "use_block", "keep_block", "give_up_block", "touch_pages", "ask_too_much", "stack"]
+    RIGHT = ["echo", "echo", "reply_sum", "two_sends", "use_block", "keep_block", "give_up_block", "touch_pages", "ask_too_much", "stack",
+             "grow_too_much", "use_zeros", "resize", "resize_to_nothing", "resize_slot", "resize_pages", "append"]
     FAULTS = ["overrun", "overrun", "overrun_and_twice", "overrun_and_twice", "unset", "unset", "unset_of_the_past", "twice", "stale",
-              "write_at_old_place", "write_at_old_place", "same_place", "same_place", "free_slot", "test_slot"]
+              "write_at_old_place", "write_at_old_place", "same_place", "same_place", "free_slot", "test_slot",
+              "stale_grow", "stale_grow", "free_grown", "free_grown", "grow_twice", "unset_rest", "unset_rest", "overrun_shrunk"]
 
     def sometimes(self, work):
         """Does a piece of work for some items alone."""
@@ -350,9 +501,9 @@ class Author:
         if rng.random() < 0.85:
             self.free("s6")
         for _ in range(rng.choice([0, 0, 1])):
-            getattr(self, rng.choice(["use_block", "keep_block", "two_sends"]))()
+            getattr(self, rng.choice(["use_block", "keep_block", "two_sends", "resize"]))()
         if rng.random() < 0.02 and not self.sound:
-            getattr(self, rng.choice(["unset", "twice", "overrun", "stale"]))()
+            getattr(self, rng.choice(["unset", "twice", "overrun", "stale", "stale_grow"]))()
         if self.later and self.spoiled is None:
             self.spoil(self.later)
 
@@ -385,7 +536,7 @@ class Author:
         if rng.random() < 0.05:
             self.sometimes("leave")
         self.add("j receive", ".data", "buffer:", ".space %d" % BUFFER, "slots:", ".space %d" % (4 * SLOTS))
-        self.add("kept:", ".space 4", "told:", ".space 4", "far:", ".space 4", "lagging:", ".space 4")
+        self.add("kept:", ".space 4", "told:", ".space 4", "far:", ".space 4", "lagging:", ".space 4", "grown:", ".space 8")
         return "\n".join(self.lines) + "\n"
 
 

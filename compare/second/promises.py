@@ -11,10 +11,10 @@ import re
 
 from second import record, report, trunk
 from second.anew import go_on, must, result_anew, ring_anew, served_machine
-from second.command import ENDS, Done, image_maker, replay
+from second.command import ENDS, Done, convert, image_maker, replay
 from second.items import Items, LINE, WHOLE
 from second.machine import MESSAGE, MIB, recorded_machine
-from second.outside import MemorySink, MemorySource, TrunkLink
+from second.outside import MemoryFiles, MemorySink, MemorySource, TrunkLink
 from second.session import SURVIVED, Session
 
 
@@ -124,7 +124,7 @@ def check_recorded_run(session, files, answer):
     """The recorded run from the start, with the record's choices; it is returned."""
     recorded, tail, steps, taken = session.left()
     text = files.files["r"]
-    choices = [(int(at, 16), mark == b"z") for at, mark in re.findall(rb"^m ([0-9a-f]{8}) ([-z])\n", text, re.MULTILINE)]
+    choices = [record.choice_of(line + b"\n", 2) for line in text.split(b"\n") if line[:1] in (b"m", b"c", b"r") and line[1:2] == b" "]
     must(len(choices) == recorded, "the record has another number of choices")
     head = record.head_line(session.options.window // MIB, session.options.frame)
     must(text.startswith(head + record.choice_lines(choices)), "the record doesn't begin with its head and choices")
@@ -134,7 +134,7 @@ def check_recorded_run(session, files, answer):
     must(machine.state() == session.survivor.state(), "the recorded run's state differs")
     if answer[0] in ENDS:
         must(not tail, "choices are left over")
-        reading = (session.options.window // MIB, session.options.frame, choices, steps, taken)
+        reading = record.Reading(2, session.options.window // MIB, session.options.frame, choices, steps, taken)
         must(record.read_record(text) == reading, "the record reads otherwise")
     return machine
 
@@ -254,11 +254,16 @@ def check_stream(session, stream, answer):
 
 
 def check_replay(session, text, stream):
-    """The record's replay over the same input gives every send."""
-    sink = MemorySink()
-    done = replay(image_maker(session.image.segments, session.image.entry), text, MemorySource(stream), sink)
-    must(done.answer == ("Finished",), "the replay is %s" % (done.answer,))
-    must(sink.content == b"".join(trunk.piece_frame(s[0], s[1]) for s in session.survivor.sends), "the replay sends otherwise")
+    """The replay of the record over the same input gives every send, and of what version 1 says of it; each is converted to the record."""
+    program = image_maker(session.image.segments, session.image.entry)
+    sends = b"".join(trunk.piece_frame(send[0], send[1]) for send in session.survivor.sends)
+    for told in (text, record.record_text(record.without_asks(record.read_record(text)))):
+        sink, files = MemorySink(), MemoryFiles({})
+        done = replay(program, told, MemorySource(stream), sink)
+        must(done.answer == ("Finished",), "the replay is %s" % (done.answer,))
+        must(sink.content == sends, "the replay sends otherwise")
+        done = convert(program, told, MemorySource(stream), files)
+        must(done.answer == ("Finished",) and files.files == {"o": text}, "the record is converted otherwise")
 
 
 def check_session(session, answer, files, form, output, stream):

@@ -1,29 +1,48 @@
 """The text of a record: the choices of a run, and how long it is.
 
-Written from the form of the record. A choice is (address, zeroed).
+Written from the form of the record. Version 2 says of each choice what was asked; version 1 doesn't, and is read alone.
 """
 
+import collections
 import re
 
+from second.heap import Ask, CALLOC, Choice, MALLOC, REALLOC
 from second.items import FRAMINGS
 
-HEAD = re.compile(rb"rx record 1 window ([1-9][0-9]?) frame (line|length|whole)\n")
-CHOICE = re.compile(rb"m ([0-9a-f]{8}) ([-z])\n")
+HEAD = re.compile(rb"rx record ([12]) window ([1-9][0-9]?) frame (line|length|whole)\n")
+NUMBER, MARK = rb" ([0-9a-f]{8})", rb" ([-z])"
+CHOICE = re.compile(rb"m" + NUMBER + MARK + rb"\n")  # of version 1
+CHOICES = {MALLOC: re.compile(rb"m" + NUMBER + MARK + NUMBER + rb"\n"),
+           CALLOC: re.compile(rb"c" + NUMBER + MARK + NUMBER * 2 + rb"\n"),
+           REALLOC: re.compile(rb"r" + NUMBER + MARK + NUMBER * 2 + rb"\n")}
 LAST = re.compile(rb"end (0|[1-9][0-9]*) (0|[1-9][0-9]*)\n")
 MOST_STEPS, MOST_TAKEN = 1 << 63, 1 << 20
+
+# The window is in MiB. A line is a choice; of version 1 it has no ask.
+Reading = collections.namedtuple("Reading", "version window frame lines steps taken")
 
 
 class RecordRefused(Exception):
     """The record has no reading; the argument is the first line that isn't of its form."""
 
 
-def head_line(window, frame):
+# ---- texts
+
+
+def head_line(window, frame, version=2):
     assert frame in FRAMINGS
-    return b"rx record 1 window %d frame %s\n" % (window, frame.encode())
+    return b"rx record %d window %d frame %s\n" % (version, window, frame.encode())
 
 
 def choice_line(choice):
-    return b"m %08x %s\n" % (choice[0], b"z" if choice[1] else b"-")
+    """The line of a choice, of version 1 where it doesn't say what was asked."""
+    answered = (choice.at, b"z" if choice.zeroed else b"-")
+    ask = choice.ask
+    if ask is None:
+        return b"m %08x %s\n" % answered
+    if ask.call == MALLOC:
+        return b"m %08x %s %08x\n" % (*answered, ask.first)
+    return b"%s %08x %s %08x %08x\n" % (b"c" if ask.call == CALLOC else b"r", *answered, ask.first, ask.second)
 
 
 def choice_lines(choices):
@@ -34,26 +53,52 @@ def end_line(steps, taken):
     return b"end %d %d\n" % (steps, taken)
 
 
-def record_text(window, frame, choices, steps, taken):
-    return head_line(window, frame) + choice_lines(choices) + end_line(steps, taken)
+def record_text(reading):
+    return head_line(reading.window, reading.frame, reading.version) + choice_lines(reading.lines) + end_line(reading.steps, reading.taken)
+
+
+# ---- readings
+
+
+def choice_of(line, version):
+    """The choice of a line, or None."""
+    found = {MALLOC: CHOICE.fullmatch(line)} if version == 1 else {call: form.fullmatch(line) for call, form in CHOICES.items()}
+    for call, match in found.items():
+        if match:
+            at, mark, *numbers = match.groups()
+            numbers = [int(number, 16) for number in numbers] + [0]
+            choice = Choice(int(at, 16), mark == b"z", None if version == 1 else Ask(call, *numbers[:2]))
+            return choice if is_possible(choice) else None
+    return None
+
+
+def is_possible(choice):
+    """Whether the mark is one that the address may have."""
+    if choice.at == 0:
+        return not choice.zeroed
+    return choice.zeroed or choice.ask is None or choice.ask.call != CALLOC
 
 
 def read_record(text):
-    """Window in MiB, framing, choices, steps and items taken."""
     lines = text.split(b"\n")
     lines = [line + b"\n" for line in lines[:-1]] + ([lines[-1]] if lines[-1] else [])
     head = HEAD.fullmatch(lines[0]) if lines else None
-    if not head or int(head.group(1)) > 64:
+    if not head or int(head.group(2)) > 64:
         raise RecordRefused(1)
-    choices = []
+    version, choices = int(head.group(1)), []
     for number, line in enumerate(lines[1:], 2):
-        choice, last = CHOICE.fullmatch(line), LAST.fullmatch(line)
-        if choice and (choice.group(1), choice.group(2)) != (b"00000000", b"z"):
-            choices.append((int(choice.group(1), 16), choice.group(2) == b"z"))
+        choice, last = choice_of(line, version), LAST.fullmatch(line)
+        if choice:
+            choices.append(choice)
         elif last and int(last.group(1)) < MOST_STEPS and int(last.group(2)) <= MOST_TAKEN:
             if len(lines) > number:
                 raise RecordRefused(number + 1)
-            return int(head.group(1)), head.group(2).decode(), choices, int(last.group(1)), int(last.group(2))
+            return Reading(version, int(head.group(2)), head.group(3).decode(), choices, int(last.group(1)), int(last.group(2)))
         else:
             raise RecordRefused(number)
     raise RecordRefused(len(lines) + 1)
+
+
+def without_asks(reading):
+    """The same as version 1 says it."""
+    return reading._replace(version=1, lines=[line._replace(ask=None) for line in reading.lines])

@@ -2,7 +2,7 @@
 
 from second import guests
 from second.checks import OPENS_0, Ran, lines_in, out, piece, row, say
-from second.heap import ENVIRONMENTS, PAD
+from second.heap import ENVIRONMENTS, PAD, Choice, malloc_of
 from second.machine import MIB
 from second.outside import MemoryLink
 from second.session import Notes, Options, Session
@@ -69,6 +69,16 @@ def _():
     ran.says(("Finished",), 0, out((0, b"a\n"), (0, b"b\n")))
     ran.tried(3, "AssertFailed 3", *same_at(2, "AssertFailed 3"), *same_at(1, "AssertFailed 3", ALL_FIVE[:3]),
               (1, "delay", "survived"))
+
+
+@row("a block that is used where it stood before it grew")
+def _():
+    ran = Ran("stale_grow", lines_in(b"a\n"))
+    ran.says(("Finished",), 0, out((0, b"a\n")))
+    ran.tried(2, "AssertFailed 7", *same_at(1, "AssertFailed 7", ALL_FIVE[:3]), (1, "delay", "survived"))
+    say(ran.choices(), [(ran.heap, False), (ran.heap + 32, False), (ran.heap + 96, False)])
+    lines = "m %08x - 00000020\nr %08x - %08x 00000040\nm %08x - 00000020\n" % (ran.heap, ran.heap + 32, ran.heap, ran.heap + 96)
+    say(ran.record.partition("\n")[2].rpartition("end")[0], lines)
 
 
 @row("an address that was told before a bad free")
@@ -163,5 +173,5 @@ def _():
     session = Session(image, Options(), MemoryLink(events), Notes(fails=[1]))
     say(session.serve(), ("FileFault",))
     say([entry for entry in session.journal if entry[0] == "gave"], [])
-    say(session.left()[1], [(image.heap_start + 256, False), (image.heap_start + 784, False)])
+    say(session.left()[1], [Choice(image.heap_start + 256, False, malloc_of(16)), Choice(image.heap_start + 784, False, malloc_of(16))])
     say(len(ENVIRONMENTS), 5)

@@ -64,6 +64,87 @@ def _():
     say(Ran(image, b"").done.answer, ("Exited", 0))
 
 
+# ---- blocks with zeros, and with another size
+
+DIRTY = """
+    li   a0, 16
+    li   a7, 3
+    ecall
+    mv   s0, a0
+    li   t0, 0x04030201
+    sw   t0, 0(s0)
+    li   t0, 0x08070605
+    sw   t0, 12(s0)
+    li   a0, 48
+    ecall
+    li   t0, 0x09090909
+    sw   t0, 0(a0)
+    sw   t0, 12(a0)
+    sw   t0, 16(a0)
+    sw   t0, 44(a0)
+    li   a7, 4
+    ecall
+"""
+
+
+@row("what stands in a new block")
+def _():
+    resize = DIRTY + "mv a0, s0\nli a1, %d\nli a7, 8\necall\n"
+    for size, offset, byte in ((48, 0, 1), (48, 3, 4), (48, 15, 8), (48, 16, 9), (48, 47, 9), (17, 16, 9), (14, 13, 6), (14, 14, 9), (0, 0, 9)):
+        say(exit_code(resize % size + "lbu a0, %d(a0)" % offset), byte, "byte %d of %d" % (offset, size))
+    zeros = DIRTY + "li a0, 3\nli a1, 7\nli a7, 7\necall\n"
+    for offset, byte in ((0, 0), (3, 0), (12, 0), (19, 0), (20, 0), (44, 9)):
+        say(exit_code(zeros + "lbu a0, %d(a0)" % offset), byte, "byte %d of 21 zeros" % offset)
+    say(exit_code(resize % 48 + "sub a0, a0, s0"), 16)
+
+
+@row("what stands in a new block under Zero")
+def _():
+    text = RECEIVE + "li t0, 1\nbne s4, t0, receive" + DIRTY + "mv a0, s0\nli a1, %d\nli a7, 8\necall\nlbu t1, %d(a0)\n"
+    text += "li t0, %d\nbeq t0, t1, receive\nebreak\n"
+    for size, offset, byte, environment in ((48, 16, 0, "zero"), (48, 44, 0, "zero"), (14, 13, 6, None), (14, 14, 9, None), (17, 16, 0, "zero")):
+        ran = Ran(image_of(text % (size, offset, byte)), OPENS_0)
+        ran.says(("Finished",), 0)
+        say([episode.tries[-1].environment for episode in ran.episodes], [environment] * bool(environment))
+
+
+@row("the old block where there is no room for a new one")
+def _():
+    text = DIRTY + "mv a0, s0\nli a1, 0x7fffffff\nli a7, 8\necall\n"
+    say(exit_code(text), 0)
+    say(exit_code(text + "lbu a0, 15(s0)"), 8)
+    say(exit_code(text + "mv a0, s0\nli a7, 4\necall\nli a0, 5"), 5)
+    text = DIRTY + "li a0, 65536\nli a1, 65536\nli a7, 7\necall\n"
+    say(exit_code(text), 0)
+
+
+@row("another size of what isn't live, in each environment")
+def _():
+    for old in ("mv a0, s0\nli a7, 4\necall", "addi a0, s0, 16", "li a0, 1", "addi a0, s0, 8"):
+        text = DIRTY + old + "\nli a1, 16\nli a7, 8\necall\n"
+        ran = Ran(image_of(RECEIVE + text), OPENS_0)
+        ran.says(("GaveUp", 1, "BadFree"), 5, b"")
+        ran.tried(1, "BadFree", *[(0, environment, "BadFree") for environment in ("pad", "zero", "isolate", "delay", "all")])
+
+
+@row("calls that there are")
+def _():
+    for number in (0, 9, 0xFFFFFFFF):
+        Ran(image_of(RECEIVE + "li a7, %d\necall" % number), OPENS_0).says(("GaveUp", 1, "BadCall"), 5)
+    say(exit_code("li a0, 0\nli a1, 0\nli a7, 7\necall\nsltu a0, zero, a0"), 1)
+    say(exit_code("li a0, 0\nli a1, 0\nli a7, 8\necall\nsltu a0, zero, a0"), 1)
+
+
+@row("pages that are copied and zeroed")
+def _():
+    cases = [("li a0, 0\nli a1, 12288\nli a7, 8\necall", 0), ("li a0, 12289\nli a7, 3\necall\nli a1, 16384\nli a7, 8\necall", 4),
+             ("li a0, 16384\nli a7, 3\necall\nli a1, 4095\nli a7, 8\necall", 1), ("li a0, 3\nli a1, 4097\nli a7, 7\necall", 4),
+             ("li a0, 16384\nli a7, 3\necall\nli a1, 0x7fffffff\nli a7, 8\necall", 0), ("li a0, 0\nli a1, 4097\nli a7, 7\necall", 0)]
+    for text, pages in cases:
+        ran = Ran(image_of(RECEIVE + text + "\nj receive"), OPENS_0)
+        say([checkpoint.pages for checkpoint in ran.done.session.ring], [0, pages], text)
+
+
 # ---- the plan
 
 

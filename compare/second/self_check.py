@@ -1,6 +1,7 @@
 """Whole sessions of the second engine at random: run, checked against what each promises, and counted."""
 
 import collections
+import itertools
 import random
 import re
 
@@ -24,13 +25,33 @@ class HeapWriter(wild.Writer):
         super().receive(safe)
         rng = self.rng
         if rng.random() < 0.5:
-            self.words += wild.load_number(10, rng.choice([0, 1, 16, 100, 5000, 1 << 20])) + [wild.i_type(3, 0, 0, 17), wild.ECALL]
+            self.allocate()
+            if rng.random() < 0.4:
+                self.resize()
             if rng.random() < 0.5:
                 self.words.append(wild.i_type(0, 10, 0, self.register()))  # so that where the block stands is sent
             if rng.random() < 0.9:
                 self.words += [wild.i_type(rng.choice([0, 0, 0, 16]), 10, 0, 10)] * (rng.random() < 0.3)
                 self.words += [wild.i_type(4, 0, 0, 17), wild.ECALL]
                 self.words += [wild.ECALL] * (rng.random() < 0.1)
+
+    def size(self):
+        return self.rng.choice([0, 1, 16, 100, 5000, 1 << 20])
+
+    def allocate(self):
+        rng = self.rng
+        if rng.random() < 0.6:
+            self.words += wild.load_number(10, self.size()) + [wild.i_type(3, 0, 0, 17), wild.ECALL]
+        else:
+            self.words += wild.load_number(10, rng.choice([0, 1, 3, 65536, 0xFFFFFFFF]))
+            self.words += wild.load_number(11, rng.choice([self.size(), 65536])) + [wild.i_type(7, 0, 0, 17), wild.ECALL]
+
+    def resize(self):
+        """Another size of the block whose address the last call answered, or of something else."""
+        rng = self.rng
+        if rng.random() < 0.2:
+            self.words += rng.choice([[wild.i_type(16, 10, 0, 10)], wild.load_number(10, rng.choice([0, 0, 1, self.edges[5], 0xFFFFFFF0]))])
+        self.words += wild.load_number(11, self.size()) + [wild.i_type(8, 0, 0, 17), wild.ECALL]
 
 
 FAULTS = 0.12
@@ -104,6 +125,8 @@ KINDS = {
         "InputRefused %d" % kind for kind in range(1, 7)],
     "causes": ["BadAccess", "BadJump", "BadInstruction", "AssertFailed", "Hang", "BadFree", "BadCall"],
     "results of tries": [SURVIVED, CONTRADICTS, BEHIND],
+    "choices": ["%s, %s" % pair for pair in itertools.product(["malloc", "calloc", "realloc of null", "realloc"], ["a block", "zeros", "null"])
+                if pair != ("calloc", "a block")],
     "adopted": ENVIRONMENTS,
     "adopted at": ["the newest checkpoint", "an older one", "the start"],
 }
@@ -132,11 +155,17 @@ class Counts:
             ("with held bytes", some.options.hold), ("whose frames dropped a checkpoint", session.left_by_frames),
             ("with a client gone", session.gone), ("with bytes past a close", self.unpassed(session))) if holds)
         of["sums"].update({"items": session.survivor.taken, "choices": len(session.survivor.choices),
-                           "null answers": sum(at == 0 for at, _ in session.survivor.choices), "episodes": len(session.notes.episodes),
+                           "null answers": sum(choice.at == 0 for choice in session.survivor.choices), "episodes": len(session.notes.episodes),
                            "pieces": sum(entry[0] == "gave" for entry in session.journal),
                            "instructions": session.steps_of_all + session.survivor.steps - session.began})
+        self.choices(session.survivor.choices)
         for episode in session.notes.episodes:
             self.episode(episode)
+
+    def choices(self, choices):
+        for choice in choices:
+            call = "realloc of null" if choice.ask.call == "realloc" and not choice.ask.replaced else choice.ask.call
+            self.of["choices"]["%s, %s" % (call, "null" if not choice.at else "zeros" if choice.zeroed else "a block")] += 1
 
     @staticmethod
     def unpassed(session):

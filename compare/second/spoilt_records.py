@@ -1,4 +1,4 @@
-"""Records replayed by the built rx and by the second engine, side by side, whole ones and spoilt ones."""
+"""Records replayed and converted by the built rx and by the second engine, side by side: whole ones, changed ones and spoilt ones."""
 
 import collections
 import os
@@ -7,23 +7,32 @@ import subprocess
 import tempfile
 
 from second import beside_rx, guests, inputs, trunk
-from second.command import ENDS, image_maker, replay
+from second.command import ENDS, convert, image_maker, replay
+from second.heap import Choice, calloc_of, malloc_of, realloc_of
 from second.machine import executable
-from second.outside import MemorySink, MemorySource
-from second.record import RecordRefused, choice_line, end_line, head_line, read_record, record_text
+from second.outside import MemoryFiles, MemorySink, MemorySource
+from second.record import RecordRefused, choice_line, end_line, head_line, is_possible, read_record, record_text, without_asks
 from second.said import answer_of, is_told
 
 NO_BUDGET = 0  # a replay has none
+OLD = b"what was there"
+
+# What came of a replay or a conversion: the answer, the status, the output, and the new record.
+Came = collections.namedtuple("Came", "answer status output new")
 
 
-def in_second_engine(program, text, stream):
-    """The answer and the output of a replay. `program` has segments and entry."""
-    sink = MemorySink()
-    return replay(image_maker(*program), text, MemorySource(stream), sink), sink.content
+def in_second_engine(command, program, text, stream):
+    """What comes of it. `program` has segments and entry."""
+    sink, files = MemorySink(), MemoryFiles({"o": OLD})
+    if command == "replay":
+        done = replay(image_maker(*program), text, MemorySource(stream), sink)
+    else:
+        done = convert(image_maker(*program), text, MemorySource(stream), files)
+    return Came(done.answer, done.status, sink.content, files.files["o"])
 
 
 class Folder:
-    """A folder with the files of a replay: the program as p, the record as r."""
+    """A folder with the files of a replay: the program as p, the record as r, and the new record of a conversion as o."""
 
     def __init__(self, rx, path):
         self.rx, self.path = rx, path
@@ -32,60 +41,90 @@ class Folder:
         with open(os.path.join(self.path, name), "wb") as file:
             file.write(content)
 
-    def replay(self, text, stream):
-        """The answer as rx told it, its status, and its output."""
+    def run(self, command, text, stream):
+        """What comes of it, with the answer as rx told it."""
         self.put("r", text)
-        done = subprocess.run([self.rx, "replay", "p", "r"], input=stream, capture_output=True, check=False, cwd=self.path)
-        return answer_of(done.returncode, done.stderr.decode(errors="replace"), NO_BUDGET), done.returncode, done.stdout
+        self.put("o", OLD)
+        words = [self.rx, command, "p", "r"] + ["o"] * (command == "convert")
+        done = subprocess.run(words, input=stream, capture_output=True, check=False, cwd=self.path)
+        answer = answer_of(done.returncode, done.stderr.decode(errors="replace"), NO_BUDGET)
+        return Came(answer, done.returncode, done.stdout, beside_rx.content_of(os.path.join(self.path, "o")))
 
-    def differences(self, program, text, stream):
-        """The answer of the second engine, and in what rx differs."""
-        done, output = in_second_engine(program, text, stream)
-        told, status, written = self.replay(text, stream)
+    def differences(self, command, program, text, stream):
+        """What comes of it in the second engine, and in what rx differs."""
+        ours, theirs = in_second_engine(command, program, text, stream), self.run(command, text, stream)
         found = []
-        if status != done.status or not is_told(done.answer, told):
-            found.append("answer: %s in place of %s" % (told, done.answer))
-        if written != output:
-            found.append("output: %d bytes in place of %d" % (len(written), len(output)))
-        return done.answer, found
+        if theirs.status != ours.status or not is_told(ours.answer, theirs.answer):
+            found.append("answer of %s: %s in place of %s" % (command, theirs.answer, ours.answer))
+        if theirs.output != ours.output:
+            found.append("output of %s: %d bytes in place of %d" % (command, len(theirs.output), len(ours.output)))
+        if theirs.new != ours.new:
+            found.append("new record of %s: %r in place of %r" % (command, theirs.new, ours.new))
+        return ours, found
 
 
-# ---- sessions
+# ---- changes
 
 
-def with_another_choice(rng, parts):
-    window, frame, choices, steps, taken = parts
-    if choices:
-        at = rng.randrange(len(choices))
-        address, zeroed = choices[at]
-        moved = rng.choice([address ^ 16, address + 256, 0, rng.getrandbits(32)]) & 0xFFFFFFFF
-        choices[at] = (moved, zeroed and moved != 0) if rng.random() < 0.7 else (address, address != 0 and not zeroed)
-    return window, frame, choices, steps, taken
+def some_ask(rng):
+    numbers = [rng.choice([0, 1, 8, 16, 17, 600, 0xFFFFFFFF, rng.getrandbits(32)]) for _ in range(2)]
+    return rng.choice([malloc_of(numbers[0]), calloc_of(*numbers), realloc_of(*numbers)])
 
 
-def with_fewer_or_more_choices(rng, parts):
-    window, frame, choices, steps, taken = parts
-    if choices and rng.random() < 0.5:
-        del choices[rng.randrange(len(choices))]
+def another_ask(rng, ask):
+    """Another call, or other numbers, that may ask for as many bytes."""
+    kind = rng.randrange(4)
+    if kind == 0:
+        return some_ask(rng)
+    if kind == 1:
+        return ask._replace(first=ask.first + rng.choice([-1, 1]) & 0xFFFFFFFF)
+    if ask.call == "malloc":
+        return rng.choice([calloc_of(1, ask.first), realloc_of(0, ask.first)])
+    return ask._replace(first=ask.second, second=ask.first) if kind == 2 else malloc_of(ask.bytes & 0xFFFFFFFF)
+
+
+def with_another_choice(rng, reading):
+    lines = list(reading.lines)
+    if lines:
+        at = rng.randrange(len(lines))
+        line, kind = lines[at], rng.random()
+        if kind < 0.4 and line.ask:
+            lines[at] = line._replace(ask=another_ask(rng, line.ask))
+        elif kind < 0.8:
+            moved = rng.choice([line.at ^ 16, line.at + 256, 0, rng.getrandbits(32)]) & 0xFFFFFFFF
+            lines[at] = line._replace(at=moved, zeroed=line.zeroed and moved != 0)
+        else:
+            lines[at] = line._replace(zeroed=line.at != 0 and not line.zeroed)
+    return reading._replace(lines=lines)
+
+
+def with_fewer_or_more_choices(rng, reading):
+    lines = list(reading.lines)
+    if lines and rng.random() < 0.5:
+        del lines[rng.randrange(len(lines))]
     else:
-        choices.insert(rng.randrange(len(choices) + 1), (rng.choice([0, 0x20000, rng.getrandbits(22) * 16]), False))
-    return window, frame, choices, steps, taken
+        new = Choice(rng.choice([0, 0x20000, rng.getrandbits(22) * 16]), False, some_ask(rng) if reading.version == 2 else None)
+        lines.insert(rng.randrange(len(lines) + 1), new)
+    return reading._replace(lines=lines)
 
 
-def with_other_numbers(rng, parts):
-    window, frame, choices, steps, taken = parts
-    other = max(0, steps + rng.choice([-100, -2, -1, 1, 2, 100]))
+def with_other_numbers(rng, reading):
     if rng.random() < 0.5:
-        return window, frame, choices, other, taken
-    return window, frame, choices, steps, max(0, taken + rng.choice([-1, 1]))
+        return reading._replace(steps=max(0, reading.steps + rng.choice([-100, -2, -1, 1, 2, 100])))
+    return reading._replace(taken=max(0, reading.taken + rng.choice([-1, 1])))
 
 
-def with_another_form(rng, parts):
-    window, frame, choices, steps, taken = parts
-    return min(64, window + rng.choice([0, 1])), rng.choice(["line", "length", "whole"]), choices, steps, taken  # a smaller one may not have room
+def with_another_form(rng, reading):
+    # a smaller window may not have room
+    return reading._replace(window=min(64, reading.window + rng.choice([0, 1])), frame=rng.choice(["line", "length", "whole"]))
 
 
-CHANGES = [with_another_choice, with_fewer_or_more_choices, with_other_numbers, with_another_form]
+def with_another_version(_, reading):
+    """The head of the other version, and the lines as they are."""
+    return reading._replace(version=3 - reading.version)
+
+
+CHANGES = [with_another_choice] * 3 + [with_fewer_or_more_choices, with_other_numbers, with_another_form, with_another_version]
 
 
 def changed_stream(rng, stream):
@@ -94,6 +133,9 @@ def changed_stream(rng, stream):
         return stream[:rng.randrange(len(stream) + 1)]
     at = rng.randrange(len(stream))
     return stream[:at] + bytes([stream[at] ^ (1 << rng.randrange(8))]) + stream[at + 1:]
+
+
+# ---- sessions
 
 
 class Counted:
@@ -114,28 +156,43 @@ class Counted:
         print("answers: " + ", ".join("%s %d" % pair for pair in sorted(self.answers.items())))
 
 
-def replay_session(folder, pair, rng, whole, changed):
-    """Replays what a session left, and then something else."""
-    done, found = pair.differences()
-    record_of = pair.files["r"]
-    if found or done.answer[0] not in ENDS:
-        whole.add(pair.name, done.answer, found or ["it has no end"])
-        return
-    program = pair.segments
-    folder.put("p", executable(*program))
-    answer, found = folder.differences(program, record_of, pair.stream)
-    sends = b"".join(trunk.piece_frame(send[0], send[1]) for send in done.session.survivor.sends)
-    if folder.replay(record_of, pair.stream)[2] != sends:
-        found.append("the frames aren't those of the run's sends")
-    whole.add(pair.name, answer, found)
-    parts = list(read_record(record_of))
-    stream = pair.stream
-    if rng.random() < 0.75:
-        parts = rng.choice(CHANGES)(rng, parts)
-    else:
-        stream = changed_stream(rng, stream)
-    answer, found = folder.differences(program, record_text(*parts), stream)
-    changed.add(pair.name + ", changed", answer, found)
+class Replays:
+    """Sessions, and replays and conversions of what they left."""
+
+    NAMES = {"replay": "replays", "convert": "conversions"}
+
+    def __init__(self, rx, path):
+        self.rx, self.folder, self.counts = rx, Folder(rx, path), collections.defaultdict(Counted)
+
+    def session(self, name):
+        """Runs a session, and then its record again, as both versions say it, and something else."""
+        pair = KeptPair(name, beside_rx.Rx(self.rx, True, True))
+        done, found = pair.differences()
+        if found or done.answer[0] not in ENDS:
+            self.counts["sessions"].add(name, done.answer, found or ["it has no end"])
+            return
+        self.counts["sessions"].add(name, done.answer, [])
+        self.folder.put("p", executable(*pair.segments))
+        reading = read_record(pair.files["r"])
+        sends = b"".join(trunk.piece_frame(send[0], send[1]) for send in done.session.survivor.sends)
+        for told in (reading, without_asks(reading)):
+            for command, expected in (("replay", (sends, OLD)), ("convert", (b"", pair.files["r"]))):
+                came, found = self.folder.differences(command, pair.segments, record_text(told), pair.stream)
+                if (came.output, came.new) != expected:
+                    found.append("it isn't what the session left")
+                self.counts["%s of version %d" % (self.NAMES[command], told.version)].add(name, came.answer, found)
+        self.changed(pair, reading, random.Random(name))
+
+    def changed(self, pair, reading, rng):
+        """Changes the record, or else the input."""
+        reading, stream = without_asks(reading) if rng.random() < 0.4 else reading, pair.stream
+        if rng.random() < 0.8:
+            reading = rng.choice(CHANGES)(rng, reading)
+        else:
+            stream = changed_stream(rng, stream)
+        for command, what in self.NAMES.items():
+            came, found = self.folder.differences(command, pair.segments, record_text(reading), stream)
+            self.counts["changed " + what].add(pair.name + ", changed", came.answer, found)
 
 
 class KeptPair(beside_rx.Pair):
@@ -151,33 +208,45 @@ class KeptPair(beside_rx.Pair):
 
 
 def compare_replays(rx, runs, seed):
-    """Sessions and replays of what they left; how many differ."""
-    whole, changed = Counted(), Counted()
+    """Sessions, replays and conversions; how many differ."""
     with tempfile.TemporaryDirectory() as path:
+        replays = Replays(rx, path)
         for number in range(runs):
-            pair = KeptPair("%d %d" % (seed, number), beside_rx.Rx(rx, True, True))
-            replay_session(Folder(rx, path), pair, random.Random("%d %d" % (seed, number)), whole, changed)
-    whole.tell("replays")
-    changed.tell("changed replays")
-    return whole.wrong + changed.wrong
+            replays.session("%d %d" % (seed, number))
+    for name, counted in replays.counts.items():
+        counted.tell(name)
+    return sum(counted.wrong for counted in replays.counts.values())
 
 
 # ---- readings
 
 
+def some_line(rng, version):
+    """A choice that a record may have."""
+    at, zeroed = rng.choice([(0, False), (rng.getrandbits(32), False), (rng.getrandbits(28) * 16 + 16 & 0xFFFFFFFF, True)])
+    choice = Choice(at, zeroed and at != 0, some_ask(rng) if version == 2 else None)
+    return choice if is_possible(choice) else choice._replace(zeroed=True)
+
+
 def some_record(rng):
     """A record with a reading, as lines."""
-    most = rng.choice([0, 1, 5, 40])
-    choices = [rng.choice([(0, False), (rng.getrandbits(32), False), (rng.getrandbits(28) * 16 + 16, True)]) for _ in range(rng.randrange(most + 1))]
+    version, most = rng.choice([1, 2, 2]), rng.choice([0, 1, 5, 40])
+    lines = [choice_line(some_line(rng, version)) for _ in range(rng.randrange(most + 1))]
     steps = rng.choice([0, 3, rng.randrange(1000), rng.getrandbits(40), (1 << 63) - 1])
     taken = rng.choice([0, rng.randrange(10), 1 << 20])
-    lines = [choice_line((at & 0xFFFFFFFF, zeroed and at != 0)) for at, zeroed in choices]
-    return [head_line(rng.choice([1, 4, 9, 10, 64]), rng.choice(["line", "length", "whole"])), *lines, end_line(steps, taken)]
+    head = head_line(rng.choice([1, 4, 9, 10, 64]), rng.choice(["line", "length", "whole"]), version)
+    return [head, *lines, end_line(steps, taken)]
+
+
+OTHER_LINES = [b"\n", b"m 00000000 z\n", b"end 0 0\n", b"m 00010000 -\n", b"\xff\n", b"m 00010000 -\r\n", b"m 00010000 - 00000010\n",
+               b"m 00000000 z 00000010\n", b"c 00010000 - 00000001 00000001\n", b"c 00000000 z 00000001 00000001\n",
+               b"c 00000000 - 00000001 00000001\n", b"c 00010000 z 00000001 00000001\n", b"r 00000000 - 00010000 00000001\n",
+               b"r 00010000 - 00000001\n", b"m 00010000 - 00000001 00000001\n", b"c 00010000 z\n", b"r 00000001 - 00000000 00000000 \n"]
 
 
 def spoil_a_byte(rng, text):
     at = rng.randrange(len(text))
-    byte = bytes([rng.choice([rng.randrange(256), *b"0123456789abcdefABCDEF -zm\n\r\t"])])
+    byte = bytes([rng.choice([rng.randrange(256), *b"0123456789abcdefABCDEF -zmr\n\r\t"])])
     return rng.choice([text[:at] + byte + text[at + 1:], text[:at] + byte + text[at:], text[:at] + text[at + 1:]])
 
 
@@ -194,7 +263,7 @@ def spoil_a_line(rng, text):
     elif how == 3:
         lines[at] = lines[at][:rng.randrange(len(lines[at]))] + rng.choice([b"", b"\n"])
     else:
-        lines.insert(at, rng.choice([b"\n", b"m 00000000 z\n", b"end 0 0\n", b"m 00010000 -\n", b"\xff\n", b"m 00010000 -\r\n"]))
+        lines.insert(at, rng.choice(OTHER_LINES))
     return b"".join(lines)
 
 
@@ -236,10 +305,10 @@ def compare_readings(rx, runs, seed):
         folder.put("p", executable(*program))
         for number in range(runs):
             text = spoilt(rng)
-            answer, found = folder.differences(program, text, stream)
+            came, found = folder.differences("replay" if rng.random() < 0.7 else "convert", program, text, stream)
             reading = reading_of(text)
             lines[min(reading, 5) if isinstance(reading, int) else 0] += 1
-            counted.add("record %d of seed %d, %r" % (number, seed, text), answer, found)
+            counted.add("record %d of seed %d, %r" % (number, seed, text), came.answer, found)
     counted.tell("records")
     told = ["%s %d" % ("read" if line == 0 else "line %d" % line if line < 5 else "a later line", lines[line]) for line in sorted(lines)]
     print("refused at: " + ", ".join(told))

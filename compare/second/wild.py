@@ -81,7 +81,7 @@ class Writer:
         if kind == 0:
             self.words.append(rng.choice([0, MASK, 0x00100073, 0x00200073, 0x30200073, 0x0000100F, rng.randrange(1 << 32)]))
         elif kind == 1:
-            self.words += [i_type(rng.choice([0, 3, 4, 6, 7, 2047]), 0, 0, 17), ECALL]
+            self.words += [i_type(rng.choice([0, 3, 4, 6, 7, 8, 9, 2047]), 0, 0, 17), ECALL]
         elif kind == 2:
             self.words += load_number(10, rng.choice([0, 1, MASK])) + [i_type(5, 0, 0, 17), ECALL]
         elif kind == 3:

@@ -1,9 +1,8 @@
 -- What a free leaves.
 use Rattle.std.specs.List.{find, list_any}
-use Rattle.std.proofs.lemmas.Option.{same_Some}
 use Rattle.block_book.specs.declared.block.Block.{Block}
 use Rattle.block_book.proofs.Searches.{IsAbout, at-is-about, any-above}
-use Rattle.alloc_env.proofs.Terms.{Bool, List, None, Option, Some, [], ap, cond, eqb, false, if◌then◌else◌, inl, inr, not, refl, subst, sym, true, ℕ, ◌&&◌, ◌||◌, ◌∙◌, ◌∷◌, ◌≡◌, and_parts, cases_Bool, eq-eqb, eqb-true, ne_eqb, or_parts, Standing, Delayed, Live, Nothing, kept-front, live-delayed, live-front, live-front_delayed, live-without, sound-delayed, sound-filter, live_blocks, without_live, extent_end, Heap, IsHeap, StandWithin, is_live_at, standing_at, standing_of, with_delayed, without_block, Env, treatment_of, freed, freed_by, served_free, Follows}
+use Rattle.alloc_env.proofs.Terms.{Bool, List, None, Option, Some, [], ap, cond, eqb, false, if◌then◌else◌, inl, inr, not, refl, subst, sym, true, ℕ, ◌&&◌, ◌||◌, ◌∙◌, ◌∷◌, ◌≡◌, and_parts, cases_Bool, eq-eqb, eqb-true, ne_eqb, or_parts, same_Some, Standing, Delayed, Live, Nothing, kept-front, live-delayed, live-front, live-front_delayed, live-without, sound-delayed, sound-filter, live_blocks, without_live, extent_end, Heap, IsHeap, StandWithin, is_live_at, standing_at, standing_of, with_delayed, without_block, Env, treatment_of, freed, freed_by, served_free, Follows}
 
 -- a live block of that address stands among blocks
 abbrev is_live : ℕ → Block → Bool
@@ -77,7 +76,7 @@ live-standing heap at size is = by-found (find (λ block. eqb block.at at) heap.
     by-found None e h = absurd (cc h)
     by-found (Some block) e h = by-delayed block block.delayed refl e h
 
-delayed-standing : (heap : Heap) (at size : ℕ) → IsHeap heap → standing_at heap at ≡ Delayed size → is_live_at heap at ≡ false
+pub delayed-standing : (heap : Heap) (at size : ℕ) → IsHeap heap → standing_at heap at ≡ Delayed size → is_live_at heap at ≡ false
 delayed-standing heap at size sound is = by-found (find (λ block. eqb block.at at) heap.blocks) refl is
   where
     by-delayed : (block : Block) (d : Bool) → block.delayed ≡ d → find (λ block. eqb block.at at) heap.blocks ≡ Some block → (if d then Delayed block.size else Live block.size) ≡ Delayed size → is_live_at heap at ≡ false
@@ -87,6 +86,24 @@ delayed-standing heap at size sound is = by-found (find (λ block. eqb block.at 
     by-found : (o : Option Block) → find (λ block. eqb block.at at) heap.blocks ≡ o → standing_of o ≡ Delayed size → is_live_at heap at ≡ false
     by-found None e h = absurd (cc h)
     by-found (Some block) e h = by-delayed block block.delayed refl e h
+
+-- where nothing begins no live block stands
+pub nothing-standing : (heap : Heap) (at : ℕ) → standing_at heap at ≡ Nothing → is_live_at heap at ≡ false
+nothing-standing heap at is = among heap.blocks is
+  where
+    never : (block : Block) (d : Bool) → (if d then Delayed block.size else Live block.size) ≡ Nothing → ⊥
+    never block true h = cc h
+    never block false h = cc h
+
+    among : (blocks : List Block) → standing_of (find (λ block. eqb block.at at) blocks) ≡ Nothing → list_any (is_live at) blocks ≡ false
+    among [] h = refl
+    among (block ∷ blocks) h =
+        elim (cases_Bool (eqb block.at at)) [
+          | inl here ↦ absurd (never block block.delayed (sym (ap (λ b. standing_of (cond b (Some block) (find (λ block. eqb block.at at) blocks))) here) ∙ h))
+          | inr other ↦
+              ap (λ b. (b && not block.delayed) || list_any (is_live at) blocks) other
+              ∙ among blocks (sym (ap (λ b. standing_of (cond b (Some block) (find (λ block. eqb block.at at) blocks))) other) ∙ h)
+        ]
 
 -- the heap stays, and no live block stands there
 stays : (heap : Heap) (at : ℕ) → IsHeap heap → is_live_at heap at ≡ false → Follows heap at heap

@@ -1,3 +1,3 @@
 pub mod Terms
-pub mod Mallocs
 pub mod Frees
+pub mod Mallocs

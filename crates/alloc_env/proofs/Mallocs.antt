@@ -1,5 +1,7 @@
--- The answers of malloc.
-use Rattle.alloc_env.proofs.Terms.{Bool, None, Option, Some, ap, arith, eqb, false, if◌then◌else◌, not, refl, subst, sym, true, ℕ, ◌%◌, ◌&&◌, ◌∙◌, ◌≡◌, ◌≤◌, ne_eqb, or_right, option_map_or, option_or, Choice, live-insert_block, live-recycled, placement-clear, placement-positive, placement-sound, sound-filter, insert_live, is_allowed, is_clear, live_blocks, live_block, Heap, IsHeap, recycled, with_block, placement, Env, All, Delay, Isolate, Pad, Plain, Zero, treatment_of, Served, live_with, middle, served_at, served_malloc, served_null, spot, Serves}
+-- The answers of the allocator.
+use Rattle.block_book.proofs.Asks.{same-self, size-live, size-inserted}
+use Rattle.alloc_env.proofs.Terms.{Bool, List, None, Option, Some, ap, arith, eqb, false, if◌then◌else◌, nat_lt, not, refl, subst, sym, true, ℕ, ◌%◌, ◌&&◌, ◌<◌, ◌^◌, ◌||◌, ◌∙◌, ◌≡◌, ◌≤◌, and_from, eq-eqb, lt-ltb, ne_eqb, or_right, same_Some, option_map_or, option_or, is_some, Ask, Realloc, Choice, live-insert_block, live-recycled, placement-clear, placement-positive, placement-sound, sound-filter, bytes_asked, insert_live, is_allowed, is_block, is_calloc, is_clear, live_blocks, live_with, replaced, same_ask, size_at, without_live, without_replaced, live_block, Heap, IsHeap, is_live_at, recycled, with_block, placement, Env, All, Delay, Isolate, Pad, Plain, Zero, treatment_of, Served, freed, in_place_of, middle, served_ask, served_at, served_block, served_in, served_null, served_over, spot, Follows, Serves}
+use Rattle.alloc_env.proofs.Frees.{freed-follows}
 
 side-multiple : (env : Env) → (treatment_of env).side % 16 ≡ 0
 side-multiple Plain = refl
@@ -46,18 +48,40 @@ spot-placed env heap size at = by-isolates (treatment_of env).isolates
     by-isolates true h = by-or (placement heap size side (middle heap)) refl h
     by-isolates false h = (0, h)
 
+-- the live blocks with a new one, unless the answer is null
+abbrev placed_live : Choice → List (ℕ × ℕ) → List (ℕ × ℕ)
+placed_live choice live = if eqb choice.at 0 then live else insert_live (choice.at, bytes_asked choice.ask) live
+
+-- what is so of a new block, whatever it is to replace
+pub record Places (env : Env) (heap : Heap) (ask : Ask) (served : Served) : Type 0 where
+  pub asked : served.choice.ask ≡ ask
+  pub allowed : is_allowed heap.start heap.end (live_blocks heap.blocks) ask served.choice ≡ true
+  pub zeroed : served.choice.zeroed ≡ (((treatment_of env).zeroes || is_calloc ask) && not (eqb served.choice.at 0))
+  pub sound : IsHeap served.heap
+  pub start : served.heap.start ≡ heap.start
+  pub end : served.heap.end ≡ heap.end
+  pub live : live_blocks served.heap.blocks ≡ placed_live served.choice (live_blocks heap.blocks)
+
 -- an answer that isn't null
-serves-at : (env : Env) (heap : Heap) (size at : ℕ) → IsHeap heap → spot env heap size ≡ Some at → Serves env heap size (served_at env heap size at)
-unfolding is_allowed
-serves-at env heap size at sound is =
+places-at : (env : Env) (heap : Heap) (ask : Ask) (at : ℕ) → nat_lt (bytes_asked ask) (2 ^ 32) ≡ true → IsHeap heap → spot env heap (bytes_asked ask) ≡ Some at → Places env heap ask (served_at env heap ask at)
+unfolding is_allowed is_block
+places-at env heap ask at few sound is =
+    let size = bytes_asked ask in
     let side = (treatment_of env).side in
-    let zeroes = (treatment_of env).zeroes in
+    let zeroed = (treatment_of env).zeroes || is_calloc ask in
     let placed = spot-placed env heap size at is in
     let positive = placement-positive heap size side placed.0 at sound placed.1 in
     let named : eqb at 0 ≡ false = ne_eqb at 0 (λ e. absurd (omega arith)) in
+    let clear = placement-clear heap size side placed.0 at (side-multiple env) placed.1 in
+    let inside : Bool = nat_lt size (2 ^ 32) && is_clear heap.start heap.end (live_blocks heap.blocks) at size in
+    let block : (inside && (zeroed || not (is_calloc ask))) ≡ true =
+    and_from inside (zeroed || not (is_calloc ask)) (and_from (nat_lt size (2 ^ 32)) (is_clear heap.start heap.end (live_blocks heap.blocks) at size) few clear) (zeroes-calloc (treatment_of env).zeroes (is_calloc ask)) in
     record {
-      allowed = or_right (eqb at 0 && not zeroes) (is_clear heap.start heap.end (live_blocks heap.blocks) at size) (placement-clear heap size side placed.0 at (side-multiple env) placed.1);
-      zeroed = sym (ap (λ b. zeroes && not b) named ∙ and-true zeroes);
+      asked = refl;
+      allowed =
+          and_from (same_ask ask ask) ((eqb at 0 && not zeroed) || (inside && (zeroed || not (is_calloc ask)))) (same-self ask)
+          (or_right (eqb at 0 && not zeroed) (inside && (zeroed || not (is_calloc ask))) block);
+      zeroed = sym (ap (λ b. zeroed && not b) named ∙ and-true zeroed);
       sound = placement-sound heap size side placed.0 at sound (side-multiple env) (side-small env) placed.1;
       start = refl;
       end = refl;
@@ -70,12 +94,18 @@ serves-at env heap size at sound is =
     and-true true = refl
     and-true false = refl
 
+    zeroes-calloc : (zeroes calloc : Bool) → ((zeroes || calloc) || not calloc) ≡ true
+    zeroes-calloc true calloc = refl
+    zeroes-calloc false true = refl
+    zeroes-calloc false false = refl
+
 -- null
-serves-null : (env : Env) (heap : Heap) (size : ℕ) → IsHeap heap → Serves env heap size (served_null heap)
+places-null : (env : Env) (heap : Heap) (ask : Ask) → IsHeap heap → Places env heap ask (served_null heap ask)
 unfolding is_allowed
-serves-null env heap size sound = record {
-  allowed = refl;
-  zeroed = sym (and-false (treatment_of env).zeroes);
+places-null env heap ask sound = record {
+  asked = refl;
+  allowed = and_from (same_ask ask ask) true (same-self ask) refl;
+  zeroed = sym (and-false ((treatment_of env).zeroes || is_calloc ask));
   sound = sound;
   start = refl;
   end = refl;
@@ -87,76 +117,174 @@ serves-null env heap size sound = record {
     and-false false = refl
 
 -- an answer after recycling is one of the heap before it
-serves-recycled : (env : Env) (heap : Heap) (size : ℕ) (served : Served) → Serves env (recycled heap) size served → Serves env heap size served
-serves-recycled env heap size served s = record {
-  allowed = subst (λ live. is_allowed heap.start heap.end live size served.choice ≡ true) (live-recycled heap.blocks) s.allowed;
+places-recycled : (env : Env) (heap : Heap) (ask : Ask) (served : Served) → Places env (recycled heap) ask served → Places env heap ask served
+places-recycled env heap ask served s = record {
+  asked = s.asked;
+  allowed = subst (λ live. is_allowed heap.start heap.end live ask served.choice ≡ true) (live-recycled heap.blocks) s.allowed;
   zeroed = s.zeroed;
   sound = s.sound;
   start = s.start;
   end = s.end;
-  live = s.live ∙ ap (live_with served.choice size) (live-recycled heap.blocks);
+  live = s.live ∙ ap (placed_live served.choice) (live-recycled heap.blocks);
 }
 
-serves-tried : (env : Env) (heap : Heap) (size : ℕ) (otherwise : Served) → IsHeap heap → Serves env heap size otherwise → (o : Option ℕ) → spot env heap size ≡ o → Serves env heap size (option_map_or (served_at env heap size) o otherwise)
-serves-tried env heap size otherwise sound s None e = s
-serves-tried env heap size otherwise sound s (Some at) e = serves-at env heap size at sound e
+places-tried : (env : Env) (heap : Heap) (ask : Ask) (otherwise : Served) → nat_lt (bytes_asked ask) (2 ^ 32) ≡ true → IsHeap heap → Places env heap ask otherwise → (o : Option ℕ) → spot env heap (bytes_asked ask) ≡ o → Places env heap ask (option_map_or (served_at env heap ask) o otherwise)
+places-tried env heap ask otherwise few sound s None e = s
+places-tried env heap ask otherwise few sound s (Some at) e = places-at env heap ask at few sound e
 
-pub malloc-serves : (env : Env) (heap : Heap) (size : ℕ) → IsHeap heap → Serves env heap size (served_malloc env heap size)
-unfolding served_malloc
-malloc-serves env heap size sound =
-    let left = recycled heap in
-    let sound' = sound-filter (λ block. not block.delayed) heap sound in
-    let again = serves-tried env left size (served_null left) sound' (serves-null env left size sound') (spot env left size) refl in
-    serves-tried env heap size (option_map_or (served_at env left size) (spot env left size) (served_null left)) sound (serves-recycled env heap size (option_map_or (served_at env left size) (spot env left size) (served_null left)) again) (spot env heap size) refl
+pub block-places : (env : Env) (heap : Heap) (ask : Ask) → IsHeap heap → Places env heap ask (served_block env heap ask)
+unfolding served_block
+block-places env heap ask sound = of_bytes (nat_lt (bytes_asked ask) (2 ^ 32)) refl
+  where
+    left : Heap
+    left = recycled heap
 
--- what malloc answers, by its two tries
-pub malloc-first : (env : Env) (heap : Heap) (size at : ℕ) → Some at ≡ spot env heap size → served_malloc env heap size ≡ served_at env heap size at
-unfolding served_malloc
-malloc-first env heap size at is =
-    ap (λ o. option_map_or (served_at env heap size) o (option_map_or (served_at env (recycled heap) size) (spot env (recycled heap) size) (served_null (recycled heap)))) (sym is)
+    of_bytes : (b : Bool) → nat_lt (bytes_asked ask) (2 ^ 32) ≡ b → Places env heap ask (if b then served_in env heap ask (served_in env left ask (served_null left ask)) else served_null heap ask)
+    of_bytes false e = places-null env heap ask sound
+    of_bytes true e =
+        let sound' = sound-filter (λ block. not block.delayed) heap sound in
+        let again = places-tried env left ask (served_null left ask) e sound' (places-null env left ask sound') (spot env left (bytes_asked ask)) refl in
+        places-tried env heap ask (served_in env left ask (served_null left ask)) e sound (places-recycled env heap ask (served_in env left ask (served_null left ask)) again) (spot env heap (bytes_asked ask)) refl
 
-pub malloc-again : (env : Env) (heap : Heap) (size at : ℕ) → None ≡ spot env heap size → Some at ≡ spot env (recycled heap) size → served_malloc env heap size ≡ served_at env (recycled heap) size at
-unfolding served_malloc
-malloc-again env heap size at none is =
-    ap (λ o. option_map_or (served_at env heap size) o (option_map_or (served_at env (recycled heap) size) (spot env (recycled heap) size) (served_null (recycled heap)))) (sym none)
-    ∙ ap (λ o. option_map_or (served_at env (recycled heap) size) o (served_null (recycled heap))) (sym is)
+-- a block that is live stays so where a new one is placed
+pub block-keeps : (env : Env) (heap : Heap) (ask : Ask) (served : Served) (old : ℕ) → IsHeap heap → served_block env heap ask ≡ served → is_live_at heap old ≡ true → is_live_at served.heap old ≡ true
+block-keeps env heap ask served old sound is lives =
+    let s = subst (Places env heap ask) is (block-places env heap ask sound) in
+    sym (size-live old served.heap.blocks) ∙ ap (λ live. is_some (size_at old live)) s.live ∙ of_null (eqb served.choice.at 0) (size-live old heap.blocks ∙ lives)
+  where
+    of_null : (b : Bool) → is_some (size_at old (live_blocks heap.blocks)) ≡ true
+        → is_some (size_at old (if b then live_blocks heap.blocks else insert_live (served.choice.at, bytes_asked served.choice.ask) (live_blocks heap.blocks))) ≡ true
+    of_null true h = h
+    of_null false h = size-inserted old served.choice.at (bytes_asked served.choice.ask) (live_blocks heap.blocks) h
 
-pub malloc-null : (env : Env) (heap : Heap) (size : ℕ) → None ≡ spot env heap size → None ≡ spot env (recycled heap) size → served_malloc env heap size ≡ served_null (recycled heap)
-unfolding served_malloc
-malloc-null env heap size none again =
-    ap (λ o. option_map_or (served_at env heap size) o (option_map_or (served_at env (recycled heap) size) (spot env (recycled heap) size) (served_null (recycled heap)))) (sym none)
-    ∙ ap (λ o. option_map_or (served_at env (recycled heap) size) o (served_null (recycled heap))) (sym again)
+-- a new block that stands in place of none
+serves-new : (env : Env) (heap : Heap) (ask : Ask) (served : Served) → replaced ask ≡ None → Places env heap ask served → Serves env heap ask served
+serves-new env heap ask served none s = record {
+  asked = s.asked;
+  allowed = s.allowed;
+  zeroed = s.zeroed;
+  sound = s.sound;
+  start = s.start;
+  end = s.end;
+  live = s.live ∙ sym (ap (λ (replaced : Option ℕ). if eqb served.choice.at 0 then live_blocks heap.blocks else without_replaced replaced (insert_live (served.choice.at, bytes_asked served.choice.ask) (live_blocks heap.blocks))) (ap replaced s.asked ∙ none));
+}
 
--- what the code's answer and heap have to be
-pub record Answers (env : Env) (before : Heap) (size : ℕ) (answer : Choice) (after : Heap) : Type 0 where
-  pub choice : answer ≡ (served_malloc env before size).choice
-  pub heap : after ≡ (served_malloc env before size).heap
-  pub allowed : is_allowed before.start before.end (live_blocks before.blocks) size answer ≡ true
-  pub live : live_blocks after.blocks ≡ live_with answer size (live_blocks before.blocks)
+-- a new block in place of an old one
+serves-over : (env : Env) (heap : Heap) (ask : Ask) (old : ℕ) (served : Served) → replaced ask ≡ Some old → Places env heap ask served → Serves env heap ask (in_place_of env old served)
+serves-over env heap ask old served is s = of_null (eqb served.choice.at 0) refl
+  where
+    behind : Follows served.heap old (freed env served.heap old)
+    behind = freed-follows env served.heap old s.sound
 
-answers-as : (env : Env) (heap : Heap) (size : ℕ) (served : Served) → IsHeap heap → served_malloc env heap size ≡ served → Answers env heap size served.choice served.heap
-answers-as env heap size served sound is =
-    let s = subst (Serves env heap size) is (malloc-serves env heap size sound) in
-    record {
-      choice = ap (λ (t : Served). t.choice) (sym is);
-      heap = ap (λ (t : Served). t.heap) (sym is);
+    with_replaced : (b : Bool) → Option ℕ → List (ℕ × ℕ)
+    with_replaced b replaced = if b then live_blocks heap.blocks else without_replaced replaced (insert_live (served.choice.at, bytes_asked served.choice.ask) (live_blocks heap.blocks))
+
+    of_null : (b : Bool) → eqb served.choice.at 0 ≡ b → Serves env heap ask (if b then served else record served { heap = freed env served.heap old })
+    of_null true null = record {
+      asked = s.asked;
       allowed = s.allowed;
-      live = s.live;
+      zeroed = s.zeroed;
+      sound = s.sound;
+      start = s.start;
+      end = s.end;
+      live =
+          s.live
+          ∙ ap (λ b. if b then live_blocks heap.blocks else insert_live (served.choice.at, bytes_asked served.choice.ask) (live_blocks heap.blocks)) null
+          ∙ sym (ap (λ b. with_replaced b (replaced served.choice.ask)) null);
+    }
+    of_null false named = record {
+      asked = s.asked;
+      allowed = s.allowed;
+      zeroed = s.zeroed;
+      sound = behind.sound;
+      start = behind.start ∙ s.start;
+      end = behind.end ∙ s.end;
+      live =
+          behind.live
+          ∙ ap (without_live old) (s.live ∙ ap (λ b. if b then live_blocks heap.blocks else insert_live (served.choice.at, bytes_asked served.choice.ask) (live_blocks heap.blocks)) named)
+          ∙ sym (ap (λ b. with_replaced b (replaced served.choice.ask)) named ∙ ap (with_replaced false) (ap replaced s.asked ∙ is));
     }
 
-pub answers-first : (env : Env) (heap after : Heap) (size at : ℕ) (zeroed : Bool) → IsHeap heap → zeroed ≡ (treatment_of env).zeroes → Some at ≡ spot env heap size → after ≡ with_block heap (live_block at size (treatment_of env).side) → Answers env heap size (record { at = at; zeroed = zeroed }) after
-answers-first env heap after size at zeroed sound zeroes is new =
-    subst (λ b. Answers env heap size (record { at = at; zeroed = b }) after) (sym zeroes)
-    (subst (Answers env heap size (served_at env heap size at).choice) (sym new) (answers-as env heap size (served_at env heap size at) sound (malloc-first env heap size at is)))
+-- what is so of each answer to an ask
+pub ask-serves : (env : Env) (heap : Heap) (ask : Ask) (served : Served) → IsHeap heap → served_ask env heap ask ≡ Some served → Serves env heap ask served
+unfolding served_ask
+ask-serves env heap ask served sound is = of_replaced (replaced ask) refl is
+  where
+    block : Served
+    block = served_block env heap ask
 
-pub answers-again : (env : Env) (heap left after : Heap) (size at : ℕ) (zeroed : Bool) → IsHeap heap → zeroed ≡ (treatment_of env).zeroes → None ≡ spot env heap size → left ≡ recycled heap → Some at ≡ spot env left size → after ≡ with_block left (live_block at size (treatment_of env).side) → Answers env heap size (record { at = at; zeroed = zeroed }) after
-answers-again env heap left after size at zeroed sound zeroes none emptied is new =
-    subst (λ b. Answers env heap size (record { at = at; zeroed = b }) after) (sym zeroes)
-    (subst (Answers env heap size (served_at env (recycled heap) size at).choice)
-    (sym (new ∙ ap (λ h. with_block h (live_block at size (treatment_of env).side)) emptied))
-    (answers-as env heap size (served_at env (recycled heap) size at) sound (malloc-again env heap size at none (is ∙ ap (λ h. spot env h size) emptied))))
+    over : (old : ℕ) → replaced ask ≡ Some old → (b : Bool) → (if b then Some (in_place_of env old block) else None) ≡ Some served → Serves env heap ask served
+    over old e true h = subst (Serves env heap ask) (same_Some (in_place_of env old block) served h) (serves-over env heap ask old block e (block-places env heap ask sound))
+    over old e false h = absurd (cc h)
 
-pub answers-null : (env : Env) (heap left after : Heap) (size : ℕ) → IsHeap heap → None ≡ spot env heap size → left ≡ recycled heap → None ≡ spot env left size → after ≡ left → Answers env heap size (record { at = 0; zeroed = false }) after
-answers-null env heap left after size sound none emptied again new =
-    subst (Answers env heap size (served_null (recycled heap)).choice) (sym (new ∙ emptied))
-    (answers-as env heap size (served_null (recycled heap)) sound (malloc-null env heap size none (again ∙ ap (λ h. spot env h size) emptied)))
+    of_replaced : (o : Option ℕ) → replaced ask ≡ o → served_over env heap ask o ≡ Some served → Serves env heap ask served
+    of_replaced None e h = subst (Serves env heap ask) (same_Some block served h) (serves-new env heap ask block e (block-places env heap ask sound))
+    of_replaced (Some old) e h = over old e (is_live_at heap old) h
+
+-- a realloc of what isn't null replaces that
+pub replaces : (old size : ℕ) → (old ≡ 0 → ⊥) → replaced (Realloc old size) ≡ Some old
+replaces old size named = ap (λ b. if b then None else Some old) (ne_eqb old 0 named)
+
+pub replaces-none : (old size : ℕ) → old ≡ 0 → replaced (Realloc old size) ≡ None
+replaces-none old size null = ap (λ b. if b then None else Some old) (eq-eqb old 0 null)
+
+-- an answer, by the block that it replaces
+pub served-new : (env : Env) (heap : Heap) (ask : Ask) (served : Served) → replaced ask ≡ None → served_block env heap ask ≡ served → served_ask env heap ask ≡ Some served
+unfolding served_ask
+served-new env heap ask served none is = ap (served_over env heap ask) none ∙ ap Some is
+
+pub served-in_place : (env : Env) (heap : Heap) (ask : Ask) (old : ℕ) (served : Served) → replaced ask ≡ Some old → is_live_at heap old ≡ true → in_place_of env old (served_block env heap ask) ≡ served → served_ask env heap ask ≡ Some served
+unfolding served_ask
+served-in_place env heap ask old served over lives is =
+    ap (served_over env heap ask) over ∙ ap (λ b. if b then Some (in_place_of env old (served_block env heap ask)) else None) lives ∙ ap Some is
+
+pub served-bad : (env : Env) (heap : Heap) (ask : Ask) (old : ℕ) → replaced ask ≡ Some old → is_live_at heap old ≡ false → served_ask env heap ask ≡ None
+unfolding served_ask
+served-bad env heap ask old over none =
+    ap (served_over env heap ask) over ∙ ap (λ b. if b then Some (in_place_of env old (served_block env heap ask)) else None) none
+
+-- what a new block is, by its two tries
+pub block-many : (env : Env) (heap : Heap) (ask : Ask) → nat_lt (bytes_asked ask) (2 ^ 32) ≡ false → served_block env heap ask ≡ served_null heap ask
+unfolding served_block
+block-many env heap ask many = ap (λ b. if b then served_in env heap ask (served_in env (recycled heap) ask (served_null (recycled heap) ask)) else served_null heap ask) many
+
+block-few : (env : Env) (heap : Heap) (ask : Ask) → nat_lt (bytes_asked ask) (2 ^ 32) ≡ true → served_block env heap ask ≡ served_in env heap ask (served_in env (recycled heap) ask (served_null (recycled heap) ask))
+unfolding served_block
+block-few env heap ask few = ap (λ b. if b then served_in env heap ask (served_in env (recycled heap) ask (served_null (recycled heap) ask)) else served_null heap ask) few
+
+-- so many bytes that an ask's number of them is this
+pub record IsSized (ask : Ask) (size : ℕ) : Type 0 where
+  pub is : size ≡ bytes_asked ask
+  pub few : size < 2 ^ 32
+
+few-bytes : (ask : Ask) (size : ℕ) → IsSized ask size → nat_lt (bytes_asked ask) (2 ^ 32) ≡ true
+few-bytes ask size sized = let is = sized.is in let few = sized.few in lt-ltb (bytes_asked ask) (2 ^ 32) (omega arith)
+
+-- what the code makes of its two tries
+abbrev with_marks : Ask → ℕ → Bool → Heap → Served
+with_marks ask at zeroed heap = record { choice = record { ask = ask; at = at; zeroed = zeroed }; heap = heap }
+
+pub block-first : (env : Env) (heap after : Heap) (ask : Ask) (size at : ℕ) (zeroed : Bool) → IsSized ask size → zeroed ≡ ((treatment_of env).zeroes || is_calloc ask) → Some at ≡ spot env heap size → after ≡ with_block heap (live_block at size (treatment_of env).side) → served_block env heap ask ≡ with_marks ask at zeroed after
+block-first env heap after ask size at zeroed sized zeroes is new =
+    block-few env heap ask (few-bytes ask size sized)
+    ∙ ap (λ o. option_map_or (served_at env heap ask) o (served_in env (recycled heap) ask (served_null (recycled heap) ask))) (ap (spot env heap) (sym sized.is) ∙ sym is)
+    ∙ ap (λ b. with_marks ask at b (with_block heap (live_block at (bytes_asked ask) (treatment_of env).side))) (sym zeroes)
+    ∙ ap (λ n. with_marks ask at zeroed (with_block heap (live_block at n (treatment_of env).side))) (sym sized.is)
+    ∙ ap (with_marks ask at zeroed) (sym new)
+
+pub block-again : (env : Env) (heap left after : Heap) (ask : Ask) (size at : ℕ) (zeroed : Bool) → IsSized ask size → zeroed ≡ ((treatment_of env).zeroes || is_calloc ask) → None ≡ spot env heap size → left ≡ recycled heap → Some at ≡ spot env left size → after ≡ with_block left (live_block at size (treatment_of env).side) → served_block env heap ask ≡ with_marks ask at zeroed after
+block-again env heap left after ask size at zeroed sized zeroes none emptied is new =
+    block-few env heap ask (few-bytes ask size sized)
+    ∙ ap (λ o. option_map_or (served_at env heap ask) o (served_in env (recycled heap) ask (served_null (recycled heap) ask))) (ap (spot env heap) (sym sized.is) ∙ sym none)
+    ∙ ap (λ o. option_map_or (served_at env (recycled heap) ask) o (served_null (recycled heap) ask)) (ap (spot env (recycled heap)) (sym sized.is) ∙ ap (λ h. spot env h size) (sym emptied) ∙ sym is)
+    ∙ ap (λ b. with_marks ask at b (with_block (recycled heap) (live_block at (bytes_asked ask) (treatment_of env).side))) (sym zeroes)
+    ∙ ap (λ n. with_marks ask at zeroed (with_block (recycled heap) (live_block at n (treatment_of env).side))) (sym sized.is)
+    ∙ ap (λ h. with_marks ask at zeroed (with_block h (live_block at size (treatment_of env).side))) (sym emptied)
+    ∙ ap (with_marks ask at zeroed) (sym new)
+
+pub block-null : (env : Env) (heap left after : Heap) (ask : Ask) (size : ℕ) → IsSized ask size → None ≡ spot env heap size → left ≡ recycled heap → None ≡ spot env left size → after ≡ left → served_block env heap ask ≡ with_marks ask 0 false after
+block-null env heap left after ask size sized none emptied again new =
+    block-few env heap ask (few-bytes ask size sized)
+    ∙ ap (λ o. option_map_or (served_at env heap ask) o (served_in env (recycled heap) ask (served_null (recycled heap) ask))) (ap (spot env heap) (sym sized.is) ∙ sym none)
+    ∙ ap (λ o. option_map_or (served_at env (recycled heap) ask) o (served_null (recycled heap) ask)) (ap (spot env (recycled heap)) (sym sized.is) ∙ ap (λ h. spot env h size) (sym emptied) ∙ sym again)
+    ∙ ap (with_marks ask 0 false) (sym emptied ∙ sym new)

@@ -1,26 +1,28 @@
 -- What holds of the answers in every environment.
-use Rattle.std.specs.Prelude.{◌≡◌, ℕ, true, not, ◌&&◌, Some, ◌==◌}
-use Rattle.alloc_env.specs.Terms.{is_allowed, live_blocks, without_live, Heap, IsHeap}
+use Rattle.std.specs.Prelude.{◌≡◌, ℕ, true, not, ◌&&◌, ◌||◌, Some, ◌==◌}
+use Rattle.alloc_env.specs.Terms.{Ask, is_allowed, is_calloc, live_blocks, live_with, without_live, Heap, IsHeap}
 use Rattle.alloc_env.specs.declared.env.Env.{Env}
 use Rattle.alloc_env.specs.Treatment.{treatment_of}
-use Rattle.alloc_env.specs.Serving.{Served, served_malloc, served_free, live_with}
+use Rattle.alloc_env.specs.Serving.{Served, served_ask, served_free}
 
--- what is so of an answer of malloc and the heap after it
-pub record Serves (env : Env) (heap : Heap) (size : ℕ) (served : Served) : Type 0 where
+-- what is so of an answer to an ask, and of the heap after it
+pub record Serves (env : Env) (heap : Heap) (ask : Ask) (served : Served) : Type 0 where
+  -- it is one to that ask
+  pub asked : served.choice.ask ≡ ask
   -- C allows it
-  pub allowed : is_allowed heap.start heap.end (live_blocks heap.blocks) size served.choice ≡ true
-  -- it is zeroed exactly where the environment zeroes and it isn't null
-  pub zeroed : served.choice.zeroed ≡ ((treatment_of env).zeroes && not (served.choice.at == 0))
+  pub allowed : is_allowed heap.start heap.end (live_blocks heap.blocks) ask served.choice ≡ true
+  -- it is zeroed exactly where the environment zeroes or calloc asked, and it isn't null
+  pub zeroed : served.choice.zeroed ≡ (((treatment_of env).zeroes || is_calloc ask) && not (served.choice.at == 0))
   -- the heap is one, and has its ends
   pub sound : IsHeap served.heap
   pub start : served.heap.start ≡ heap.start
   pub end : served.heap.end ≡ heap.end
-  -- the block is live from now on, and nothing else changes among the live ones
-  pub live : live_blocks served.heap.blocks ≡ live_with served.choice size (live_blocks heap.blocks)
+  -- the block is live from now on, the one that it replaces isn't any more, and nothing else changes among the live ones
+  pub live : live_blocks served.heap.blocks ≡ live_with served.choice (live_blocks heap.blocks)
 
--- that is so of malloc in each environment and in each heap
-abbrev pub MallocServes : Type 0
-MallocServes = (env : Env) (heap : Heap) (size : ℕ) → IsHeap heap → Serves env heap size (served_malloc env heap size)
+-- that is so of each ask that is answered, in each environment and in each heap
+abbrev pub AskServes : Type 0
+AskServes = (env : Env) (heap : Heap) (ask : Ask) (served : Served) → IsHeap heap → served_ask env heap ask ≡ Some served → Serves env heap ask served
 
 -- what is so of a heap after a free
 pub record Follows (heap : Heap) (at : ℕ) (after : Heap) : Type 0 where

@@ -1,11 +1,11 @@
--- The answers of malloc and free in an environment, as functions.
-use Rattle.std.specs.Prelude.{◌≡◌, ℕ, ◌+◌, ◌-◌, ◌/◌, false, List, Option, Some, None, Result, Ok, Err, ◌==◌, if◌then◌else◌}
-use Rattle.alloc_env.specs.Terms.{option_map_or, option_or, Choice, Standing, Delayed, Live, Nothing, insert_live, live_block, Heap, recycled, standing_at, with_block, with_delayed, without_block, placement}
+-- The answers of the allocator in an environment, as functions.
+use Rattle.std.specs.Prelude.{◌≡◌, ℕ, ◌+◌, ◌-◌, ◌/◌, ◌^◌, false, ◌||◌, Option, Some, None, Result, Ok, Err, nat_lt, ◌==◌, if◌then◌else◌}
+use Rattle.alloc_env.specs.Terms.{option_map_or, option_or, Ask, Choice, Standing, Delayed, Live, Nothing, bytes_asked, is_calloc, replaced, live_block, Heap, is_live_at, recycled, standing_at, with_block, with_delayed, without_block, placement}
 use Rattle.alloc_env.specs.declared.env.Env.{Env}
 use Rattle.alloc_env.specs.declared.bad_free.BadFree.{BadFree}
 use Rattle.alloc_env.specs.Treatment.{treatment_of}
 
--- an answer of malloc, and the heap after it
+-- an answer, and the heap after it
 pub record Served : Type 0 where
   pub choice : Choice
   pub heap : Heap
@@ -22,26 +22,45 @@ spot env heap size =
     let anywhere = placement heap size treatment.side 0 in
     if treatment.isolates then option_or (placement heap size treatment.side (middle heap)) anywhere else anywhere
 
--- a block is placed at an address, and is to be set to 0 where the environment zeroes
-abbrev pub served_at : Env → Heap → ℕ → ℕ → Served
-served_at env heap size at = record {
-  choice = record { at = at; zeroed = (treatment_of env).zeroes };
-  heap = with_block heap (live_block at size (treatment_of env).side);
+-- a block is placed at an address, and is to be set to 0 where the environment zeroes, or where calloc asks for it
+abbrev pub served_at : Env → Heap → Ask → ℕ → Served
+served_at env heap ask at = record {
+  choice = record { ask = ask; at = at; zeroed = (treatment_of env).zeroes || is_calloc ask };
+  heap = with_block heap (live_block at (bytes_asked ask) (treatment_of env).side);
 }
 
 -- the answer is null
-abbrev pub served_null : Heap → Served
-served_null heap = record { choice = record { at = 0; zeroed = false }; heap = heap }
+abbrev pub served_null : Heap → Ask → Served
+served_null heap ask = record { choice = record { ask = ask; at = 0; zeroed = false }; heap = heap }
 
--- malloc: where the block goes nowhere all delayed blocks are recycled, and it is tried once more
-unfoldable pub served_malloc : Env → Heap → ℕ → Served
-served_malloc env heap size =
-    let again = option_map_or (served_at env (recycled heap) size) (spot env (recycled heap) size) (served_null (recycled heap)) in
-    option_map_or (served_at env heap size) (spot env heap size) again
+-- a block is placed in a heap where it goes anywhere, and else the answer is another one
+abbrev pub served_in : Env → Heap → Ask → Served → Served
+served_in env heap ask otherwise = option_map_or (served_at env heap ask) (spot env heap (bytes_asked ask)) otherwise
+
+-- A new block: where it goes nowhere all delayed blocks are recycled, and it is tried once more. More than 4,294,967,295 bytes go nowhere,
+-- and nothing is recycled for them.
+unfoldable pub served_block : Env → Heap → Ask → Served
+served_block env heap ask =
+    if nat_lt (bytes_asked ask) (2 ^ 32)
+    then served_in env heap ask (served_in env (recycled heap) ask (served_null (recycled heap) ask))
+    else served_null heap ask
 
 -- a live block is freed, or delayed where the environment delays
 abbrev pub freed : Env → Heap → ℕ → Heap
 freed env heap at = if (treatment_of env).delays then with_delayed heap at else without_block heap at
+
+-- the block that an answer stands in place of is freed, unless the answer is null
+abbrev pub in_place_of : Env → ℕ → Served → Served
+in_place_of env old served = if served.choice.at == 0 then served else record served { heap = freed env served.heap old }
+
+-- a new block, in place of the one at an address if there is to be one; None where no live block stands there
+abbrev pub served_over : Env → Heap → Ask → Option ℕ → Option Served
+served_over env heap ask None = Some (served_block env heap ask)
+served_over env heap ask (Some old) = if is_live_at heap old then Some (in_place_of env old (served_block env heap ask)) else None
+
+-- the answer to an ask; None where it is to replace what is no live block. While a new block is placed the old one stands.
+unfoldable pub served_ask : Env → Heap → Ask → Option Served
+served_ask env heap ask = served_over env heap ask (replaced ask)
 
 -- free of an address at which this stands: a delayed block stays where the environment delays, and every other free is bad
 abbrev pub freed_by : Env → Heap → ℕ → Standing → Option Heap
@@ -53,11 +72,12 @@ freed_by env heap at (Delayed size) = if (treatment_of env).delays then Some hea
 unfoldable pub served_free : Env → Heap → ℕ → Option Heap
 served_free env heap at = if at == 0 then Some heap else freed_by env heap at (standing_at heap at)
 
+-- an ask was answered so and made the new heap of the old one, or it was bad and nothing changed
+abbrev pub Answers : Env → Ask → Heap → Heap → Result Choice BadFree → Type 0
+Answers env ask old new (Ok choice) = served_ask env old ask ≡ Some (record { choice = choice; heap = new })
+Answers env ask old new (Err e) = (served_ask env old ask ≡ None) × (new ≡ old)
+
 -- a free made the new heap of the old one, or it was bad and nothing changed
 abbrev pub Frees : Env → ℕ → Heap → Heap → Result (Unit {0}) BadFree → Type 0
 Frees env at old new (Ok done) = served_free env old at ≡ Some new
 Frees env at old new (Err e) = (served_free env old at ≡ None) × (new ≡ old)
-
--- the live blocks after an answer of malloc: one more, unless the answer is null
-abbrev pub live_with : Choice → ℕ → List (ℕ × ℕ) → List (ℕ × ℕ)
-live_with choice size live = if choice.at == 0 then live else insert_live (choice.at, size) live

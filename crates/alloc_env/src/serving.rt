@@ -1,39 +1,75 @@
-// The answers of malloc and free in an environment.
-ghost use Rattle.std.specs.Prelude.{◌≡◌, ◌<◌, ◌^◌, true, OnOk, MatchOption};
+// The answers of the allocator in an environment.
+ghost use Rattle.std.specs.Prelude.{◌≡◌, ◌||◌, ◌<◌, ◌^◌, true, Some, OnOk, IfOk, MatchOption};
+ghost use Rattle.block_book.specs.declared.choice.Ask.TheVariants.{Malloc, Calloc, Realloc};
 ghost use Rattle.block_book.specs.Block.{live_block};
-ghost use Rattle.block_book.specs.Heap.{SameEnds, with_block, is_live_at};
-ghost use Rattle.block_book.specs.Answer.{live_blocks, is_allowed, without_live};
+ghost use Rattle.block_book.specs.Heap.{IsHeap, SameEnds, with_block, is_live_at};
+ghost use Rattle.block_book.specs.Answer.{live_blocks, is_allowed, is_calloc, without_live, live_with};
 ghost use Rattle.alloc_env.specs.Treatment.{treatment_of};
-ghost use Rattle.alloc_env.specs.Serving.{middle, spot, served_malloc, freed, Frees, live_with};
+ghost use Rattle.alloc_env.specs.Serving.{middle, spot, served_block, served_ask, in_place_of, freed, Answers, Frees};
 
 use crate::bad_free::BadFree;
 use crate::env::Env;
-use block_book::{Book, Choice, Standing};
+use block_book::{Ask, Book, Choice, Standing};
+
+/// The answer to an ask in an environment, by the three calls below.
+pub fn serve_ask(env: Env, book: &mut Book, ask: Ask) -> Result<Choice, BadFree>
+    ensures answer { Answers env ask book.old book.new result }
+    ensures allowed { IfOk result (λ choice. is_allowed book.old.start book.old.end (live_blocks book.old.blocks) ask choice ≡ true) }
+    ensures live { IfOk result (λ choice. live_blocks book.new.blocks ≡ live_with choice (live_blocks book.old.blocks)) }
+    ensures ends { SameEnds book.old book.new }
+{
+    match ask {
+        Ask::Malloc { size } => Ok(serve_malloc(env, book, size)),
+        Ask::Calloc { count, size } => Ok(serve_calloc(env, book, count, size)),
+        Ask::Realloc { old, size } => serve_realloc(env, book, old, size),
+    }
+}
 
 /// The answer of malloc to a size, in an environment. Where the block goes nowhere all delayed blocks are recycled, and it is tried
 /// once more; where it goes nowhere then either, the answer is null.
 pub fn serve_malloc(env: Env, book: &mut Book, size: u32) -> Choice
-    ensures choice { result ≡ (served_malloc env book.old size).choice }
-    ensures heap { book.new ≡ (served_malloc env book.old size).heap }
+    ensures answer { served_ask env book.old (Malloc size) ≡ Some (record { choice = result; heap = book.new }) }
 
     // ISO C allows each answer, and the block is live then.
-    ensures allowed { is_allowed book.old.start book.old.end (live_blocks book.old.blocks) size result ≡ true }
-    ensures live { live_blocks book.new.blocks ≡ live_with result size (live_blocks book.old.blocks) }
+    ensures allowed { is_allowed book.old.start book.old.end (live_blocks book.old.blocks) (Malloc size) result ≡ true }
+    ensures live { live_blocks book.new.blocks ≡ live_with result (live_blocks book.old.blocks) }
     ensures ends { SameEnds book.old book.new }
 {
-    book.sound();
-    let zeroed = env.treatment().zeroes;
-    if let Some(at) = place_by(env, book, size) {
-        return Choice { at, zeroed };
+    new_block(env, book, Ask::Malloc { size })
+}
+
+/// The answer of calloc to a count of elements of a size, as that of malloc to their bytes; the block is zeroed in every environment. Where
+/// they are more than 4,294,967,295 the answer is null, and nothing is recycled.
+pub fn serve_calloc(env: Env, book: &mut Book, count: u32, size: u32) -> Choice
+    ensures answer { served_ask env book.old (Calloc count size) ≡ Some (record { choice = result; heap = book.new }) }
+
+    // ISO C allows each answer, and the block is live then.
+    ensures allowed { is_allowed book.old.start book.old.end (live_blocks book.old.blocks) (Calloc count size) result ≡ true }
+    ensures live { live_blocks book.new.blocks ≡ live_with result (live_blocks book.old.blocks) }
+    ensures ends { SameEnds book.old book.new }
+{
+    new_block(env, book, Ask::Calloc { count, size })
+}
+
+/// The answer of realloc to an address and a size, in an environment. Of null it is that of malloc. Else the new block is placed as by
+/// malloc while the old one stands, which is freed then, unless the answer is null. An address at which no live block stands is bad, and
+/// nothing changed.
+pub fn serve_realloc(env: Env, book: &mut Book, old: u32, size: u32) -> Result<Choice, BadFree>
+    ensures answer { Answers env (Realloc old size) book.old book.new result }
+
+    // ISO C allows each answer; the block is live then, and the old one isn't.
+    ensures allowed { IfOk result (λ choice. is_allowed book.old.start book.old.end (live_blocks book.old.blocks) (Realloc old size) choice ≡ true) }
+    ensures live { IfOk result (λ choice. live_blocks book.new.blocks ≡ live_with choice (live_blocks book.old.blocks)) }
+    ensures ends { SameEnds book.old book.new }
+{
+    let ask = Ask::Realloc { old, size };
+    if old == 0 {
+        return Ok(new_block(env, book, ask));
     }
-    book.recycle();
-    match place_by(env, book, size) {
-        Some(at) => Choice { at, zeroed },
-        None => Choice {
-            at: 0,
-            zeroed: false,
-        },
+    if !is_live(book, old) {
+        return Err(BadFree);
     }
+    Ok(block_in_place(env, book, ask, old))
 }
 
 /// Frees the block at an address, in an environment. Free of null does nothing, and so does free of a delayed block where the
@@ -99,4 +135,63 @@ fn free_live(env: Env, book: &mut Book, at: u32)
     } else {
         book.release(at)
     };
+}
+
+// Whether a live block stands at an address.
+fn is_live(book: &Book, at: u32) -> bool
+    ensures { result ≡ is_live_at book.now at }
+{
+    book.sound();
+    match book.find(at) {
+        Standing::Live(_) => true,
+        Standing::Delayed(_) => false,
+        Standing::Nothing => false,
+    }
+}
+
+// Whether the bytes of a new block are to be set to 0.
+fn zeroes(env: Env, ask: Ask) -> bool
+    ensures { result ≡ ((treatment_of env).zeroes || is_calloc ask) }
+{
+    env.treatment().zeroes || ask.is_calloc()
+}
+
+// The answer to an ask as a new block, whatever it is to replace.
+fn new_block(env: Env, book: &mut Book, ask: Ask) -> Choice
+    ensures answer { served_block env book.old ask ≡ record { choice = result; heap = book.new } }
+    ensures heap { IsHeap book.old }
+    ensures ends { SameEnds book.old book.new }
+{
+    book.sound();
+    let null = Choice {
+        ask,
+        at: 0,
+        zeroed: false,
+    };
+    let Some(size) = ask.bytes() else {
+        return null;
+    };
+    let zeroed = zeroes(env, ask);
+    if let Some(at) = place_by(env, book, size) {
+        return Choice { ask, at, zeroed };
+    }
+    book.recycle();
+    match place_by(env, book, size) {
+        Some(at) => Choice { ask, at, zeroed },
+        None => null,
+    }
+}
+
+// The answer to an ask as a new block, in place of a live one.
+fn block_in_place(env: Env, book: &mut Book, ask: Ask, old: u32) -> Choice
+    requires { is_live_at book.old old ≡ true }
+    ensures answer { in_place_of env old (served_block env book.old ask) ≡ record { choice = result; heap = book.new } }
+    ensures heap { IsHeap book.old }
+    ensures ends { SameEnds book.old book.new }
+{
+    let choice = new_block(env, book, ask);
+    if choice.at != 0 {
+        free_live(env, book, old);
+    }
+    choice
 }

@@ -5,7 +5,7 @@ use std::test::Fail;
 // The window of 1 MiB, which the assembler's command takes.
 const WINDOW: u32 = 1 << 20;
 
-const NAMES: [&str; 15] = [
+const NAMES: [&str; 17] = [
     "three",
     "echo",
     "counter",
@@ -21,6 +21,8 @@ const NAMES: [&str; 15] = [
     "late",
     "dirty",
     "keys",
+    "grow",
+    "stale_grow",
 ];
 
 #[test]

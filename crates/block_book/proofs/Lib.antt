@@ -7,3 +7,4 @@ pub mod Sound
 pub mod Finding
 pub mod Rooms
 pub mod Live
+pub mod Asks

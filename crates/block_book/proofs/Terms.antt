@@ -7,12 +7,15 @@ pub use Rattle.std.proofs.lemmas.Option.{MatchOption-at_some, same_Some, slice_g
 pub use Rattle.std.specs.List.{AllWithin, find, insert, list_all, list_any, range_with_len, remove}
 pub use Rattle.std.specs.List.Sorted.{IsNonDecreasingBy}
 pub use Rattle.std.specs.Option.{MatchOption, option_map}
+pub use Rattle.std.specs.Prelude.{is_some}
 pub use Rattle.block_book.specs.declared.block.Block.{Block}
-pub use Rattle.block_book.specs.declared.standing.Standing.TheVariants.{Nothing}
+pub use Rattle.block_book.specs.declared.choice.Ask.{Ask}
+pub use Rattle.block_book.specs.declared.choice.Ask.TheVariants.{Calloc, Malloc, Realloc}
+pub use Rattle.block_book.specs.declared.standing.Standing.TheVariants.{Delayed, Live, Nothing}
 pub use Rattle.block_book.specs.Block.{IsAligned, extent_end, extent_start, is_apart, lies_in, live_block, touched}
 unfoldable pub use Rattle.block_book.specs.Block.{reserved_size}
 pub use Rattle.block_book.specs.Heap.{Heap, IsHeap, StandWithin, delayed_at, heap_of, insert_block, is_bare, is_held, is_live_at, is_reserved, most_blocks, recycled, standing_at, standing_of, with_block, with_delayed, without_block}
 unfoldable pub use Rattle.block_book.specs.Placement.{fit, fits, placement}
-pub use Rattle.block_book.specs.Answer.{insert_live, live_blocks, without_live}
+pub use Rattle.block_book.specs.Answer.{insert_live, live_blocks, same_ask, size_at, without_live}
 unfoldable pub use Rattle.block_book.specs.Answer.{is_clear}
 pub use Rattle.block_book.specs.Search.{FindsLive, HasRoom, passed}

@@ -4,7 +4,7 @@ ghost use Rattle.std.specs.List.{list_all};
 ghost use Rattle.block_book.specs.Block.{reserved_size, touched, is_apart, lies_in, live_block};
 ghost use Rattle.block_book.specs.Heap.{IsHeap, empty_heap, most_blocks, with_block, without_block, with_delayed, recycled, standing_at, is_live_at, is_held, is_reserved, is_bare, SameEnds};
 ghost use Rattle.block_book.specs.Placement.{fit, placement};
-ghost use Rattle.block_book.specs.Answer.{live_blocks, is_clear};
+ghost use Rattle.block_book.specs.Answer.{live_blocks, is_clear, size_at};
 ghost use Rattle.block_book.specs.Search.{passed, FindsLive, HasRoom};
 
 use crate::block::{Block, reserved_size};
@@ -166,6 +166,19 @@ impl Book {
             Some(block) if block.at == at => block.standing(),
             _ => Standing::Nothing,
         }
+    }
+
+    /// The size of the live block at an address, if one stands there.
+    pub fn live_size(&self, at: u32) -> Option<u32>
+        ensures { result ≡ size_at at (live_blocks self.now.blocks) }
+    {
+        let Some(block) = self.reached(at) else {
+            return None;
+        };
+        if !block.is_live_at(at) {
+            return None;
+        }
+        Some(block.size)
     }
 
     /// Whether so many bytes from an address on lie in the extent of one block, live or delayed.

@@ -1,4 +1,4 @@
-//! The blocks of one heap: which stand, where a new one is placed, and what C allows malloc to answer.
+//! The blocks of one heap: which stand, where a new one is placed, and what C allows the allocator to answer to an ask.
 //!
 //! Live blocks stand in one list with delayed ones, which were freed and are kept from use.
 //! A block's extent has its padding on both sides, and no two share a byte.
@@ -15,5 +15,5 @@ pub mod laws;
 mod standing;
 
 pub use book::Book;
-pub use choice::{Choice, Choices};
+pub use choice::{Ask, Choice, Choices};
 pub use standing::Standing;

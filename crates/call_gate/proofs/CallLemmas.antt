@@ -1,15 +1,11 @@
 -- What a machine does at a call, by the call that its registers make and by what the check of its buffer says.
-use Rattle.call_gate.proofs.Terms.{Bool, Err, List, None, Ok, Option, Result, Some, ap, cond, eqb, false, inl, inr, ltb, not, refl, subst, sym, true, ℕ, ◌∙◌, ◌≡◌, cases_Bool, cond_both, eqb-true, true≢false, ◌&&◌, ◌||◌, ◌⊎◌, Item, Choice, Heap, Area, bytes_at, permitted, read, write, Cause, AssertFailed, BadAccess, BadCall, answered, call, free, malloc, may_send, recv, send, takes, Effect, Emits, Ends, Fails, Goes, Machine, register, Free, Limits, Malloc, Nothing, Request, is_refused, Range, buffer, call_buffer, Call, called, Buffer, buffer_of, checked, is_permitted}
+use Rattle.call_gate.proofs.Terms.{Bool, Err, List, None, Ok, Option, Result, Some, ap, cond, eqb, false, inl, inr, ltb, not, refl, subst, sym, true, ℕ, ◌∙◌, ◌≡◌, cases_Bool, cond_both, eqb-true, true≢false, ◌&&◌, ◌||◌, ◌⊎◌, Item, Calloc, Malloc, Realloc, Choice, Heap, Area, bytes_at, permitted, read, write, Cause, AssertFailed, BadAccess, BadCall, allocation, answered, call, free, may_send, recv, send, takes, Effect, Emits, Ends, Fails, Goes, Machine, register, Allocate, Free, Limits, Nothing, Request, call_request, is_refused, Range, buffer, call_buffer, Call, called, Buffer, buffer_of, checked, is_permitted}
 use Rattle.call_gate.specs.declared.call.Call.TheVariants as kind
-
--- what the call of a number asks of the allocator
-abbrev pub request_at : ℕ → Machine → Request
-request_at n m = cond (eqb n 3) (Malloc (register m 10)) (cond (eqb n 4) (Free (register m 10)) Nothing)
 
 -- a machine at a call of a number: what it does, what it asks of the allocator, and which bytes it touches
 pub record Acts (n : ℕ) (m : Machine) (acts : Option Item → Option Choice → Effect) (request : Request) (range : Option Range) : Type 0 where
   pub does : (item : Option Item) (choice : Option Choice) → call n item choice m ≡ acts item choice
-  pub asks : request_at n m ≡ request
+  pub asks : call_request n m ≡ request
   pub touches : call_buffer n m ≡ range
 
 -- the bytes of a send, unless it is answered before they are looked at
@@ -20,17 +16,17 @@ sent m conn at len = cond (ltb 65535 len || not (may_send m conn)) None (buffer 
 abbrev pub CallIs : ℕ → Machine → Result Call Cause → Type 0
 CallIs n m (Ok (kind.Recv at len)) = (at ≡ register m 10) × (len ≡ register m 11) × Acts n m (λ item choice. recv item m) Nothing (buffer at len)
 CallIs n m (Ok (kind.Send conn at len)) = (conn ≡ register m 10) × (at ≡ register m 11) × (len ≡ register m 12) × Acts n m (λ item choice. send m) Nothing (sent m conn at len)
-CallIs n m (Ok (kind.Malloc size)) = (size ≡ register m 10) × Acts n m (λ item choice. malloc choice m) (Malloc size) None
+CallIs n m (Ok (kind.Allocate ask)) = Acts n m (λ item choice. allocation ask choice m) (Allocate ask) None
 CallIs n m (Ok (kind.Free at)) = (at ≡ register m 10) × Acts n m (λ item choice. free m) (Free at) None
 CallIs n m (Ok (kind.Exit code)) = (code ≡ register m 10) × Acts n m (λ item choice. Ends code) Nothing None
 CallIs n m (Ok (kind.Assert code)) = (code ≡ register m 10) × Acts n m (λ item choice. Fails (AssertFailed code)) Nothing None
 CallIs n m (Err cause) = (cause ≡ BadCall) × Acts n m (λ item choice. Fails cause) Nothing None
 
 -- a number that no call has
-acts_badly : (n : ℕ) (m : Machine) → eqb n 1 ≡ false → eqb n 2 ≡ false → eqb n 3 ≡ false → eqb n 4 ≡ false → eqb n 5 ≡ false → eqb n 6 ≡ false → Acts n m (λ item choice. Fails BadCall) Nothing None
-acts_badly n m one two three four five six = record {
-  does = (λ item choice. rw (one, two, three, four, five, six) refl);
-  asks = rw (three, four) refl;
+acts_badly : (n : ℕ) (m : Machine) → eqb n 1 ≡ false → eqb n 2 ≡ false → eqb n 3 ≡ false → eqb n 4 ≡ false → eqb n 5 ≡ false → eqb n 6 ≡ false → eqb n 7 ≡ false → eqb n 8 ≡ false → Acts n m (λ item choice. Fails BadCall) Nothing None
+acts_badly n m one two three four five six seven eight = record {
+  does = (λ item choice. rw (one, two, three, four, five, six, seven, eight) refl);
+  asks = rw (three, four, seven, eight) refl;
   touches = rw (one, two) refl;
 }
 
@@ -39,23 +35,29 @@ call_of : (n : ℕ) (m : Machine)
     → CallIs n m
     (cond (eqb n 1) (Ok (kind.Recv (register m 10) (register m 11)))
     (cond (eqb n 2) (Ok (kind.Send (register m 10) (register m 11) (register m 12)))
-    (cond (eqb n 3) (Ok (kind.Malloc (register m 10)))
+    (cond (eqb n 3) (Ok (kind.Allocate (Malloc (register m 10))))
     (cond (eqb n 4) (Ok (kind.Free (register m 10)))
-    (cond (eqb n 5) (Ok (kind.Exit (register m 10))) (cond (eqb n 6) (Ok (kind.Assert (register m 10))) (Err BadCall)))))))
+    (cond (eqb n 5) (Ok (kind.Exit (register m 10)))
+    (cond (eqb n 6) (Ok (kind.Assert (register m 10)))
+    (cond (eqb n 7) (Ok (kind.Allocate (Calloc (register m 10) (register m 11)))) (cond (eqb n 8) (Ok (kind.Allocate (Realloc (register m 10) (register m 11)))) (Err BadCall)))))))))
 call_of n m =
     cond_both (eqb n 1) _ _ (CallIs n m)
     (λ is. (refl, refl, subst (λ n. Acts n m (λ item choice. recv item m) Nothing (buffer (register m 10) (register m 11))) (sym (eqb-true n 1 is)) (record { does = (λ item choice. refl); asks = refl; touches = refl })))
     (λ one. cond_both (eqb n 2) _ _ (CallIs n m)
     (λ is. (refl, refl, refl, subst (λ n. Acts n m (λ item choice. send m) Nothing (sent m (register m 10) (register m 11) (register m 12))) (sym (eqb-true n 2 is)) (record { does = (λ item choice. refl); asks = refl; touches = refl })))
     (λ two. cond_both (eqb n 3) _ _ (CallIs n m)
-    (λ is. (refl, subst (λ n. Acts n m (λ item choice. malloc choice m) (Malloc (register m 10)) None) (sym (eqb-true n 3 is)) (record { does = (λ item choice. refl); asks = refl; touches = refl })))
+    (λ is. subst (λ n. Acts n m (λ item choice. allocation (Malloc (register m 10)) choice m) (Allocate (Malloc (register m 10))) None) (sym (eqb-true n 3 is)) (record { does = (λ item choice. refl); asks = refl; touches = refl }))
     (λ three. cond_both (eqb n 4) _ _ (CallIs n m)
     (λ is. (refl, subst (λ n. Acts n m (λ item choice. free m) (Free (register m 10)) None) (sym (eqb-true n 4 is)) (record { does = (λ item choice. refl); asks = refl; touches = refl })))
     (λ four. cond_both (eqb n 5) _ _ (CallIs n m)
     (λ is. (refl, subst (λ n. Acts n m (λ item choice. Ends (register m 10)) Nothing None) (sym (eqb-true n 5 is)) (record { does = (λ item choice. refl); asks = refl; touches = refl })))
     (λ five. cond_both (eqb n 6) _ _ (CallIs n m)
     (λ is. (refl, subst (λ n. Acts n m (λ item choice. Fails (AssertFailed (register m 10))) Nothing None) (sym (eqb-true n 6 is)) (record { does = (λ item choice. refl); asks = refl; touches = refl })))
-    (λ six. (refl, acts_badly n m one two three four five six)))))))
+    (λ six. cond_both (eqb n 7) _ _ (CallIs n m)
+    (λ is. subst (λ n. Acts n m (λ item choice. allocation (Calloc (register m 10) (register m 11)) choice m) (Allocate (Calloc (register m 10) (register m 11))) None) (sym (eqb-true n 7 is)) (record { does = (λ item choice. refl); asks = refl; touches = refl }))
+    (λ seven. cond_both (eqb n 8) _ _ (CallIs n m)
+    (λ is. subst (λ n. Acts n m (λ item choice. allocation (Realloc (register m 10) (register m 11)) choice m) (Allocate (Realloc (register m 10) (register m 11))) None) (sym (eqb-true n 8 is)) (record { does = (λ item choice. refl); asks = refl; touches = refl }))
+    (λ eight. (refl, acts_badly n m one two three four five six seven eight)))))))))
 
 -- the call that the registers make
 pub call_is : (m : Machine) (result : Result Call Cause) → called m.registers ≡ result → CallIs (register m 17) m result
@@ -79,7 +81,7 @@ call_touches m (kind.Send conn at len) is = (call_is m _ is).3.touches ∙ answe
     answered_early : (early : Bool) → cond early None (buffer at len) ≡ range_of (cond early None (Some (record { flag = read; at = at; count = len })))
     answered_early true = refl
     answered_early false = refl
-call_touches m (kind.Malloc size) is = (call_is m _ is).1.touches
+call_touches m (kind.Allocate ask) is = (call_is m _ is).touches
 call_touches m (kind.Free at) is = (call_is m _ is).1.touches
 call_touches m (kind.Exit code) is = (call_is m _ is).1.touches
 call_touches m (kind.Assert code) is = (call_is m _ is).1.touches
@@ -137,7 +139,7 @@ call_fails m (kind.Recv at len) is bars item choice =
 call_fails m (kind.Send conn at len) is bars item choice =
     let c = call_is m _ is in
     c.3.does item choice ∙ send_as m conn at len c.0 c.1 c.2 ∙ sent_by m conn at len (ltb 65535 len) (not (may_send m conn)) false bars
-call_fails m (kind.Malloc size) is bars item choice = absurd (true≢false bars)
+call_fails m (kind.Allocate ask) is bars item choice = absurd (true≢false bars)
 call_fails m (kind.Free at) is bars item choice = absurd (true≢false bars)
 call_fails m (kind.Exit code) is bars item choice = absurd (true≢false bars)
 call_fails m (kind.Assert code) is bars item choice = absurd (true≢false bars)

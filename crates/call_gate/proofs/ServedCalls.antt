@@ -3,9 +3,10 @@ use Rattle.rv_isa.specs.declared.instr.Instr.{Instr}
 use Rattle.rv_isa.specs.declared.instr.Instr.TheVariants.{Ecall}
 use Rattle.rv_isa.specs.Table.{row}
 use Rattle.alloc_env.specs.declared.env.Env.{Env}
-use Rattle.alloc_env.specs.Serving.{served_malloc, served_free}
+use Rattle.block_book.specs.declared.choice.Ask.{Ask}
+use Rattle.alloc_env.specs.Serving.{Served, served_ask, served_free}
 use Rattle.run_history.specs.Run.{instruction, executed, word_at, does}
-use Rattle.call_gate.proofs.Terms.{Bool, Err, None, Ok, Option, Result, Some, ap, arith, cond, false, inl, inr, leb, refl, sym, true, ◌<◌, ◌∙◌, ◌≡◌, none-some, option_and_then, option_map, Item, Choice, Heap, execute, permitted, Cause, AssertFailed, BadAccess, BadFree, call, free, malloc, takes, Effect, Ends, Fails, Machine, register, Free, Grant, Guest, Limits, Malloc, Nothing, Request, does_with, grant, granted, is_refused, request_of, serves, call_buffer, instruction_at, touched, touched_by, Call, called, checked}
+use Rattle.call_gate.proofs.Terms.{Bool, Err, None, Ok, Option, Result, Some, ap, arith, cond, false, inl, inr, leb, refl, sym, true, ◌<◌, ◌∙◌, ◌≡◌, none-some, option_and_then, option_map, Item, Choice, Heap, execute, permitted, Cause, AssertFailed, BadAccess, BadFree, allocation, call, free, takes, Effect, Ends, Fails, Machine, register, Allocate, Free, Grant, Guest, Limits, Nothing, Request, does_with, grant, granted, is_refused, request_of, serves, call_buffer, instruction_at, touched, touched_by, Call, called, checked}
 use Rattle.call_gate.specs.declared.call.Call.TheVariants as kind
 use Rattle.call_gate.proofs.CallLemmas.{call_is, CheckSays, check_says, recv_takes, sends, send_sends}
 
@@ -60,11 +61,16 @@ abbrev pub frees : Option Heap → Machine → Effect
 frees None m = Fails BadFree
 frees (Some heap) m = free m
 
+-- an ask that the allocator refuses fails
+abbrev pub allocates : Option Served → Ask → Machine → Effect
+allocates None ask m = Fails BadFree
+allocates (Some served) ask m = allocation ask (Some served.choice) m
+
 -- what a guest does at a call whose buffer may be touched
 abbrev pub served_call : Env → Option Item → Guest → Call → Effect
 served_call env item guest (kind.Recv at len) = takes guest.machine item
 served_call env item guest (kind.Send conn at len) = sends guest.machine conn at len
-served_call env item guest (kind.Malloc size) = malloc (Some (served_malloc env guest.heap size).choice) guest.machine
+served_call env item guest (kind.Allocate ask) = allocates (served_ask env guest.heap ask) ask guest.machine
 served_call env item guest (kind.Free at) = frees (served_free env guest.heap at) guest.machine
 served_call env item guest (kind.Exit code) = Ends code
 served_call env item guest (kind.Assert code) = Fails (AssertFailed code)
@@ -91,11 +97,16 @@ serves_checked limits env item guest (kind.Send conn at len) stands h =
     let says = check_says limits guest.heap guest.machine (kind.Send conn at len) (Ok tt) stands.made_is h in
     served_by limits env item guest Nothing stands.early stands.fetched says.1 c.3.asks
     ∙ c.3.does item None ∙ send_sends guest.machine conn at len stands.made_is says.0
-serves_checked limits env item guest (kind.Malloc size) stands h =
+serves_checked limits env item guest (kind.Allocate ask) stands h =
     let c = call_is guest.machine _ stands.made_is in
-    let says = check_says limits guest.heap guest.machine (kind.Malloc size) (Ok tt) stands.made_is h in
-    served_by limits env item guest (Malloc size) stands.early stands.fetched says.1 c.1.asks
-    ∙ c.1.does item (Some (served_malloc env guest.heap size).choice)
+    let says = check_says limits guest.heap guest.machine (kind.Allocate ask) (Ok tt) stands.made_is h in
+    served_by limits env item guest (Allocate ask) stands.early stands.fetched says.1 c.asks
+    ∙ of_grant (served_ask env guest.heap ask) (λ choice. c.does item (Some choice))
+  where
+    of_grant : (served : Option Served) → ((choice : Choice) → call (register guest.machine 17) item (Some choice) guest.machine ≡ allocation ask (Some choice) guest.machine)
+        → calls_with (option_map (λ (s : Served). record { chosen = Some s.choice; heap = s.heap }) served) item guest.machine ≡ allocates served ask guest.machine
+    of_grant None does_so = refl
+    of_grant (Some s) does_so = does_so s.choice
 serves_checked limits env item guest (kind.Free at) stands h =
     let c = call_is guest.machine _ stands.made_is in
     let says = check_says limits guest.heap guest.machine (kind.Free at) (Ok tt) stands.made_is h in
@@ -138,7 +149,7 @@ serves_refused limits env item guest (kind.Recv at len) cause stands h =
     refused_call limits env item guest (kind.Recv at len) cause stands (check_says limits guest.heap guest.machine (kind.Recv at len) (Err cause) stands.made_is h) (call_is guest.machine _ stands.made_is).2.asks
 serves_refused limits env item guest (kind.Send conn at len) cause stands h =
     refused_call limits env item guest (kind.Send conn at len) cause stands (check_says limits guest.heap guest.machine (kind.Send conn at len) (Err cause) stands.made_is h) (call_is guest.machine _ stands.made_is).3.asks
-serves_refused limits env item guest (kind.Malloc size) cause stands h = absurd (allowed_never cause h)
+serves_refused limits env item guest (kind.Allocate ask) cause stands h = absurd (allowed_never cause h)
 serves_refused limits env item guest (kind.Free at) cause stands h = absurd (allowed_never cause h)
 serves_refused limits env item guest (kind.Exit code) cause stands h = absurd (allowed_never cause h)
 serves_refused limits env item guest (kind.Assert code) cause stands h = absurd (allowed_never cause h)

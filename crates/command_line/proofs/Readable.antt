@@ -1,8 +1,8 @@
--- clap's commands of `run`, of `asm` and of `replay`, computed.
+-- clap's commands of `run`, of `asm`, of `replay` and of `convert`, computed.
 use Rattle.clap.specs.Simple.{matches_of}
 use Rattle.clap.specs.Takes.{takes}
 use Rattle.clap.specs.Walk.{Text}
-use Rattle.command_line.proofs.Terms.{List, None, Some, [], arith, codes, false, length, refl, true, ℕ, ◌<◌, ◌∷◌, ◌≡◌, ArgMatches, first_value, found_of, built, rows_of, parts, asm_form, fits, positional, replay_form, run_form, EachName, HasRead, app_of_form}
+use Rattle.command_line.proofs.Terms.{List, None, Some, [], arith, codes, false, length, refl, true, ℕ, ◌<◌, ◌∷◌, ◌≡◌, ArgMatches, first_value, found_of, built, rows_of, parts, asm_form, convert_form, fits, positional, replay_form, run_form, EachName, HasRead, app_of_form}
 use Rattle.command_line.proofs.Pieces.{is_row, plain_rule}
 use Rattle.command_line.proofs.Rows.{each_optional}
 use Rattle.command_line.proofs.Clapping.{IsReadable, clap_takes, name_value, options_value}
@@ -29,6 +29,19 @@ replay_readable = record {
   no_subs = refl;
   all_words = refl;
   places = (record { by_index = refl; by_id = refl }, refl, refl, (record { by_index = refl; by_id = refl }, refl, refl, tt));
+  options = tt;
+  defaults = refl;
+  valid = λ rows. refl;
+}
+
+pub convert_readable : IsReadable convert_form (app_of_form convert_form) (built (app_of_form convert_form))
+unfolding convert_form
+convert_readable = record {
+  built_is = refl;
+  simple = refl;
+  no_subs = refl;
+  all_words = refl;
+  places = (record { by_index = refl; by_id = refl }, refl, refl, (record { by_index = refl; by_id = refl }, refl, refl, (record { by_index = refl; by_id = refl }, refl, refl, tt)));
   options = tt;
   defaults = refl;
   valid = λ rows. refl;
@@ -61,6 +74,12 @@ replay_name : (NameAt (codes "PROGRAM") replay_form.positionals 0 × (is_row (co
 unfolding replay_form
 replay_name = ((refl, refl, omega arith), ((refl, refl), refl, omega arith))
 
+convert_name : (NameAt (codes "PROGRAM") convert_form.positionals 0 × (is_row (codes "PROGRAM") convert_form.options ≡ false) × (0 < length convert_form.positionals))
+    × (NameAt (codes "RECORD") convert_form.positionals 1 × (is_row (codes "RECORD") convert_form.options ≡ false) × (1 < length convert_form.positionals))
+    × (NameAt (codes "OUT") convert_form.positionals 2 × (is_row (codes "OUT") convert_form.options ≡ false) × (2 < length convert_form.positionals))
+unfolding convert_form
+convert_name = ((refl, refl, omega arith), ((refl, refl), refl, omega arith), ((refl, (refl, refl)), refl, omega arith))
+
 one_name : (P : ℕ → Text → Type 0) → P 0 (codes "PROGRAM") → EachName P 0 run_form.positionals
 unfolding run_form
 one_name P p = (p, tt)
@@ -72,6 +91,10 @@ two_names P p q = (p, (q, tt))
 replay_two_names : (P : ℕ → Text → Type 0) → P 0 (codes "PROGRAM") → P 1 (codes "RECORD") → EachName P 0 replay_form.positionals
 unfolding replay_form
 replay_two_names P p q = (p, (q, tt))
+
+three_names : (P : ℕ → Text → Type 0) → P 0 (codes "PROGRAM") → P 1 (codes "RECORD") → P 2 (codes "OUT") → EachName P 0 convert_form.positionals
+unfolding convert_form
+three_names P p q r = (p, (q, (r, tt)))
 
 run_names : (words : List Text) (m : ArgMatches) → fits run_form (parts words) ≡ true → rows_of (found_of m) ≡ matches_of (app_of_form run_form) words
     → EachName (λ place name. first_value (found_of m) name ≡ Some (positional place (parts words))) 0 run_form.positionals
@@ -93,6 +116,14 @@ replay_names words m taken rows =
     (name_value replay_form _ _ words replay_readable taken m rows 0 (codes "PROGRAM") replay_name.0.0 replay_name.0.1 replay_name.0.2)
     (name_value replay_form _ _ words replay_readable taken m rows 1 (codes "RECORD") replay_name.1.0 replay_name.1.1 replay_name.1.2)
 
+convert_names : (words : List Text) (m : ArgMatches) → fits convert_form (parts words) ≡ true → rows_of (found_of m) ≡ matches_of (app_of_form convert_form) words
+    → EachName (λ place name. first_value (found_of m) name ≡ Some (positional place (parts words))) 0 convert_form.positionals
+convert_names words m taken rows =
+    three_names (λ place name. first_value (found_of m) name ≡ Some (positional place (parts words)))
+    (name_value convert_form _ _ words convert_readable taken m rows 0 (codes "PROGRAM") convert_name.0.0 convert_name.0.1 convert_name.0.2)
+    (name_value convert_form _ _ words convert_readable taken m rows 1 (codes "RECORD") convert_name.1.0 convert_name.1.1 convert_name.1.2)
+    (name_value convert_form _ _ words convert_readable taken m rows 2 (codes "OUT") convert_name.2.0 convert_name.2.1 convert_name.2.2)
+
 pub run_taken : (words : List Text) → fits run_form (parts words) ≡ true → takes (app_of_form run_form) words ≡ true
 run_taken words taken = clap_takes run_form _ _ words run_readable taken
 
@@ -101,6 +132,9 @@ asm_taken words taken = clap_takes asm_form _ _ words asm_readable taken
 
 pub replay_taken : (words : List Text) → fits replay_form (parts words) ≡ true → takes (app_of_form replay_form) words ≡ true
 replay_taken words taken = clap_takes replay_form _ _ words replay_readable taken
+
+pub convert_taken : (words : List Text) → fits convert_form (parts words) ≡ true → takes (app_of_form convert_form) words ≡ true
+convert_taken words taken = clap_takes convert_form _ _ words convert_readable taken
 
 pub run_read : (words : List Text) (m : ArgMatches) → fits run_form (parts words) ≡ true → rows_of (found_of m) ≡ matches_of (app_of_form run_form) words
     → HasRead run_form (parts words) m
@@ -116,3 +150,8 @@ pub replay_read : (words : List Text) (m : ArgMatches) → fits replay_form (par
     → HasRead replay_form (parts words) m
 replay_read words m taken rows =
     record { names = replay_names words m taken rows; options = options_value replay_form _ _ words replay_readable taken m rows }
+
+pub convert_read : (words : List Text) (m : ArgMatches) → fits convert_form (parts words) ≡ true → rows_of (found_of m) ≡ matches_of (app_of_form convert_form) words
+    → HasRead convert_form (parts words) m
+convert_read words m taken rows =
+    record { names = convert_names words m taken rows; options = options_value convert_form _ _ words convert_readable taken m rows }

@@ -16,6 +16,6 @@ unfoldable pub use Rattle.command_line.specs.Parts.{parts_behind}
 pub use Rattle.command_line.specs.Table.{CommandForm, Row, Takes, row_read, rows_read}
 unfoldable pub use Rattle.command_line.specs.Table.{form_row, frame_row, record_row, report_row}
 pub use Rattle.command_line.specs.Options.{Options, are_options, default_of, given, has_option, has_required, is_between, is_for, is_taken, number_at, takes_of, value_of}
-pub use Rattle.command_line.specs.Commands.{RunValue, asm, asm_of, command_of, fits, form_of, frame_of, positional, replay, replay_of, run, run_of, run_shown}
-unfoldable pub use Rattle.command_line.specs.Commands.{asm_form, asm_value, is_asm, is_replay, is_run, replay_form, replay_value, run_form, run_value}
+pub use Rattle.command_line.specs.Commands.{RunValue, asm, asm_of, command_of, convert, convert_of, fits, form_of, frame_of, positional, replay, replay_of, run, run_of, run_shown}
+unfoldable pub use Rattle.command_line.specs.Commands.{asm_form, asm_value, convert_form, convert_value, is_asm, is_convert, is_replay, is_run, replay_form, replay_value, run_form, run_value}
 pub use Rattle.command_line.specs.Reading.{EachName, EachRow, HasRead, app_of_form, defaults_of, option_rule}

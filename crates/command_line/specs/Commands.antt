@@ -9,7 +9,7 @@ use Rattle.command_line.specs.Options.{are_options, has_required, number_at, val
 use Rattle.command_line.specs.declared.run_words.Form.{Form}
 use Rattle.command_line.specs.declared.run_words.Form.TheVariants as form
 use Rattle.command_line.specs.declared.command.Command.{Command}
-use Rattle.command_line.specs.declared.command.Command.TheVariants.{Run, Asm, Replay}
+use Rattle.command_line.specs.declared.command.Command.TheVariants.{Run, Asm, Replay, Convert}
 use Rattle.command_line.specs.declared.run_words.RunCommand.{RunCommand}
 use Rattle.command_line.specs.declared.command.Asked.{Asked}
 use Rattle.command_line.specs.declared.command.Asked.TheVariants as asked
@@ -17,6 +17,8 @@ use Rattle.command_line.specs.declared.asm_words.AsmCommand.{AsmCommand}
 use Rattle.command_line.specs.declared.asm_words.TheConstants as asm_table
 use Rattle.command_line.specs.declared.replay_words.ReplayCommand.{ReplayCommand}
 use Rattle.command_line.specs.declared.replay_words.TheConstants as replay_table
+use Rattle.command_line.specs.declared.convert_words.ConvertCommand.{ConvertCommand}
+use Rattle.command_line.specs.declared.convert_words.TheConstants as convert_table
 use Rattle.command_line.specs.declared.run_words.TheConstants as table
 use Rattle.command_line.specs.Table.{CommandForm, Row, static_row, static_form, record_row, report_row, form_row, frame_row}
 
@@ -44,11 +46,18 @@ pub record ReplayValue : Type 0 where
   pub program : Text
   pub recording : Text
 
+-- what a conversion is asked for
+pub record ConvertValue : Type 0 where
+  pub program : Text
+  pub recording : Text
+  pub out : Text
+
 -- a command with its names and numbers
 pub data CommandValue : Type 0 where
   run : RunValue → CommandValue
   asm : AsmValue → CommandValue
   replay : ReplayValue → CommandValue
+  convert : ConvertValue → CommandValue
 
 -- the name, the positionals and the options of each command
 unfoldable pub run_form : CommandForm
@@ -59,6 +68,9 @@ asm_form = static_form asm_table.ASM
 
 unfoldable pub replay_form : CommandForm
 replay_form = static_form replay_table.REPLAY
+
+unfoldable pub convert_form : CommandForm
+convert_form = static_form convert_table.CONVERT
 
 -- the positionals are as many as the command has, all of them names, and the options are of its rows, each at most once,
 -- those without a default present
@@ -127,6 +139,14 @@ replay_value p = record { program = positional 0 p; recording = positional 1 p }
 unfoldable pub is_replay : Parts → Bool
 is_replay p = fits replay_form p
 
+-- the names of `convert`
+unfoldable pub convert_value : Parts → ConvertValue
+convert_value p = record { program = positional 0 p; recording = positional 1 p; out = positional 2 p }
+
+-- the words are those of `convert`: what is written has another name than the record
+unfoldable pub is_convert : Parts → Bool
+is_convert p = fits convert_form p && not (bytes_eq (positional 1 p) (positional 2 p))
+
 abbrev pub run_of : Parts → Option CommandValue
 run_of p = if is_run p then Some (run (run_value p)) else None
 
@@ -136,12 +156,16 @@ asm_of p = if is_asm p then Some (asm (asm_value p)) else None
 abbrev pub replay_of : Parts → Option CommandValue
 replay_of p = if is_replay p then Some (replay (replay_value p)) else None
 
+abbrev pub convert_of : Parts → Option CommandValue
+convert_of p = if is_convert p then Some (convert (convert_value p)) else None
+
 -- the command that the words behind the program's own name ask for: the first of them says which it is
 abbrev pub command_of : List Text → Option CommandValue
 command_of [] = None
 command_of (word ∷ rest) =
     if bytes_eq word run_form.name then run_of (parts rest)
-    else (if bytes_eq word asm_form.name then asm_of (parts rest) else (if bytes_eq word replay_form.name then replay_of (parts rest) else None))
+    else (if bytes_eq word asm_form.name then asm_of (parts rest)
+    else (if bytes_eq word replay_form.name then replay_of (parts rest) else (if bytes_eq word convert_form.name then convert_of (parts rest) else None)))
 
 -- a command of the code, as the value that definitions speak of
 abbrev pub run_shown : RunCommand → RunValue
@@ -165,13 +189,18 @@ asm_shown c = record { source = c.source.now; out = c.out.now }
 abbrev pub replay_shown : ReplayCommand → ReplayValue
 replay_shown c = record { program = c.program.now; recording = c.recording.now }
 
+abbrev pub convert_shown : ConvertCommand → ConvertValue
+convert_shown c = record { program = c.program.now; recording = c.recording.now; out = c.out.now }
+
 abbrev pub shown : Command → CommandValue
 shown (Run c) = run (run_shown c)
 shown (Asm c) = asm (asm_shown c)
 shown (Replay c) = replay (replay_shown c)
+shown (Convert c) = convert (convert_shown c)
 
 -- the words ask for this command, and these stand behind its name
 abbrev pub Asks : List Text → Asked → Type 0
 Asks words (asked.Run rest) = (is_run (parts_of rest.now) ≡ true) × (command_of words ≡ Some (run (run_value (parts_of rest.now))))
 Asks words (asked.Asm rest) = (is_asm (parts_of rest.now) ≡ true) × (command_of words ≡ Some (asm (asm_value (parts_of rest.now))))
 Asks words (asked.Replay rest) = (is_replay (parts_of rest.now) ≡ true) × (command_of words ≡ Some (replay (replay_value (parts_of rest.now))))
+Asks words (asked.Convert rest) = (is_convert (parts_of rest.now) ≡ true) × (command_of words ≡ Some (convert (convert_value (parts_of rest.now))))

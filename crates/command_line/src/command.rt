@@ -1,19 +1,22 @@
 // The commands, and the one that the words ask for.
 ghost use Rattle.std.specs.Prelude.{◌≡◌, Ok, None, IfOk, IfSome, MatchOption, is_some, option_map};
 ghost use Rattle.command_line.specs.Parts.{texts_of};
-ghost use Rattle.command_line.specs.Commands.{Asks, asm_form, command_of, replay_form, run_form, shown};
+ghost use Rattle.command_line.specs.Commands.{Asks, asm_form, command_of, convert_form, replay_form, run_form, shown};
 ghost use Rattle.command_line.specs.Ranges.{HasRanges};
 
 use crate::asm_words::{ASM, ASM_NAME, AsmCommand, are_asm_words, asm_command};
+use crate::convert_words::{
+    CONVERT, CONVERT_NAME, ConvertCommand, are_convert_words, convert_command,
+};
 use crate::options::CommandRow;
 use crate::replay_words::{REPLAY, REPLAY_NAME, ReplayCommand, are_replay_words, replay_command};
 use crate::run_words::{RUN, RUN_NAME, RunCommand, are_run_words, run_command};
 use std::alloc::{AllocError, Global};
 
 /// The commands.
-pub const COMMANDS: [CommandRow; 3] = [RUN, ASM, REPLAY];
+pub const COMMANDS: [CommandRow; 4] = [RUN, ASM, REPLAY, CONVERT];
 
-static ALL: [CommandRow; 3] = COMMANDS;
+static ALL: [CommandRow; 4] = COMMANDS;
 
 // The commands, as the sentences about them want them.
 pub(crate) fn commands() -> &'static [CommandRow] {
@@ -26,6 +29,7 @@ pub enum Command<'a> {
     Run(RunCommand<'a>),
     Asm(AsmCommand<'a>),
     Replay(ReplayCommand<'a>),
+    Convert(ConvertCommand<'a>),
 }
 
 /// Which command the words ask for, with the words behind its name.
@@ -34,6 +38,7 @@ pub enum Asked<'a> {
     Run(&'a [String]),
     Asm(&'a [String]),
     Replay(&'a [String]),
+    Convert(&'a [String]),
 }
 
 /// The command that the words ask for, if they are those of one.
@@ -61,6 +66,12 @@ pub(crate) fn find_command<'a>(words: &'a [String]) -> Option<Asked<'a>>
         }
         return Some(Asked::Replay(rest));
     }
+    if command.as_str() == CONVERT_NAME {
+        if !are_convert_words(rest) {
+            return None;
+        }
+        return Some(Asked::Convert(rest));
+    }
     None
 }
 
@@ -73,6 +84,7 @@ pub fn is_command(words: &[String]) -> bool
         Some(Asked::Run(_)) => true,
         Some(Asked::Asm(_)) => true,
         Some(Asked::Replay(_)) => true,
+        Some(Asked::Convert(_)) => true,
     }
 }
 
@@ -98,6 +110,10 @@ pub fn read_command<'a>(
         },
         Some(Asked::Replay(rest)) => match replay_command(alloc, rest) {
             Ok(replay) => Ok(Some(Command::Replay(replay))),
+            Err(error) => Err(error),
+        },
+        Some(Asked::Convert(rest)) => match convert_command(alloc, rest) {
+            Ok(convert) => Ok(Some(Command::Convert(convert))),
             Err(error) => Err(error),
         },
     }

@@ -8,6 +8,7 @@
 mod accepted;
 mod asm_words;
 mod command;
+mod convert_words;
 mod laws;
 mod matching;
 mod options;
@@ -19,6 +20,7 @@ mod wording;
 
 pub use asm_words::{ASM, ASM_OPTIONS, AsmCommand};
 pub use command::{COMMANDS, Command, is_command, read_command};
+pub use convert_words::{CONVERT, CONVERT_OPTIONS, ConvertCommand};
 pub use laws::{numbers_of, ranges_of};
 pub use options::{CommandOf, CommandRow, OptionRow, RowOf, Takes, TakesOf, takes_value};
 pub use replay_words::{REPLAY, REPLAY_OPTIONS, ReplayCommand};

@@ -2,8 +2,10 @@
 use crate::accepted::name_at;
 use crate::asm_words::{ASM_NAME, OUT, SOURCE};
 use crate::command::commands;
+use crate::convert_words::CONVERT_NAME;
 use crate::options::{CommandRow, OptionRow, Takes, TakesOf, is_named, takes_value};
 use crate::parts::{Part, given, is_there, next_part, positional};
+use crate::replay_words::RECORDED;
 use crate::run_words::{PROGRAM, RUN_NAME, recording, report};
 use crate::texts::is_name;
 use std::alloc::{AllocError, Global};
@@ -239,6 +241,13 @@ fn alike_of_asm(alloc: Global, words: &[String]) -> Result<Option<String>, Alloc
     alike(alloc, words, SOURCE, source, OUT, out)
 }
 
+// Which names of `convert` are alike.
+fn alike_of_convert(alloc: Global, words: &[String]) -> Result<Option<String>, AllocError> {
+    let recording = name_at(words, 1);
+    let out = name_at(words, 2);
+    alike(alloc, words, RECORDED, recording, OUT, out)
+}
+
 // Which names of a command are alike.
 fn alike_of(
     alloc: Global,
@@ -250,6 +259,9 @@ fn alike_of(
     }
     if command.name == ASM_NAME {
         return alike_of_asm(alloc, words);
+    }
+    if command.name == CONVERT_NAME {
+        return alike_of_convert(alloc, words);
     }
     Ok(None)
 }

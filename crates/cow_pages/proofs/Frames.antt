@@ -1,5 +1,5 @@
 -- Bytes of frames: reading them, writing some, and copying a frame.
-use Rattle.cow_pages.proofs.Terms.{List, [], ap, arith, drop, get_or, inl, inr, length, refl, set, subst, suc, sym, take, ℕ, ◌%◌, ◌*◌, ◌++◌, ◌+◌, ◌-◌, ◌/◌, ◌<◌, ◌∙◌, ◌∷◌, ◌≡◌, ◌≤◌, cases_eq, cases_lt, same_number_lists, append_assoc, drop-drop, get_or-append_right, get_or-drop, get_or-set_other, get_or-set_same, get_or-take, get_or_append_left, length-append, length-drop, length-set, length-take-le, set_split, PAGE, put_at, contents}
+use Rattle.cow_pages.proofs.Terms.{List, [], ap, arith, drop, get_or, inl, inr, length, refl, set, subst, suc, sym, take, ℕ, ◌%◌, ◌*◌, ◌++◌, ◌+◌, ◌-◌, ◌/◌, ◌<◌, ◌∙◌, ◌∷◌, ◌≡◌, ◌≤◌, ◌⊎◌, cases_eq, cases_lt, same_number_lists, append_assoc, drop-drop, get_or-append_right, get_or-drop, get_or-set_other, get_or-set_same, get_or-take, get_or_append_left, length-append, length-drop, length-set, length-take-le, set_split, PAGE, put_at, contents}
 use Rattle.cow_pages.proofs.Counting.{AreBelow, below_tail, below_head}
 
 -- no number stands at two places of a list
@@ -277,3 +277,21 @@ contents-copied frames page to pool numbers size below here other apart =
           ∙ other_frame frames to (get_or numbers (k / PAGE) 0) 0 (k % PAGE) (take PAGE (drop (PAGE * from) pool)) pool size other (omega arith) (apart (k / PAGE) there) rest
           ∙ sym plain)
     ])
+
+-- a run that shares no byte with a write reads as before it
+pub run-put_apart : (at from count : ℕ) (bytes xs : List ℕ) → at + length bytes ≤ length xs → from + count ≤ length xs → (from + count ≤ at) ⊎ (at + length bytes ≤ from) → take count (drop from (put_at at bytes xs)) ≡ take count (drop from xs)
+run-put_apart at from count bytes xs room inside apart =
+    let one : length (take count (drop from (put_at at bytes xs))) ≡ count = length-take-le count (drop from (put_at at bytes xs)) (omega (arith, length-drop from (put_at at bytes xs), length-put_at at bytes xs room)) in
+    let other : length (take count (drop from xs)) ≡ count = length-take-le count (drop from xs) (omega (arith, length-drop from xs)) in
+    same_number_lists (take count (drop from (put_at at bytes xs))) (take count (drop from xs)) (one ∙ sym other)
+    (λ k less.
+    let near : k < count = omega arith in
+    let same : get_or (put_at at bytes xs) (from + k) 0 ≡ get_or xs (from + k) 0 =
+    elim apart [
+      | inl before ↦ get_or-put_before at bytes xs (from + k) room (omega arith)
+      | inr behind ↦ get_or-put_behind at bytes xs (from + k) room (omega arith)
+    ] in
+    get_or-take count (drop from (put_at at bytes xs)) k 0 near
+    ∙ get_or-drop from (put_at at bytes xs) k 0
+    ∙ same
+    ∙ sym (get_or-take count (drop from xs) k 0 near ∙ get_or-drop from xs k 0))

@@ -1,8 +1,8 @@
 -- A write right behind another one, and runs that are read page by page.
 use Rattle.std.proofs.Math.Seq.{take-add}
-use Rattle.cow_pages.proofs.Terms.{Bool, List, [], ap, arith, cond, drop, false, get_or, inl, inr, length, refl, replicate, subst, suc, sym, take, true, zero, ℕ, ◌&&◌, ◌*◌, ◌++◌, ◌+◌, ◌-◌, ◌/◌, ◌<◌, ◌||◌, ◌∙◌, ◌≡◌, ◌≤◌, and_parts, cases_Bool, cases_lt, false_from_ne_true, false≢true, or_cases, or_left, or_parts, or_right, append-nil, append_assoc, drop-drop, length-append, length-drop, length-replicate, length-take-le, replicate-append-replicate, take-append-drop, take_at, PAGE, IsLawful, IsSpace, Pages, has, saved_numbers, used_of, IsFree, NumberAfter, Writes, copied_pages, is_shared, put_at, reaches}
+use Rattle.cow_pages.proofs.Terms.{Bool, List, [], ap, arith, cond, drop, false, get_or, inl, inr, length, refl, replicate, subst, suc, sym, take, true, zero, ℕ, ◌&&◌, ◌*◌, ◌++◌, ◌+◌, ◌-◌, ◌/◌, ◌<◌, ◌||◌, ◌∙◌, ◌≡◌, ◌≤◌, ◌⊎◌, and_parts, cases_Bool, cases_lt, false_from_ne_true, false≢true, or_cases, or_left, or_parts, or_right, append-nil, append_assoc, drop-drop, length-append, length-drop, length-replicate, length-take-le, replicate-append-replicate, take-append-drop, take_at, PAGE, IsLawful, IsSpace, Pages, has, saved_numbers, used_of, IsFree, NumberAfter, Writes, copied_pages, is_shared, put_at, reaches}
 use Rattle.cow_pages.proofs.Counting.{has-append, has-get_or, has-at}
-use Rattle.cow_pages.proofs.Frames.{put_at-put_at}
+use Rattle.cow_pages.proofs.Frames.{put_at-put_at, run-put_apart}
 use Rattle.cow_pages.proofs.Runs.{reached, reaching}
 
 copied_nothing : (store : Pages) (at pages : ℕ) → copied_pages store at 0 pages ≡ 0
@@ -175,3 +175,25 @@ read_more buf bytes part at done count so is less size =
 pub mid_size : (buf part : List ℕ) (done count : ℕ) → done + count ≤ length buf → length part ≡ count → length (take done buf ++ (part ++ drop count (drop done buf))) ≡ length buf
 mid_size buf part done count less size =
     omega (arith, length-append (take done buf) (part ++ drop count (drop done buf)), length-append part (drop count (drop done buf)), length-drop count (drop done buf), length-drop done buf, length-take-le done buf (omega arith))
+
+-- the loop of a copy: the bytes so far, and the next part, which is read where nothing was written
+pub copies_more : (old mid new : Pages) (from to done count all : ℕ) → Writes old mid to (take done (drop from old.live.bytes)) → Writes mid new (to + done) (take count (drop (from + done) mid.live.bytes)) → IsLawful old → IsLawful mid → done + count ≤ all → from + all ≤ PAGE * old.pages → to + all ≤ PAGE * old.pages → (from + all ≤ to) ⊎ (to + all ≤ from) → Writes old new to (take (done + count) (drop from old.live.bytes))
+copies_more old mid new from to done count all so then before between less source target apart =
+    let here : IsSpace old.pages old.frames old.live = before.spaces old.live (inl refl) in
+    let bytes : List ℕ = drop from old.live.bytes in
+    let rest = length-drop from old.live.bytes in
+    let whole = here.bytes in
+    let size : length (take done bytes) ≡ done = length-take-le done bytes (omega (arith, rest, whole)) in
+    let part : length (take count (drop done bytes)) ≡ count = length-take-le count (drop done bytes) (omega (arith, length-drop done bytes, rest, whole)) in
+    let clear : (from + done + count ≤ to) ⊎ (to + length (take done bytes) ≤ from + done) =
+    elim apart [
+      | inl behind ↦ inl (omega (arith, behind, less))
+      | inr ahead ↦ inr (omega (arith, ahead, less, size))
+    ] in
+    let same : take count (drop (from + done) mid.live.bytes) ≡ take count (drop done bytes) =
+    ap (λ xs. take count (drop (from + done) xs)) so.written
+    ∙ run-put_apart to (from + done) count (take done bytes) old.live.bytes (omega (arith, size, whole)) (omega (arith, whole)) clear
+    ∙ ap (take count) (sym (drop-drop done from old.live.bytes)) in
+    let next : Writes mid new (to + length (take done bytes)) (take count (drop done bytes)) =
+    subst (λ n. Writes mid new (to + n) (take count (drop done bytes))) (sym size) (subst (Writes mid new (to + done)) same then) in
+    subst (Writes old new to) (sym (take-add done count bytes)) (writes_more old mid new to (take done bytes) (take count (drop done bytes)) so next before between (omega (arith, size, part)))

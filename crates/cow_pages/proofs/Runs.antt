@@ -202,3 +202,27 @@ part_lawful pages frames held pool live counts free reserved slots n written so 
 pub byte_lawful : (pages frames held : ℕ) (pool live counts free : List ℕ) (reserved : ℕ) (slots : List Slot) (place byte : ℕ) → IsSound pages frames held pool live counts free reserved slots → IsLawful (pages_of pages frames (set pool place byte) live slots)
 byte_lawful pages frames held pool live counts free reserved slots place byte so =
     lawful pages frames held (set pool place byte) live counts free reserved slots _ (put_sound pages frames held pool (set pool place byte) live counts free reserved slots so (length-set pool place byte)) refl
+
+-- the store after a run within a page was copied to one within a page that has a frame of its own
+pub copied_done : (pages frames held : ℕ) (pool live counts free : List ℕ) (reserved : ℕ) (slots : List Slot) (old mid : Pages) (from to count source target n : ℕ) (whole written : List ℕ) → IsSound pages frames held pool live counts free reserved slots → pages_of pages frames pool live slots ≡ mid → Owns old mid (to / PAGE)
+    → target ≡ PAGE * get_or mid.live.numbers (to / PAGE) 0 + to % PAGE → source ≡ PAGE * get_or mid.live.numbers (from / PAGE) 0 + from % PAGE → 0 < count → from < PAGE * old.pages → from % PAGE + count ≤ PAGE → to < PAGE * old.pages → to % PAGE + count ≤ PAGE
+    → n ≡ length pool → whole ≡ pool → written ≡ take target whole ++ take count (drop source whole) ++ drop (target + count) whole
+    → Writes old (pages_of pages frames (take n (written ++ drop (length written) pool)) live slots) to (take count (drop from old.live.bytes))
+copied_done pages frames held pool live counts free reserved slots old mid from to count source target n whole written so is owns there where' some inside within near fits size full copied =
+    let bytes : List ℕ = take count (drop source pool) in
+    let early : from < PAGE * mid.pages = omega (arith, owns.pages, inside) in
+    let read : bytes ≡ take count (drop from mid.live.bytes) = run_is pages frames held pool live counts free reserved slots mid from count source so is early within where' in
+    let same : bytes ≡ take count (drop from old.live.bytes) = read ∙ ap (λ xs. take count (drop from xs)) owns.bytes in
+    let space : length mid.live.bytes ≡ PAGE * mid.pages = ((lawful pages frames held pool live counts free reserved slots mid so is).spaces mid.live (inl refl)).bytes in
+    let many : length bytes ≡ count =
+    ap length read ∙ length-take-le count (drop from mid.live.bytes) (omega (arith, space, early, within, length-drop from mid.live.bytes)) in
+    let room : target + length bytes ≤ length pool =
+    subst (λ k. target + k ≤ length pool) (sym many) (place_room pages frames held pool live counts free reserved slots old mid to target count so is owns there fits near) in
+    let put : written ≡ put_at target bytes pool =
+    copied
+    ∙ ap (λ xs. take target xs ++ take count (drop source xs) ++ drop (target + count) xs) full
+    ∙ ap (λ k. take target pool ++ bytes ++ drop (target + k) pool) (sym many) in
+    let whole' : take n (written ++ drop (length written) pool) ≡ put_at target bytes pool =
+    take_at written (drop (length written) pool) n (ap length put ∙ length-put_at target bytes pool room ∙ sym size) ∙ put in
+    subst (Writes old (pages_of pages frames (take n (written ++ drop (length written) pool)) live slots) to) same
+    (put_done pages frames held pool (take n (written ++ drop (length written) pool)) live counts free reserved slots old mid to target bytes so is owns there whole' (omega (arith, many, some)) (omega (arith, many, fits)) near)

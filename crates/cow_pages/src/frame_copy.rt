@@ -4,8 +4,7 @@ ghost use Rattle.std.specs.Prelude.{◌≡◌, ◌⊎◌, ◌+◌, ◌≤◌, �
 /// How many bytes a page has, and so the frame in which it stands.
 pub const PAGE: u32 = 4096;
 
-// Copies the bytes of a frame of a pool to another one. By slices that lie apart it is one copy of the C library, which takes
-// more bytes at once than `copy_within`.
+// Copies the bytes of a frame of a pool to another one.
 #[inline]
 pub fn copy_frame(pool: &mut [u8], from: usize, to: usize)
     requires there { from + PAGE ≤ length pool.old }
@@ -13,11 +12,23 @@ pub fn copy_frame(pool: &mut [u8], from: usize, to: usize)
     requires apart { (from + PAGE ≤ to) ⊎ (to + PAGE ≤ from) }
     ensures { pool.new ≡ take to pool.old ++ take PAGE (drop from pool.old) ++ drop (to + PAGE) pool.old }
 {
+    copy_part(pool, from, to, PAGE as usize);
+}
+
+// Copies so many bytes of a pool to another place of it. By slices that lie apart it is one copy of the C library, which takes more bytes at
+// once than `copy_within`.
+#[inline(always)]
+pub fn copy_part(pool: &mut [u8], from: usize, to: usize, count: usize)
+    requires there { from + count ≤ length pool.old }
+    requires fits { to + count ≤ length pool.old }
+    requires apart { (from + count ≤ to) ⊎ (to + count ≤ from) }
+    ensures { pool.new ≡ take to pool.old ++ take count (drop from pool.old) ++ drop (to + count) pool.old }
+{
     if from < to {
         let (front, back) = pool.split_at_mut(to);
-        back[..PAGE as usize].copy_from_slice(&front[from..from + PAGE as usize]);
+        back[..count].copy_from_slice(&front[from..from + count]);
     } else {
         let (front, back) = pool.split_at_mut(from);
-        front[to..to + PAGE as usize].copy_from_slice(&back[..PAGE as usize]);
+        front[to..to + count].copy_from_slice(&back[..count]);
     }
 }

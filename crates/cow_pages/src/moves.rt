@@ -4,7 +4,7 @@ ghost use Rattle.std.specs.Prelude.{◌≡◌, ◌+◌, ◌%◌, ◌<◌, ◌≤
 use std::alloc::{AllocError, Global};
 
 // How many moves are kept.
-pub const RECENT: u64 = 512;
+pub const RECENT: u64 = 256;
 
 // How many moves are counted. No move is known from there on.
 pub const MOST: u64 = 0x4000_0000_0000_0000;

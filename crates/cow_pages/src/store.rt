@@ -1,11 +1,11 @@
 // Pages that are shared by copy on write.
-ghost use Rattle.std.specs.Prelude.{◌≡◌, ℕ, ◌+◌, ◌-◌, ◌*◌, ◌/◌, ◌%◌, ◌<◌, ◌≤◌, ◌^◌, length, take, drop, replicate, true, false, Some, None, is_some, IsSome, IfSome, IfOk, slice_get, slice_set, slice_index, if◌then◌else◌, [], ◌∷◌};
+ghost use Rattle.std.specs.Prelude.{◌≡◌, ℕ, ◌+◌, ◌-◌, ◌*◌, ◌/◌, ◌%◌, ◌<◌, ◌≤◌, ◌^◌, length, take, drop, replicate, true, false, Some, None, is_some, IsSome, IfSome, IfOk, slice_get, slice_set, slice_index, if◌then◌else◌, [], ◌∷◌, ◌⊎◌};
 ghost use Rattle.std.specs.Bool.{OnFalse};
 ghost use Rattle.cow_pages.specs.Pages.{held_of, used_of, slot_at, IsLawful, IsMade};
 ghost use Rattle.cow_pages.specs.Writes.{is_shared, Writes, Owns, StandsAt};
 ghost use Rattle.cow_pages.specs.Little.{little_number, little_bytes};
 
-use crate::frame_copy::{PAGE, copy_frame};
+use crate::frame_copy::{PAGE, copy_frame, copy_part};
 use crate::little::{half_bytes, half_of, word_bytes, word_of};
 use crate::moves::Moves;
 use crate::slot::{Slot, blank_slots};
@@ -24,7 +24,8 @@ pub const MAX_FRAMES_PER_PAGE: u32 = 16;
 
 /// A live space of pages, and slots that it is saved in. A page stands in a frame of `PAGE` bytes. The live space and the
 /// slots share a frame until the live space is written there, so that saving, releasing and restoring cost a table of the
-/// pages and not their bytes. Addresses are of the live space, from 0.
+/// pages at most and not their bytes, and a save over a slot of late costs the pages that moved since. Addresses are of the
+/// live space, from 0.
 #[derive(Debug, Drop)]
 pub struct PageStore {
     pages: u32,
@@ -336,6 +337,26 @@ impl PageStore {
         }
     }
 
+    /// Copies so many bytes from an address of the live space on to another one. The two runs share no byte.
+    pub fn copy_run(&mut self, from: u32, to: u32, count: u32)
+        requires source { from + count ≤ PAGE * self.old.pages }
+        requires target { to + count ≤ PAGE * self.old.pages }
+        requires apart { (from + count ≤ to) ⊎ (to + count ≤ from) }
+        ensures writes { Writes self.old self.new to (take count (drop from self.old.live.bytes)) }
+        ensures lawful { IsLawful self.new }
+    {
+        // What holds of every store is known from here on.
+        let _ = &self.pages;
+        let mut done = 0;
+        'pages: while done < count {
+            let source = from + done;
+            let target = to + done;
+            let part = (count - done).min((PAGE - source % PAGE).min(PAGE - target % PAGE));
+            self.copy_between(source, target, part);
+            done += part;
+        }
+    }
+
     /// Saves the live space in a slot.
     pub fn save(&mut self, slot: u32)
         requires there { slot < length self.old.slots }
@@ -463,6 +484,20 @@ impl PageStore {
     {
         let place = self.own_place(at);
         self.pool[place..place + bytes.len()].copy_from_slice(bytes);
+    }
+
+    // Copies so many bytes that lie within one page to where they lie within one page. The two runs share no byte.
+    fn copy_between(&mut self, from: u32, to: u32, count: u32)
+        requires some { 0 < count }
+        requires source { (from < PAGE * self.old.pages) × (from % PAGE + count ≤ PAGE) }
+        requires target { (to < PAGE * self.old.pages) × (to % PAGE + count ≤ PAGE) }
+        requires apart { (from + count ≤ to) ⊎ (to + count ≤ from) }
+        ensures writes { Writes self.old self.new to (take count (drop from self.old.live.bytes)) }
+        ensures lawful { IsLawful self.new }
+    {
+        let target = self.own_place(to);
+        let source = self.place_of(from);
+        copy_part(self.pool.as_mut_slice(), source, target, count as usize);
     }
 
     // Puts so many zeros from an address on that lie within one page.

@@ -6,7 +6,8 @@ use Rattle.std.specs.List.{starts_with}
 abbrev pub guest_names : List (List ℕ)
 guest_names =
     codes "three" ∷ codes "echo" ∷ codes "counter" ∷ codes "divide" ∷ codes "null" ∷ codes "overflow" ∷ codes "unset"
-    ∷ codes "twice" ∷ codes "stale" ∷ codes "tell_free" ∷ codes "tell_over" ∷ codes "pair" ∷ codes "late" ∷ codes "dirty" ∷ codes "keys" ∷ []
+    ∷ codes "twice" ∷ codes "stale" ∷ codes "tell_free" ∷ codes "tell_over" ∷ codes "pair" ∷ codes "late" ∷ codes "dirty" ∷ codes "keys"
+    ∷ codes "grow" ∷ codes "stale_grow" ∷ []
 
 -- a line of a text, which a line feed ends
 abbrev pub line : List ℕ → List ℕ

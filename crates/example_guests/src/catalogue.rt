@@ -3,8 +3,8 @@ ghost use Rattle.std.specs.Prelude.{◌≡◌, ◌≢◌, ◌↔◌, IsTrue, IsS
 ghost use Rattle.example_guests.specs.Guests.{guest_names, is_headed, three_text};
 
 use crate::{
-    counter, dirty, divide, echo, keys, late, null, overflow, pair, stale, tell_free, tell_over,
-    three, twice, unset,
+    counter, dirty, divide, echo, grow, keys, late, null, overflow, pair, stale, stale_grow,
+    tell_free, tell_over, three, twice, unset,
 };
 
 /// The text of an example guest, by its name; None exactly where no guest has the name.
@@ -29,6 +29,8 @@ pub fn source_of(name: &str) -> Option<&'static str>
         "late" => Some(late::SOURCE),
         "dirty" => Some(dirty::SOURCE),
         "keys" => Some(keys::SOURCE),
+        "grow" => Some(grow::SOURCE),
+        "stale_grow" => Some(stale_grow::SOURCE),
         _ => None,
     }
 }

@@ -39,12 +39,14 @@ const CALLS: &str = "\
 2 8 1 4 > Ok(Send { conn: 8, at: 1, len: 4 }) true true
 2 7 1 10000 > Ok(Send { conn: 7, at: 1, len: 65536 }) true true
 2 7 1 ffff > Ok(Send { conn: 7, at: 1, len: 65535 }) false false
-3 18 > Ok(Malloc { size: 24 }) true true
+3 18 > Ok(Allocate(Malloc { size: 24 })) true true
 4 1 > Ok(Free { at: 1 }) true true
 5 3 > Ok(Exit { code: 3 }) true true
 6 9 > Ok(Assert { code: 9 }) true true
+7 3 18 > Ok(Allocate(Calloc { count: 3, size: 24 })) true true
+8 1 18 > Ok(Allocate(Realloc { old: 1, size: 24 })) true true
 0 > Err(BadCall) false false
-7 > Err(BadCall) false false
+9 > Err(BadCall) false false
 ";
 
 // The connections once an open of 7, 8 and 4096, a close of 8 and a message of 9 were taken.

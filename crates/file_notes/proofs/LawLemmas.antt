@@ -1,5 +1,6 @@
 -- What stands in the two files at the end.
-use Rattle.file_notes.proofs.Terms.{List, Option, Some, [], ap, append-nil, append_assoc, unwrap_or, ℕ, ◌++◌, ◌∙◌, ◌≡◌}
+use Rattle.file_notes.proofs.Terms.{List, Option, Some, [], ap, append-nil, append_assoc, sym, unwrap_or, ℕ, ◌++◌, ◌∙◌, ◌≡◌}
+use Rattle.schedule_file.proofs.Same.{text-written}
 use Rattle.file_notes.specs.Laws.{WholeTexts}
 
 -- first a file was started, then it grew, and last it was ended
@@ -10,7 +11,7 @@ whole_of first middle last started noted now start grew ended =
 
 pub whole_texts : WholeTexts
 whole_texts names window frame form before started noted now choices episodes status taken steps starts has ends = record {
-  record_has = whole_of _ _ _ (started names.record_name) (noted names.record_name) (now names.record_name) starts.record_has has.record_has ends.record_has;
+  record_has = whole_of _ _ _ (started names.record_name) (noted names.record_name) (now names.record_name) starts.record_has has.record_has ends.record_has ∙ ap Some (sym (text-written window frame choices steps taken));
   report_has = whole_of _ _ _ (started names.report_name) (noted names.report_name) (now names.report_name) starts.report_has has.report_has ends.report_has;
   others = λ other a b. ends.others other a b ∙ has.others other a b ∙ starts.others other a b;
 }

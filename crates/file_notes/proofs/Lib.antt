@@ -4,3 +4,4 @@ pub mod WritingLemmas
 pub mod TextLemmas
 pub mod NotesLemmas
 pub mod LawLemmas
+pub mod AskLemmas

@@ -43,4 +43,5 @@ noted_episode names form old new past after number broken e whole after_is added
       number_is = ap (λ n. n + 1) notes.number_is ∙ sym (length-append past.episodes (e ∷ []));
       broken_is = notes.broken_is;
       keeps = keeps_more names form past.had old new past.choices past.episodes past.left e notes.are_two whole text notes.keeps;
+      asks = notes.asks;
     })

@@ -4,6 +4,7 @@ use Rattle.std.proofs.Props.{props}
 use Rattle.rx_io.specs.contracts.file_calls.FileCall as file_call
 use Rattle.file_notes.specs.Terms.{Coded-set, Unit-prop, coded_list, FileCall, Contents, Choice, Episode, Form}
 use Rattle.file_notes.specs.Calling.{is_addition}
+use Rattle.file_notes.specs.Asks.{AreAsks}
 use Rattle.file_notes.specs.Left.{Left, is_whole}
 use Rattle.file_notes.specs.Names.{Names, AreTwo, bytes_in}
 use Rattle.file_notes.specs.Past.{Had, Past}
@@ -25,6 +26,7 @@ pub record IsNotes (names : Names) (form : Form) (told : Option Contents) (past 
   pub number_is : number ≡ length past.episodes
   pub broken_is : is_whole past.left ≡ (if broken then false else true)
   pub keeps : Keeps names form past.had told past.choices past.episodes past.left
+  pub asks : AreAsks past.choices
 
 pub Keeps-prop : (names : Names) (form : Form) (had : Option Had) (told : Option Contents) (choices : List Choice) (episodes : List Episode) (left : Left)
     → IsProp (Keeps names form had told choices episodes left)

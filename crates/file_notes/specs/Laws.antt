@@ -3,6 +3,8 @@ use Rattle.std.specs.Prelude.{ℕ, List}
 use Rattle.msg_frame.specs.declared.framing.Framing.{Framing}
 use Rattle.run_report.specs.Report as report
 use Rattle.schedule_file.specs.Lines as recorded
+use Rattle.schedule_file.specs.Records.{record_of, text_of}
+use Rattle.schedule_file.specs.declared.recorded.TheConstants.{VERSION}
 use Rattle.file_notes.specs.Terms.{Contents, Choice, Episode, Form}
 use Rattle.file_notes.specs.Names.{Names}
 use Rattle.file_notes.specs.Left.{Nothing}
@@ -15,7 +17,7 @@ use Rattle.file_notes.specs.Writing.{HasBoth, nothing_kept, all_kept}
 abbrev pub WholeTexts : Type 0
 WholeTexts =
     (names : Names) (window : ℕ) (frame : Framing) (form : Form) (before started noted now : Contents) (choices : List Choice) (episodes : List Episode) (status taken steps : ℕ) →
-    HasBoth nothing_kept names (recorded.head_line window frame) (report.head_text form) before started →
+    HasBoth nothing_kept names (recorded.head_line VERSION window frame) (report.head_text form) before started →
     HasNotes names form started noted choices episodes Nothing →
     HasBoth all_kept names (recorded.end_line steps taken) (report.end_text status taken steps form) noted now →
-    HasBoth nothing_kept names (recorded.record_text window frame choices steps taken) (report_text form episodes status taken steps) before now
+    HasBoth nothing_kept names (text_of (record_of window frame choices steps taken)) (report_text form episodes status taken steps) before now

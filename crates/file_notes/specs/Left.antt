@@ -2,7 +2,7 @@
 use Rattle.std.specs.Prelude.{◌≡◌, ℕ, Bool, true, false, List, [], take, Result, Ok, Err}
 use Rattle.file_notes.specs.Terms.{IoFault, Memory, Choice, Episode, NoneFailed, OneEpisode, SomeChoices, Unnoted, Form, episode_text, choice_lines}
 
--- Nothing where no call failed. Else so many first bytes, perhaps none or all, of the lines of some answers of malloc in the
+-- Nothing where no call failed. Else so many first bytes, perhaps none or all, of the lines of some answers of the allocator in the
 -- record, or of the text of an episode in the report
 pub data Left : Type 0 where
   Nothing : Left

@@ -2,6 +2,7 @@ pub mod Terms
 pub mod Texts
 pub mod Names
 pub mod Calling
+pub mod Asks
 pub mod Left
 pub mod Standing
 pub mod Past

@@ -18,7 +18,7 @@ module _ {F : Type 0} {g : Ghosts F} where
   abbrev pub form_of : FileNotes F g → Form
   form_of notes = notes.form
 
-  -- the answers of malloc and the episodes that were noted
+  -- the answers of the allocator and the episodes that were noted
   abbrev pub choices_of : FileNotes F g → List Choice
   choices_of notes = notes.past.was.choices
 

@@ -1,31 +1,46 @@
 // Adding texts to files.
-ghost use Rattle.std.specs.Prelude.{◌≡◌, ◌+◌, ◌^◌, ◌<◌, [], ◌∷◌, IfOk};
+ghost use Rattle.std.specs.Prelude.{◌≡◌, ◌+◌, ◌^◌, ◌<◌, true, [], ◌∷◌, IfOk};
 ghost use Rattle.rx_io.specs.Faults.{HasCause};
 ghost use Rattle.rx_io.specs.Named.{Adds};
 ghost use Rattle.rx_io.specs.declared.file_calls.FileCall.TheVariants.{Added};
 ghost use Rattle.file_notes.specs.Calling.{CallsUpTo};
 ghost use Rattle.run_report.specs.Report.{episode_text};
 ghost use Rattle.schedule_file.specs.Lines.{choice_lines};
+ghost use Rattle.schedule_file.specs.Telling.{is_ask};
+ghost use Rattle.file_notes.specs.Asks.{AreAsks};
 
-use block_book::Choice;
+use block_book::{Ask, Choice};
 use run_report::{Form, episode_text};
 use rx_io::{Bytes, Files, IoFault};
-use schedule_file::choice_text;
+use schedule_file::add_choice;
 use session_notes::Episode;
 use std::alloc::{AllocError, Global};
 
-// The lines of some answers of malloc.
+// The numbers of an ask have 32 bits each. Their types say it, and this says it of what is in a list.
+fn know_numbers(ask: Ask)
+    ensures { is_ask ask ≡ true }
+{
+    match ask {
+        Ask::Malloc { size: _ } => {}
+        Ask::Calloc { count: _, size: _ } => {}
+        Ask::Realloc { old: _, size: _ } => {}
+    }
+}
+
+// The lines of some answers of the allocator.
 fn choice_bytes(alloc: Global, list: &[Choice]) -> Result<Bytes, AllocError>
-    ensures { IfOk result (λ bytes. bytes ≡ choice_lines list.now) }
+    ensures lines { IfOk result (λ bytes. bytes ≡ choice_lines list.now) }
+    ensures asks { IfOk result (λ bytes. AreAsks list.now) }
 {
     let mut bytes = Vec::new(alloc);
     'choices: for choice in list {
-        bytes.extend_from_slice(&choice_text(*choice))?;
+        know_numbers(choice.ask);
+        add_choice(&mut bytes, *choice)?;
     }
     Ok(Bytes::from_vec(bytes))
 }
 
-// Adds the lines of some answers of malloc to a file, by one call. Where memory runs out before it, nothing is added.
+// Adds the lines of some answers of the allocator to a file, by one call. Where memory runs out before it, nothing is added.
 pub(crate) fn add_choices<F: Files>(
     alloc: Global,
     files: &mut F,
@@ -34,6 +49,7 @@ pub(crate) fn add_choices<F: Files>(
 ) -> Result<(), IoFault>
     ensures added { Adds (F.told files.old) (F.told files.new) name.now (choice_lines list.now) result }
     ensures calls { CallsUpTo (F.calls files.old) (F.calls files.new) (Added name.now ∷ []) result }
+    ensures asks { IfOk result (λ done. AreAsks list.now) }
     ensures fixed { F.fixed files.new ≡ F.fixed files.old }
     ensures cause { HasCause (F.faults files.old) (F.faults files.new) result }
 {

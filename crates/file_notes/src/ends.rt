@@ -3,7 +3,7 @@ ghost use Rattle.std.specs.Prelude.{◌≡◌, ◌≤◌, ◌<◌, ◌^◌};
 ghost use Rattle.rx_io.specs.Faults.{HasCause};
 ghost use Rattle.run_report.specs.Report.{head_text, end_text};
 ghost use Rattle.schedule_file.specs.Lines.{head_line, end_line};
-ghost use Rattle.schedule_file.specs.declared.recorded.TheConstants.{MAX_WINDOW, MAX_TAKEN};
+ghost use Rattle.schedule_file.specs.declared.recorded.TheConstants.{MAX_WINDOW, MAX_TAKEN, VERSION};
 ghost use Rattle.file_notes.specs.Names.{AreTwo, names_in};
 ghost use Rattle.file_notes.specs.Calling.{CallsUpTo, starting, ending};
 ghost use Rattle.file_notes.specs.Writing.{StartsBoth, AddsBoth};
@@ -48,7 +48,7 @@ pub fn start_files<F: Files>(
     requires two { AreTwo (names_in names.now) }
     requires least { 1 ≤ first.now.window }
     requires most { first.now.window ≤ MAX_WINDOW }
-    ensures starts { StartsBoth (names_in names.now) (head_line first.now.window first.now.frame) (head_text form) (F.told files.old) (F.told files.new) result }
+    ensures starts { StartsBoth (names_in names.now) (head_line VERSION first.now.window first.now.frame) (head_text form) (F.told files.old) (F.told files.new) result }
     ensures calls { CallsUpTo (F.calls files.old) (F.calls files.new) (starting (names_in names.now)) result }
     ensures fixed { F.fixed files.new ≡ F.fixed files.old }
     ensures cause { HasCause (F.faults files.old) (F.faults files.new) result }

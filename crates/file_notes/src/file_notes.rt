@@ -31,6 +31,7 @@ impl<'n, F: Files> FileNotes<'n, F> {
     ghost use Rattle.file_notes.specs.Left.{Nothing, is_whole};
     ghost use Rattle.file_notes.specs.Notes.{files_of, names_of, form_of, choices_of, episodes_of, left_of, told_before, calls_before, StandsIn};
     ghost use Rattle.file_notes.specs.Calling.{AddsAlone};
+    ghost use Rattle.file_notes.specs.Asks.{AreAsks};
 
     /// Nothing is noted yet. It makes no call. The two names are different ones.
     pub fn make(alloc: Global, files: F, names: FileNames<'n>, form: Form) -> FileNotes<'n, F>
@@ -65,12 +66,13 @@ impl<'n, F: Files> FileNotes<'n, F> {
         !self.broken
     }
 
-    /// Whether no call failed. For whoever proves something of the files, it says what stands in them, and
-    /// that since the notes were made each call on them added to one of the two.
+    /// Whether no call failed. For whoever proves something of the files, it says what stands in them, that
+    /// since the notes were made each call on them added to one of the two, and that the numbers of what was noted have 32 bits.
     pub fn is_whole(&self) -> bool
         ensures whole { result ≡ is_whole (left_of self.now) }
         ensures stands { StandsIn self.now }
         ensures adds { AddsAlone (names_of self.now) (calls_before self.now) (F.calls (files_of self.now)) }
+        ensures asks { AreAsks (choices_of self.now) }
     {
         self.is_open()
     }

@@ -3,7 +3,6 @@ ghost use Rattle.file_notes.specs.Laws.{WholeTexts};
 
 /// Files that were started, in which all was noted and no call failed, and that were ended, have the text of the whole record
 /// and that of the whole report.
-#[tactic(auto, using(crate::proofs::LawLemmas::whole_texts))]
 pub fn whole_texts()
     ensures { WholeTexts }
 {}

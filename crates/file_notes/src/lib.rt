@@ -2,6 +2,7 @@
 //!
 //! The two names are different; each call requires it. No other file changes.
 //! The report is started behind the whole first line of the record.
+//! Which calls on the two files were made, in order, is said of each call here.
 //! After a call that failed nothing more is added, and want of memory is answered.
 //! What was noted is remembered for proofs alone, and nothing is kept for it at run time.
 //! Where the files don't tell what they have, as real ones, nothing is said of what stands there.

@@ -47,7 +47,7 @@ impl<'a, 'n, F: Files> Remembers for Fresh<'a, 'n, F> {
     ghost past = { λ fresh. begun (F.told fresh.files.now) (F.calls fresh.files.now) (names_in fresh.names) };
 }
 
-// Answers of malloc that were noted.
+// Answers of the allocator that were noted.
 #[derive(Drop)]
 pub(crate) struct MoreChoices<'a> {
     pub(crate) past: &'a Past,
@@ -69,7 +69,7 @@ impl<'a> Remembers for OneEpisode<'a> {
     ghost past = { λ noted. with_episode noted.past.now.was noted.one.now };
 }
 
-// Answers of malloc that weren't noted, since a call failed.
+// Answers of the allocator that weren't noted, since a call failed.
 #[derive(Drop)]
 pub(crate) struct LostChoices<'a, 'n, F> {
     pub(crate) files: &'a F,

@@ -1,6 +1,6 @@
 // Notes in two files in memory, with each call failing in turn.
 use alloc_env::Env;
-use block_book::Choice;
+use block_book::{Ask, Choice};
 use file_notes::{FileNames, FileNotes, FirstLine, LastLines, end_files, start_files};
 use msg_frame::Framing;
 use run_history::Cause;
@@ -13,10 +13,15 @@ use std::test::Fail;
 
 const CHOICES: [Choice; 2] = [
     Choice {
+        ask: Ask::Calloc { count: 3, size: 20 },
         at: 0x12340,
         zeroed: true,
     },
     Choice {
+        ask: Ask::Realloc {
+            old: 0x12340,
+            size: 0x89ab_cdef,
+        },
         at: 0,
         zeroed: false,
     },
@@ -82,27 +87,27 @@ fn files_end_where_a_call_failed(rt: HostRuntime) -> Result<(), Fail> {
     let rows: [Row<'_>; 9] = [
         (
             0,
-            "rx record 1 window 4 frame line\nm 00012340 z\nm 00000000 -\nend 900 7\n",
+            "rx record 2 window 4 frame line\nc 00012340 z 00000003 00000014\nr 00000000 - 00012340 89abcdef\nend 900 7\n",
             "rx report 1\nfailure 0 point 4 cause Hang at 00010074\ntry 0 checkpoint 3 env zero result survived\nend 0 taken 7 steps 900\n",
         ),
         (1, "", ""),
         (2, "", ""),
-        (3, "rx record 1 window 4 frame line\n", ""),
-        (4, "rx record 1 window 4 frame line\n", ""),
-        (5, "rx record 1 window 4 frame line\n", "rx report 1\n"),
+        (3, "rx record 2 window 4 frame line\n", ""),
+        (4, "rx record 2 window 4 frame line\n", ""),
+        (5, "rx record 2 window 4 frame line\n", "rx report 1\n"),
         (
             6,
-            "rx record 1 window 4 frame line\nm 00012340 z\nm 00000000 -\n",
+            "rx record 2 window 4 frame line\nc 00012340 z 00000003 00000014\nr 00000000 - 00012340 89abcdef\n",
             "rx report 1\n",
         ),
         (
             7,
-            "rx record 1 window 4 frame line\nm 00012340 z\nm 00000000 -\n",
+            "rx record 2 window 4 frame line\nc 00012340 z 00000003 00000014\nr 00000000 - 00012340 89abcdef\n",
             "rx report 1\nfailure 0 point 4 cause Hang at 00010074\ntry 0 checkpoint 3 env zero result survived\n",
         ),
         (
             8,
-            "rx record 1 window 4 frame line\nm 00012340 z\nm 00000000 -\nend 900 7\n",
+            "rx record 2 window 4 frame line\nc 00012340 z 00000003 00000014\nr 00000000 - 00012340 89abcdef\nend 900 7\n",
             "rx report 1\nfailure 0 point 4 cause Hang at 00010074\ntry 0 checkpoint 3 env zero result survived\n",
         ),
     ];

@@ -1,41 +1,69 @@
 // Records at values written out by hand, and the lines at which texts are refused.
-use block_book::Choice;
+use block_book::{Ask, Choice};
 use msg_frame::Framing;
-use schedule_file::{RecordRefusal, choice_line, end_line, head_line, read_record};
+use schedule_file::{
+    Line, RecordRefusal, Recorded, add_choice, choice_line, end_line, head_line, read_record,
+};
 use std::alloc::Global;
 use std::test::Fail;
+
+// An answer to each ask, with a block, and null.
+fn answers() -> [Choice; 4] {
+    [
+        Choice {
+            ask: Ask::Malloc { size: 0x10 },
+            at: 0x0012_ab90,
+            zeroed: true,
+        },
+        Choice {
+            ask: Ask::Calloc {
+                count: 0x1234_5678,
+                size: 0x9abc_def0,
+            },
+            at: 0,
+            zeroed: false,
+        },
+        Choice {
+            ask: Ask::Calloc { count: 3, size: 7 },
+            at: 0xfedc_ba90,
+            zeroed: true,
+        },
+        Choice {
+            ask: Ask::Realloc {
+                old: 0xfedc_ba90,
+                size: 0x20,
+            },
+            at: 0x40,
+            zeroed: false,
+        },
+    ]
+}
+
+const LINES: &str =
+    "m 0012ab90 z 00000010\nc 00000000 - 12345678 9abcdef0\nc fedcba90 z 00000003 00000007\nr 00000040 - fedcba90 00000020\n";
 
 #[test]
 fn lines_are_written(rt: HostRuntime) -> Result<(), Fail> {
     let alloc = rt.alloc();
-    let answered = Choice {
-        at: 0x0012_ab90,
-        zeroed: true,
-    };
-    let high = Choice {
-        at: 0xfedc_ba90,
-        zeroed: false,
-    };
     let null = Choice {
+        ask: Ask::Malloc { size: 0xffff_ffff },
         at: 0,
         zeroed: false,
     };
     let lines = [
         (
             head_line(alloc, 1, Framing::Line)?,
-            "rx record 1 window 1 frame line\n",
+            "rx record 2 window 1 frame line\n",
         ),
         (
             head_line(alloc, 10, Framing::Length)?,
-            "rx record 1 window 10 frame length\n",
+            "rx record 2 window 10 frame length\n",
         ),
         (
             head_line(alloc, 64, Framing::Whole)?,
-            "rx record 1 window 64 frame whole\n",
+            "rx record 2 window 64 frame whole\n",
         ),
-        (choice_line(alloc, answered)?, "m 0012ab90 z\n"),
-        (choice_line(alloc, high)?, "m fedcba90 -\n"),
-        (choice_line(alloc, null)?, "m 00000000 -\n"),
+        (choice_line(alloc, null)?, "m 00000000 - ffffffff\n"),
         (end_line(alloc, 0, 0)?, "end 0 0\n"),
         (
             end_line(alloc, (1 << 63) - 1, 1 << 20)?,
@@ -49,27 +77,61 @@ fn lines_are_written(rt: HostRuntime) -> Result<(), Fail> {
 }
 
 #[test]
+fn choices_are_added(rt: HostRuntime) -> Result<(), Fail> {
+    let mut bytes = Vec::new(rt.alloc());
+    for choice in answers() {
+        add_choice(&mut bytes, choice)?;
+    }
+    assert_eq!(rt; bytes.as_slice(), LINES.as_bytes());
+    Ok(())
+}
+
+fn read(alloc: Global, text: &str) -> Result<Recorded, Fail> {
+    match read_record(alloc, text.as_bytes()) {
+        Ok(read) => Ok(read),
+        Err(_) => Err(Fail::new("the record is refused")),
+    }
+}
+
+#[test]
 fn a_record_is_read(rt: HostRuntime) -> Result<(), Fail> {
-    let text = "rx record 1 window 4 frame length\nm 0012ab90 z\nm 00000000 -\nend 1234567 89\n";
-    let read = match read_record(rt.alloc(), text.as_bytes()) {
-        Ok(read) => read,
-        Err(_) => return Err(Fail::new("the record is refused")),
-    };
+    let alloc = rt.alloc();
+    let text = format!(in alloc; "rx record 2 window 4 frame length\n{LINES}end 1234567 89\n")?;
+    let read = read(alloc, text.as_str())?;
+    assert_eq!(rt; read.version, 2);
+    assert_eq!(rt; read.window, 4);
+    assert_eq!(rt; read.frame, Framing::Length);
+    assert_eq!(rt; read.lines.as_slice().len(), 4);
+    for (line, choice) in read.lines.as_slice().iter().zip(answers()) {
+        assert_eq!(rt; line.ask, Some(choice.ask));
+        assert_eq!(rt; line.at, choice.at);
+        assert_eq!(rt; line.zeroed, choice.zeroed);
+    }
+    assert_eq!(rt; read.steps, 1234567);
+    assert_eq!(rt; read.taken, 89);
+    Ok(())
+}
+
+#[test]
+fn a_record_of_version_1_is_read(rt: HostRuntime) -> Result<(), Fail> {
+    let read = read(
+        rt.alloc(),
+        "rx record 1 window 4 frame line\nm 0012ab90 z\nm 00000000 -\nend 0 0\n",
+    )?;
     let wanted = [
-        Choice {
+        Line {
+            ask: None,
             at: 0x0012_ab90,
             zeroed: true,
         },
-        Choice {
+        Line {
+            ask: None,
             at: 0,
             zeroed: false,
         },
     ];
-    assert_eq!(rt; read.window, 4);
-    assert_eq!(rt; read.frame, Framing::Length);
-    assert_eq!(rt; read.choices.as_slice(), wanted.as_slice());
-    assert_eq!(rt; read.steps, 1234567);
-    assert_eq!(rt; read.taken, 89);
+    assert_eq!(rt; read.version, 1);
+    assert_eq!(rt; read.lines.as_slice(), wanted.as_slice());
     Ok(())
 }
 
@@ -98,7 +160,9 @@ fn texts_are_refused_at_a_line(rt: HostRuntime) -> Result<(), Fail> {
             1,
         ),
         ("rx record 1 window 4 frame line\r\nend 0 0\n", 1),
-        ("rx record 2 window 4 frame line\nend 0 0\n", 1),
+        ("rx record 0 window 4 frame line\nend 0 0\n", 1),
+        ("rx record 3 window 4 frame line\nend 0 0\n", 1),
+        ("rx record 02 window 4 frame line\nend 0 0\n", 1),
         ("rx record 1 window 4 frame line\n", 2),
         (
             "rx record 1 window 4 frame line\nm 0012AB90 -\nend 0 0\n",
@@ -142,9 +206,51 @@ fn texts_are_refused_at_a_line(rt: HostRuntime) -> Result<(), Fail> {
             "rx record 1 window 64 frame whole\nm fedcba90 -\nm 00000000 -\nend 0 0\n",
             0,
         ),
+        (
+            "rx record 1 window 4 frame line\nm 0012ab90 - 00000010\nend 0 0\n",
+            2,
+        ),
+        (
+            "rx record 1 window 4 frame line\nc 0012ab90 z 00000001 00000010\nend 0 0\n",
+            2,
+        ),
     ];
     for (text, line) in cases {
         assert_eq!(rt; refused_at(rt.alloc(), text), line);
+    }
+    Ok(())
+}
+
+// A text whose second line is this one, between a first line of version 2 and a last line.
+fn refused_line(alloc: Global, line: &str) -> Result<u64, Fail> {
+    let text = format!(in alloc; "rx record 2 window 4 frame line\n{line}\nend 0 0\n")?;
+    Ok(refused_at(alloc, text.as_str()))
+}
+
+#[test]
+fn lines_of_version_2_are_refused(rt: HostRuntime) -> Result<(), Fail> {
+    let cases = [
+        ("m 0012ab90 - 00000010", 0),
+        ("m 0012ab90 z 00000010", 0),
+        ("m 00000000 - 00000010", 0),
+        ("m 00000000 z 00000010", 2),
+        ("m 0012ab90 -", 2),
+        ("m 0012ab90 - 0000001", 2),
+        ("m 0012ab90 - 0000001A", 2),
+        ("m 0012ab90 - 00000010 00000010", 2),
+        ("c 0012ab90 z 00000001 00000010", 0),
+        ("c 0012ab90 - 00000001 00000010", 2),
+        ("c 00000000 - 00000001 00000010", 0),
+        ("c 00000000 z 00000001 00000010", 2),
+        ("c 0012ab90 z 00000010", 2),
+        ("r 0012ab90 - 00000000 00000010", 0),
+        ("r 0012ab90 z 00000000 00000010", 0),
+        ("r 0012ab90 - 00000010", 2),
+        ("r 0012ab90 - 00000000  0000010", 2),
+        ("f 0012ab90 - 00000000 00000010", 2),
+    ];
+    for (line, wanted) in cases {
+        assert_eq!(rt; refused_line(rt.alloc(), line)?, wanted, "{line}");
     }
     Ok(())
 }

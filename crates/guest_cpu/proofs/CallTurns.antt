@@ -1,6 +1,6 @@
 -- What a guest does next, where its next instruction is a call.
 use Rattle.call_gate.specs.declared.call.Call.TheVariants as kind
-use Rattle.guest_cpu.proofs.Terms.{Bool, Err, None, Ok, Option, Result, Some, ap, refl, sym, ℕ, ◌+◌, ◌<◌, ◌∙◌, ◌≡◌, option_map, Heap, Env, served_free, Ecall, Cause, AssertFailed, Free, Limits, Malloc, Nothing, instruction_at, Call, call_is, IsAtCall, frees, grant_call, serves_badly, serves_checked, serves_refused, called, checked, Event, Standing, Turn, turn, turn_of, turn_to, allocating, freeing, sending}
+use Rattle.guest_cpu.proofs.Terms.{Bool, Err, None, Ok, Option, Result, Some, ap, refl, sym, ℕ, ◌+◌, ◌<◌, ◌∙◌, ◌≡◌, option_map, Heap, Env, Served, served_ask, served_free, Ecall, Cause, Allocate, AssertFailed, Free, Limits, Nothing, instruction_at, Call, call_is, IsAtCall, allocates, frees, grant_call, serves_badly, serves_checked, serves_refused, called, checked, Event, Standing, Turn, turn, turn_of, turn_to, allocating, freeing, sending}
 use Rattle.guest_cpu.specs.Calls as calls
 use Rattle.guest_cpu.specs.declared.event.Event.TheVariants as event
 use Rattle.guest_cpu.proofs.TurnLemmas.{turn_fails}
@@ -9,7 +9,7 @@ use Rattle.guest_cpu.proofs.TurnLemmas.{turn_fails}
 abbrev pub turn_of_call : Env → Standing → Call → Option (Turn Event)
 turn_of_call env s (kind.Recv at len) = Some (turn_to (Some event.Asks) s None)
 turn_of_call env s (kind.Send conn at len) = sending s conn at len
-turn_of_call env s (kind.Malloc size) = allocating env s size
+turn_of_call env s (kind.Allocate ask) = allocating env s ask
 turn_of_call env s (kind.Free at) = freeing env s at
 turn_of_call env s (kind.Exit code) = Some (turn_to (Some (event.Exits code)) (record s { steps = s.steps + 1; ended = Some code }) None)
 turn_of_call env s (kind.Assert code) = Some (turn_to (Some (event.Failed (AssertFailed code))) s None)
@@ -21,8 +21,13 @@ turn_called limits env s (kind.Recv at len) stands ok =
     rw (serves_checked limits env None s.guest _ stands ok, grant_call env s.guest Nothing stands.fetched (call_is s.guest.machine _ stands.made_is).2.asks) refl
 turn_called limits env s (kind.Send conn at len) stands ok =
     rw (stands.fetched, serves_checked limits env None s.guest _ stands ok, grant_call env s.guest Nothing stands.fetched (call_is s.guest.machine _ stands.made_is).3.asks) refl
-turn_called limits env s (kind.Malloc size) stands ok =
-    rw (stands.fetched, serves_checked limits env None s.guest _ stands ok, grant_call env s.guest (Malloc size) stands.fetched (call_is s.guest.machine _ stands.made_is).1.asks) refl
+turn_called limits env s (kind.Allocate ask) stands ok =
+    rw (stands.fetched, serves_checked limits env None s.guest _ stands ok, grant_call env s.guest (Allocate ask) stands.fetched (call_is s.guest.machine _ stands.made_is).asks)
+    (of_served (served_ask env s.guest.heap ask))
+  where
+    of_served : (served : Option Served) → turn_of (Some Ecall) s (option_map (λ (given : Served). record { chosen = Some given.choice; heap = given.heap }) served) (allocates served ask s.guest.machine) ≡ calls.allocates served ask s
+    of_served None = refl
+    of_served (Some served) = refl
 turn_called limits env s (kind.Free at) stands ok =
     rw (stands.fetched, serves_checked limits env None s.guest _ stands ok, grant_call env s.guest (Free at) stands.fetched (call_is s.guest.machine _ stands.made_is).1.asks)
     (of_heap (served_free env s.guest.heap at))

@@ -1,5 +1,10 @@
 -- What calls leave of what a guest has beside its memory, as turns.
-use Rattle.guest_cpu.proofs.Terms.{AllocError, List, None, Ok, Option, Result, Some, ap, arith, eqb, false, ltb, refl, sym, true, ℕ, ◌+◌, ◌<◌, ◌∙◌, ◌≡◌, ◌≢◌, ◌≤◌, slice_get, slice_index, unwrap_or, Choice, is_allowed, live_blocks, without_live, Heap, SameEnds, Env, live_with, served_free, served_malloc, Ecall, Area, bytes_at, read, allocated, freed, Core, answering, going_on, machine_of, standing, turn_of, turn_to, zeroed_range, IsSend, IsSending, SendsBy, allocating, freeing, sending, sends, unasked, with_zeros}
+use Rattle.std.specs.Prelude.{is_some}
+use Rattle.elf_image.specs.Memory.{put_bytes}
+use Rattle.block_book.specs.Answer.{has_replaced}
+use Rattle.block_book.proofs.Asks.{size-live}
+use Rattle.alloc_env.specs.Serving.{in_place_of, served_block, served_over}
+use Rattle.guest_cpu.proofs.Terms.{AllocError, Bool, List, None, Ok, Option, Result, Some, ap, arith, cond, eqb, false, ltb, refl, sym, true, ℕ, ◌+◌, ◌<◌, ◌∙◌, ◌≡◌, ◌≢◌, ◌≤◌, slice_get, slice_index, unwrap_or, none-some, Ask, Choice, is_allowed, is_defined, live_blocks, replaced, size_at, without_live, Heap, SameEnds, is_live_at, Env, live_with, Served, served_ask, served_free, BadFree, Ecall, Area, bytes_at, read, allocated, freed, Core, answering, going_on, machine_of, standing, set_bytes, set_range, turn_of, turn_to, IsSend, IsSending, SendsBy, allocating, freeing, sending, sends, unasked}
 use Rattle.guest_cpu.specs.declared.event.Event.TheVariants as event
 
 -- a block was freed
@@ -10,22 +15,36 @@ unfolding freed
 freed_turn env core new heap at memory asked served live ends is =
     rw (served, is, live, ends.0, ends.1, asked) refl
 
--- a block was asked for
-pub allocated_turn : (env : Env) (core answered : Core) (heap : Heap) (choice : Choice) (size : ℕ) (memory new_memory : List Area) → size ≡ slice_index core.regs.x 10
-    → choice ≡ (served_malloc env core.book size).choice → heap ≡ (served_malloc env core.book size).heap
-    → is_allowed core.book.start core.book.end (live_blocks core.book.blocks) size choice ≡ true
-    → live_blocks heap.blocks ≡ live_with choice size (live_blocks core.book.blocks) → SameEnds core.book heap
-    → new_memory ≡ with_zeros choice size memory
+-- an ask that is answered is one that C defines
+defined_served : (env : Env) (heap : Heap) (ask : Ask) (served : Served) → served_ask env heap ask ≡ Some served → is_defined (live_blocks heap.blocks) ask ≡ true
+unfolding served_ask
+defined_served env heap ask served is = of_replaced (replaced ask) is
+  where
+    of_live : (old : ℕ) (live : Bool) → is_live_at heap old ≡ live → cond live (Some (in_place_of env old (served_block env heap ask))) None ≡ Some served → is_some (size_at old (live_blocks heap.blocks)) ≡ true
+    of_live old true e h = size-live old heap.blocks ∙ e
+    of_live old false e h = absurd (none-some served h)
+
+    of_replaced : (over : Option ℕ) → served_over env heap ask over ≡ Some served → has_replaced (live_blocks heap.blocks) over ≡ true
+    of_replaced None h = refl
+    of_replaced (Some old) h = of_live old (is_live_at heap old) refl h
+
+-- an ask was answered
+pub allocated_turn : (env : Env) (core answered : Core) (heap : Heap) (choice : Choice) (ask : Ask) (memory new_memory : List Area)
+    → served_ask env core.book ask ≡ Some (record { choice = choice; heap = heap })
+    → is_allowed core.book.start core.book.end (live_blocks core.book.blocks) ask choice ≡ true
+    → live_blocks heap.blocks ≡ live_with choice (live_blocks core.book.blocks) → SameEnds core.book heap
+    → new_memory ≡ put_bytes memory choice.at (set_bytes (machine_of core memory) choice)
     → answered ≡ answering choice.at (record core { book = heap })
-    → allocating env (standing core memory) size ≡ Some (turn_to (Some (event.Chooses choice)) (standing (record answered { marks = record answered.marks { choices = answered.marks.choices + 1 } }) new_memory) (zeroed_range choice size))
+    → allocating env (standing core memory) ask ≡ Some (turn_to (Some (event.Chooses choice)) (standing (record answered { marks = record answered.marks { choices = answered.marks.choices + 1 } }) new_memory) (set_range (live_blocks core.book.blocks) choice))
 unfolding allocated
-allocated_turn env core answered heap choice size memory new_memory asked chosen heap_is allowed live ends memory_is is =
-    let its_choice = rw asked at chosen in
-    let its_heap = rw asked at heap_is in
-    let may = rw asked at allowed in
-    let its_live = rw asked at live in
-    let its_memory = rw asked at memory_is in
-    rw (asked, ← its_choice, ← its_heap, may, is, its_memory, its_live, ends.0, ends.1) refl
+allocated_turn env core answered heap choice ask memory new_memory served may live ends memory_is is =
+    let defined = defined_served env core.book ask _ served in
+    rw (served, defined, may, is, memory_is, live, ends.0, ends.1) refl
+
+-- an ask was bad
+pub bad_turn : (env : Env) (core : Core) (heap : Heap) (ask : Ask) (memory : List Area) → (served_ask env core.book ask ≡ None) × (heap ≡ core.book)
+    → allocating env (standing core memory) ask ≡ Some (turn_to (Some (event.Failed BadFree)) (standing (record core { book = heap }) memory) None)
+bad_turn env core heap ask memory (served, same) = rw (served, same) refl
 
 -- a send, by its answer
 abbrev answer : Result (Option (ℕ × List ℕ)) AllocError

@@ -198,6 +198,6 @@ pub recorded_lives_by : (question : Question) (old new : Option ℕ) → Recorde
 recorded_lives_by (question.Exits code) old new h lives = h
 recorded_lives_by question.Asks old new h lives = h ∙ lives
 recorded_lives_by (question.Emits conn bytes) old new h lives = h ∙ lives
-recorded_lives_by (question.Wants size) old new h lives = h ∙ lives
+recorded_lives_by (question.Wants ask) old new h lives = h ∙ lives
 recorded_lives_by (question.Failed cause) old new h lives = h ∙ lives
 recorded_lives_by question.Reached old new h lives = h ∙ lives

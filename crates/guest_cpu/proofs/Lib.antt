@@ -2,6 +2,7 @@ pub mod Terms
 pub mod TurnLemmas
 pub mod CallTurns
 pub mod HeapLemmas
+pub mod PlaceLemmas
 pub mod CoreLemmas
 pub mod StepTurns
 pub mod CpuLemmas

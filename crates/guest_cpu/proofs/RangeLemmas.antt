@@ -32,10 +32,10 @@ wants_permitted m wants = of_shape (does_shape m)
     of_alone (Emits conn bytes new) alone e = cc
     of_alone (Ends code) alone e = cc
     of_alone Wants alone e = alone
-    of_alone (Chooses size) alone e = alone
+    of_alone (Chooses ask) alone e = alone
     of_alone (Fails cause) alone e = cc
 
     of_shape : Shape m (λ item choice. does item choice m) → permitted write m.memory (register m 10) (register m 11) ≡ true
     of_shape (Same e alone is) = absurd (of_alone e alone (sym (is None None) ∙ wants))
     of_shape (Takes may is) = may
-    of_shape (Picks is) = let chooses : Chooses (register m 10) ≡ Wants = sym (is None None) ∙ wants in cc
+    of_shape (Picks ask defined is) = let chooses : Chooses ask ≡ Wants = sym (is None None) ∙ wants in cc

@@ -2,7 +2,7 @@
 use Rattle.std.specs.List.{list_any}
 use Rattle.block_book.specs.declared.block.Block.{Block}
 use Rattle.call_gate.specs.declared.call.Call.TheVariants as kind
-use Rattle.guest_cpu.proofs.Terms.{Bool, Err, List, None, Ok, Option, Result, Some, [], ap, arith, cond, eqb, false, inl, inr, leb, not, refl, sym, true, ℕ, ◌&&◌, ◌+◌, ◌<◌, ◌||◌, ◌∙◌, ◌∷◌, ◌≡◌, ◌≢◌, ◌≤◌, cases_Bool, MatchBool, live-front, live-front_delayed, live-without, live_blocks, without_live, Heap, is_live_at, without_block, Instr, Ecall, Store, Area, Cause, AssertFailed, BadAccess, Regs, free, freed, Effect, Fails, Machine, register, does, instruction, Free, Malloc, Nothing, Request, is_refused, request_of, Range, call_buffer, instruction_at, touched_by, GuestPages, flat, Call, CheckSays, call_is, check_says, recv_takes, send_sends, allowed_never, does_call, called, checked, fetched, Leaves, StepsTo, limits_of, under, Question, Core, Standing, Turn, counting, going_on, machine_of, standing, stored_by, turn_to, IsSend, Turned, IsSending, SendsBy, sends, heap_after, recorded, recorded_of, recorded_turn, released}
+use Rattle.guest_cpu.proofs.Terms.{Bool, Err, List, None, Ok, Option, Result, Some, [], ap, arith, cond, eqb, false, inl, inr, leb, not, refl, sym, true, ℕ, ◌&&◌, ◌+◌, ◌<◌, ◌||◌, ◌∙◌, ◌∷◌, ◌≡◌, ◌≢◌, ◌≤◌, cases_Bool, MatchBool, live-front, live-front_delayed, live-without, live_blocks, without_live, Heap, is_live_at, without_block, without_replaced, Instr, Ecall, Store, Area, Cause, AssertFailed, BadAccess, BadFree, Regs, allocation, free, freed, Chooses, Effect, Fails, Machine, register, does, instruction, Allocate, Ask, Free, Nothing, Request, is_defined, is_refused, request_of, Range, call_buffer, instruction_at, touched_by, GuestPages, flat, Call, CheckSays, call_is, check_says, recv_takes, send_sends, allowed_never, does_call, called, checked, fetched, Leaves, StepsTo, limits_of, under, Question, Core, Standing, Turn, counting, going_on, machine_of, standing, stored_by, turn_to, IsSend, Turned, IsSending, SendsBy, sends, asking, heap_after, recorded, recorded_of, recorded_turn, released, released_over}
 use Rattle.guest_cpu.specs.declared.event.Question.TheVariants as question
 use Rattle.guest_cpu.proofs.TurnLemmas.{is_at, is_at_none, asks_nothing}
 use Rattle.guest_cpu.proofs.StepTurns.{leaves_wrote, with_regs}
@@ -76,7 +76,7 @@ recorded_step_failed until budget instr core regs old new result cause early is 
 abbrev pub recorded_of_call : Standing → Call → Turn Question
 recorded_of_call s (kind.Recv at len) = turn_to (Some question.Asks) s None
 recorded_of_call s (kind.Send conn at len) = recorded_of (Some Ecall) s.guest.heap s (sends s.guest.machine conn at len)
-recorded_of_call s (kind.Malloc size) = turn_to (Some (question.Wants size)) s None
+recorded_of_call s (kind.Allocate ask) = turn_to (Some (asking s.guest.machine.blocks ask)) s None
 recorded_of_call s (kind.Free at) = recorded_of (Some Ecall) (released s.guest.heap at) s (free s.guest.machine)
 recorded_of_call s (kind.Exit code) = turn_to (Some (question.Exits code)) (record s { steps = s.steps + 1; ended = Some code }) None
 recorded_of_call s (kind.Assert code) = turn_to (Some (question.Failed (AssertFailed code))) s None
@@ -85,6 +85,15 @@ recorded_of_call s (kind.Assert code) = turn_to (Some (question.Failed (AssertFa
 recorded_by : (s : Standing) (request : Request) (e : Effect) → instruction_at s.guest.machine ≡ Some Ecall → request_of (Some Ecall) s.guest.machine ≡ request → does None None s.guest.machine ≡ e
     → recorded_turn s ≡ recorded_of (Some Ecall) (heap_after request s.guest.heap) s e
 recorded_by s request e is asks does_so = rw (is, asks, does_so) refl
+
+-- an ask without an answer is a question
+recorded_asking : (s : Standing) (ask : Ask) → recorded_of (Some Ecall) s.guest.heap s (allocation ask None s.guest.machine) ≡ turn_to (Some (asking s.guest.machine.blocks ask)) s None
+recorded_asking s ask = of_defined (is_defined s.guest.machine.blocks ask)
+  where
+    of_defined : (defined : Bool)
+        → recorded_of (Some Ecall) s.guest.heap s (cond defined (Chooses ask) (Fails BadFree)) ≡ turn_to (Some (cond defined (question.Wants ask) (question.Failed BadFree))) s None
+    of_defined true = refl
+    of_defined false = refl
 
 pub recorded_called : (s : Standing) (made : Call) → instruction_at s.guest.machine ≡ Some Ecall → called s.guest.machine.registers ≡ Ok made
     → checked mapped s.guest.heap s.guest.machine.memory s.guest.machine.connections made ≡ Ok tt → recorded_turn s ≡ recorded_of_call s made
@@ -96,9 +105,9 @@ recorded_called s (kind.Send conn at len) is made ok =
     let c = call_is s.guest.machine _ made in
     let says = check_says (limits_of 0 mapped) s.guest.heap s.guest.machine (kind.Send conn at len) (Ok tt) made ok in
     recorded_by s Nothing _ is c.3.asks (does_call s.guest.machine None None is ∙ c.3.does None None ∙ send_sends s.guest.machine conn at len made says.0)
-recorded_called s (kind.Malloc size) is made ok =
+recorded_called s (kind.Allocate ask) is made ok =
     let c = call_is s.guest.machine _ made in
-    recorded_by s (Malloc size) _ is c.1.asks (does_call s.guest.machine None None is ∙ c.1.does None None) ∙ ap (λ n. turn_to (Some (question.Wants n)) s None) (sym c.0)
+    recorded_by s (Allocate ask) _ is c.asks (does_call s.guest.machine None None is ∙ c.does None None) ∙ recorded_asking s ask
 recorded_called s (kind.Free at) is made ok =
     let c = call_is s.guest.machine _ made in
     recorded_by s (Free at) _ is c.1.asks (does_call s.guest.machine None None is ∙ c.1.does None None)
@@ -137,7 +146,7 @@ recorded_refused s (kind.Recv at len) cause is made h =
     recorded_by s Nothing _ is (call_is s.guest.machine _ made).2.asks (fails_refused s (kind.Recv at len) cause (check_says (limits_of 0 mapped) s.guest.heap s.guest.machine (kind.Recv at len) (Err cause) made h) is)
 recorded_refused s (kind.Send conn at len) cause is made h =
     recorded_by s Nothing _ is (call_is s.guest.machine _ made).3.asks (fails_refused s (kind.Send conn at len) cause (check_says (limits_of 0 mapped) s.guest.heap s.guest.machine (kind.Send conn at len) (Err cause) made h) is)
-recorded_refused s (kind.Malloc size) cause is made h = absurd (allowed_never cause h)
+recorded_refused s (kind.Allocate ask) cause is made h = absurd (allowed_never cause h)
 recorded_refused s (kind.Free at) cause is made h = absurd (allowed_never cause h)
 recorded_refused s (kind.Exit code) cause is made h = absurd (allowed_never cause h)
 recorded_refused s (kind.Assert code) cause is made h = absurd (allowed_never cause h)
@@ -181,6 +190,11 @@ released_ends heap at =
       | inl live ↦ rw live (refl, refl)
       | inr not_it ↦ rw not_it (refl, refl)
     ]
+
+-- the same of the block that an ask replaces
+pub released_over_live : (over : Option ℕ) (heap : Heap) → live_blocks (released_over over heap).blocks ≡ without_replaced over (live_blocks heap.blocks)
+released_over_live None heap = refl
+released_over_live (Some old) heap = released_live heap old
 
 -- what a release answers tells which it was
 pub released_is : (heap new : Heap) (at : ℕ) (live : Bool) → live ≡ is_live_at heap at → MatchBool live (new ≡ without_block heap at) (new ≡ heap) → new ≡ released heap at

@@ -1,7 +1,7 @@
 -- The turns of a guest are a served run.
-use Rattle.run_history.proofs.Serves.{mallocs}
+use Rattle.run_history.proofs.Serves.{allocates}
 use Rattle.run_history.proofs.Blocks.{frees}
-use Rattle.guest_cpu.proofs.Terms.{Bool, List, None, Option, Some, [], ap, append-nil, cond, false, leb, length, length-append, refl, subst, sym, true, ℕ, ◌++◌, ◌+◌, ◌∙◌, ◌∷◌, ◌≡◌, same_Some, option_map, Choice, is_allowed, Heap, Env, Instr, allocated, chooses, Chooses, Effect, Emits, Ends, Fails, Goes, Machine, Wants, register, after, does, Free, Grant, Guest, Limits, Malloc, Nothing, Path, Request, does_with, grant, granted, guest_of, is_refused, listed, longer, request_of, served_next, serves, instruction_at, touched, Event, Turn, moved, turn, turn_of, turn_to, written_with}
+use Rattle.guest_cpu.proofs.Terms.{Bool, List, None, Option, Some, [], ap, append-nil, cond, false, leb, length, length-append, refl, subst, sym, true, ℕ, ◌++◌, ◌+◌, ◌∙◌, ◌∷◌, ◌≡◌, same_Some, option_map, Ask, Choice, is_allowed, is_defined, Heap, BadFree, Env, Instr, allocated, allocation, chooses, Chooses, Effect, Emits, Ends, Fails, Goes, Machine, Wants, after, does, Allocate, Free, Grant, Guest, Limits, Nothing, Path, Request, does_with, grant, granted, guest_of, is_refused, listed, longer, request_of, served_next, serves, instruction_at, touched, Event, Turn, moved, turn, turn_of, turn_to, written_with}
 use Rattle.guest_cpu.specs.declared.event.Event.TheVariants as event
 use Rattle.guest_cpu.specs.Serving.{standing_of, Follows, TurnsServe}
 
@@ -15,13 +15,13 @@ next_by limits env path given e lives gives does_so = rw (lives, gives, does_so)
 record IsOther (e : Effect) : Type 0 where
   no_failure : (cause : _) → Fails cause ≡ e → ⊥
   no_going : (new : Machine) → Goes new ≡ e → ⊥
-  no_wish : (size : ℕ) → Chooses size ≡ e → ⊥
+  no_wish : (ask : Ask) → Chooses ask ≡ e → ⊥
 
 emits_other : (conn : ℕ) (bytes : List ℕ) (new : Machine) → IsOther (Emits conn bytes new)
-emits_other conn bytes new = record { no_failure = λ cause h. cc; no_going = λ m h. cc; no_wish = λ size h. cc }
+emits_other conn bytes new = record { no_failure = λ cause h. cc; no_going = λ m h. cc; no_wish = λ ask h. cc }
 
 ends_other : (code : ℕ) → IsOther (Ends code)
-ends_other code = record { no_failure = λ cause h. cc; no_going = λ m h. cc; no_wish = λ size h. cc }
+ends_other code = record { no_failure = λ cause h. cc; no_going = λ m h. cc; no_wish = λ ask h. cc }
 
 -- it is what the instruction does
 other_of : (b c : Bool) (cause other : _) (inner e : Effect) → ((why : _) → Fails why ≡ e → ⊥) → cond b (Fails cause) (cond c (Fails other) inner) ≡ e → inner ≡ e
@@ -33,20 +33,28 @@ other_does : (limits : Limits) (env : Env) (guest : Guest) (e : Effect) → IsOt
 unfolding serves
 other_does limits env guest e other h = other_of (leb limits.budget guest.machine.since) (is_refused limits guest.heap (touched guest.machine)) _ _ _ e other.no_failure h
 
--- no malloc does it
-never_malloc : (m : Machine) (size : ℕ) (choice : Option Choice) (e : Effect) → IsOther e → chooses size m choice ≡ e → ⊥
-never_malloc m size None e other h = other.no_wish size h
-never_malloc m size (Some choice) e other h = by (is_allowed m.heap_start m.heap_end m.blocks size choice) h
+-- no answer of the allocator does it
+never_chosen : (m : Machine) (ask : Ask) (choice : Option Choice) (e : Effect) → IsOther e → chooses ask m choice ≡ e → ⊥
+never_chosen m ask None e other h = other.no_wish ask h
+never_chosen m ask (Some choice) e other h = by (is_allowed m.heap_start m.heap_end m.blocks ask choice) h
   where
-    by : (b : Bool) → cond b (Goes (allocated size choice m)) (Chooses size) ≡ e → ⊥
-    by true acts = other.no_going (allocated size choice m) acts
-    by false acts = other.no_wish size acts
+    by : (b : Bool) → cond b (Goes (allocated choice m)) (Chooses ask) ≡ e → ⊥
+    by true acts = other.no_going (allocated choice m) acts
+    by false acts = other.no_wish ask acts
+
+-- nor is it what becomes of an ask
+never_asked : (m : Machine) (ask : Ask) (choice : Option Choice) (e : Effect) → IsOther e → allocation ask choice m ≡ e → ⊥
+never_asked m ask choice e other h = by (is_defined m.blocks ask) h
+  where
+    by : (b : Bool) → cond b (chooses ask m choice) (Fails BadFree) ≡ e → ⊥
+    by true acts = never_chosen m ask choice e other acts
+    by false acts = other.no_failure BadFree acts
 
 -- so nothing was asked of the allocator
 idle : (env : Env) (guest : Guest) (given : Grant) (e : Effect) (request : Request) → IsOther e → request_of (instruction_at guest.machine) guest.machine ≡ request → granted env guest.heap request ≡ Some given
     → does None given.chosen guest.machine ≡ e → given ≡ record { chosen = None; heap = guest.heap }
-idle env guest given e (Malloc size) other asks gives acts =
-    absurd (never_malloc guest.machine (register guest.machine 10) given.chosen e other (sym (mallocs guest.machine size asks None given.chosen) ∙ acts))
+idle env guest given e (Allocate ask) other asks gives acts =
+    absurd (never_asked guest.machine ask given.chosen e other (sym (allocates guest.machine ask asks None given.chosen) ∙ acts))
 idle env guest given e (Free at) other asks gives acts = absurd (other.no_going _ (sym (frees guest.machine at asks None given.chosen) ∙ acts))
 idle env guest given e Nothing other asks gives acts = sym (same_Some _ given gives)
 
@@ -56,7 +64,7 @@ idle_by limits env guest given e other gives h =
     idle env guest given e (request_of (instruction_at guest.machine) guest.machine) other refl gives
     (subst (λ g. does_with g None guest.machine ≡ e) gives (other_does limits env guest e other h))
 
--- an instruction that goes on, and is an answer of malloc or no event
+-- an instruction that goes on, and is an answer of the allocator or no event
 goes_turn : (limits : Limits) (env : Env) (path : Path) (found : Option Instr) (chosen : Option Choice) (heap : Heap) (m : Machine)
     → served_next limits [] env path ≡ Some (longer path (Some (record { chosen = chosen; heap = heap })) (record path.state { machine = m }))
     → Follows limits env path (turn_to (option_map event.Chooses chosen) (moved m heap (standing_of path)) (written_with chosen found path.state.machine))
@@ -96,8 +104,8 @@ turn_by limits env path found (Some given) Wants t lives gives does_so next turn
 turn_by limits env path found None Wants t lives gives does_so next turns = subst (Follows limits env path) (same_Some _ t turns) (record { next = path; adds = refl; stands = refl })
 turn_by limits env path found (Some given) (Fails cause) t lives gives does_so next turns = subst (Follows limits env path) (same_Some _ t turns) (record { next = path; adds = refl; stands = refl })
 turn_by limits env path found None (Fails cause) t lives gives does_so next turns = subst (Follows limits env path) (same_Some _ t turns) (record { next = path; adds = refl; stands = refl })
-turn_by limits env path found (Some given) (Chooses size) t lives gives does_so next turns = cc
-turn_by limits env path found None (Chooses size) t lives gives does_so next turns = cc
+turn_by limits env path found (Some given) (Chooses ask) t lives gives does_so next turns = cc
+turn_by limits env path found None (Chooses ask) t lives gives does_so next turns = cc
 turn_by limits env path found None (Goes m) t lives gives does_so next turns = cc
 turn_by limits env path found None (Emits conn bytes m) t lives gives does_so next turns = cc
 

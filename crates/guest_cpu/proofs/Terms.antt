@@ -13,15 +13,16 @@ pub use Rattle.page_line.proofs.Flags.{count_true-all, length-differ}
 pub use Rattle.page_line.proofs.Saved.{line_has, line_hasnt}
 pub use Rattle.guest_space.proofs.SpaceLemmas.{is_permitted, length-little_bytes}
 pub use Rattle.call_gate.proofs.CallLemmas.{CheckSays, call_is, check_says, recv_takes, send_sends}
-pub use Rattle.call_gate.proofs.ServedCalls.{IsAtCall, allowed_never, does_call, frees, grant_call, serves_badly, serves_checked, serves_refused}
-pub use Rattle.guest_cpu.specs.Terms.{AllocError, AreSound, Area, AssertFailed, BadAccess, BadInstruction, Call, Cause, Choice, Chooses, Ecall, Effect, Emits, Ends, Env, Event, Fails, Free, Goes, Grant, Guest, GuestPages, Hang, Heap, Image, Instr, IsHeap, IsLaidOut, IsLawful, IsLawfulSpace, IsLine, IsMade, IsOldest, IsStart, IsStep, IsUnusedNewest, Leaves, Limits, Line, MAX_SLOTS, Machine, Malloc, Nothing, PAGE, Pages, Path, Question, Range, Regs, Releases, Request, SameEnds, Saves, SavesOver, Slots, Space, Span, StepsTo, Store, Wants, after, base_without_oldest, blank_span, bytes_at, call_buffer, called, checked, chooses, count_true, differ, does_with, each_covered, execute, fetched, flat, frames_of, free, granted, guest_of, heap_end, heap_start, is_live_at, is_refused, limits_of, line_of, listed, live_block, live_blocks, live_with, longer, most_blocks, newest_of, newest_slot, or_bad, read, register, repeated, request_of, restored, saved_behind, saved_flat, saved_to, segment_span, slot_at, slot_numbers, slots_of, stack_top, store_size, touched_by, under, used_pages, with_block, with_reached, without_block, without_live, without_newest, without_oldest, word_at, write, written_pages, written_since}
-unfoldable pub use Rattle.guest_cpu.specs.Terms.{Ran, allocated, does, freed, grant, instruction, instruction_at, is_allowed, is_clear, permitted, received, served_free, served_malloc, served_next, serves, touched}
+pub use Rattle.call_gate.proofs.ServedCalls.{IsAtCall, allocates, allowed_never, does_call, frees, grant_call, serves_badly, serves_checked, serves_refused}
+pub use Rattle.guest_cpu.specs.Terms.{AllocError, Allocate, AreSound, Area, Ask, AssertFailed, BadAccess, BadFree, BadInstruction, Call, Cause, Choice, Chooses, Ecall, Effect, Emits, Ends, Env, Event, Fails, Free, Goes, Grant, Guest, GuestPages, Hang, Heap, Image, Instr, IsHeap, IsLaidOut, IsLawful, IsLawfulSpace, IsLine, IsMade, IsOldest, IsStart, IsStep, IsUnusedNewest, Leaves, Limits, Line, MAX_SLOTS, Machine, Nothing, PAGE, Pages, Path, Question, Range, Regs, Releases, Request, SameEnds, Saves, SavesOver, Served, Slots, Space, Span, StepsTo, Store, Wants, after, allocation, base_without_oldest, blank_span, buffer, bytes_asked, bytes_at, call_buffer, called, checked, chooses, count_true, differ, does_with, each_covered, execute, fetched, flat, frames_of, free, granted, guest_of, heap_end, heap_start, insert_live, is_calloc, is_defined, is_live_at, is_refused, kept_bytes, kept_count, limits_of, line_of, listed, live_block, live_blocks, live_with, longer, most_blocks, newest_of, newest_slot, or_bad, put_bytes, read, register, repeated, replaced, request_of, restored, same_ask, saved_behind, saved_flat, saved_to, segment_span, set_count, size_at, slot_at, slot_numbers, slots_of, stack_top, store_size, touched_by, under, used_pages, with_block, with_reached, without_block, without_live, without_newest, without_oldest, without_replaced, word_at, write, written_pages, written_since}
+unfoldable pub use Rattle.guest_cpu.specs.Terms.{Ran, allocated, does, freed, grant, instruction, instruction_at, is_allowed, is_block, is_clear, permitted, received, served_ask, served_free, served_next, serves, set_bytes, touched}
 pub use Rattle.guest_cpu.specs.declared.guest_core.Core.{Core}
-pub use Rattle.guest_cpu.specs.Standing.{AreCounted, Live, Standing, Turn, answering, counting, going_on, live_after, machine_of, marks_of, moved, size_asked, standing, stored_by, turn_of, turn_to, with_range, written_with, zeroed_range}
+pub use Rattle.guest_cpu.specs.Standing.{AreCounted, Live, Standing, Turn, answering, counting, going_on, live_after, machine_of, marks_of, moved, set_range, standing, stored_by, turn_of, turn_to, with_range, written_with}
 unfoldable pub use Rattle.guest_cpu.specs.Standing.{quiet_next, turn}
 pub use Rattle.guest_cpu.specs.Turns.{IsSend, Keeps, Lasts, RecordedLasts, Turned, TurnsBy, Wrote}
-pub use Rattle.guest_cpu.specs.Calls.{IsSending, SendsBy, allocating, freeing, sending, sends, unasked, with_zeros}
-pub use Rattle.guest_cpu.specs.Recording.{chosen_standing, heap_after, heap_with, live_with_choice, recorded_of, recorded_turn, released}
+pub use Rattle.guest_cpu.specs.Calls.{IsSending, SendsBy, allocating, freeing, sending, sends, unasked}
+pub use Rattle.guest_cpu.specs.Placing.{IsAnswered}
+pub use Rattle.guest_cpu.specs.Recording.{asking, chosen_standing, heap_after, heap_with, live_with_choice, recorded_of, recorded_turn, released, released_over}
 unfoldable pub use Rattle.guest_cpu.specs.Recording.{recorded}
 pub use Rattle.guest_cpu.specs.Cpus.{CpuState, IsCpu, IsFreshCpu, IsStartCore, cpu_state, live_of, saved_standing, state_in, with_live}
 pub use Rattle.guest_cpu.specs.Running.{Breaks, Lives, Reaches, RecordedLives}

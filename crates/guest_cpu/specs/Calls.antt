@@ -1,6 +1,6 @@
 -- The turns of calls, by their arguments.
-use Rattle.std.specs.Prelude.{◌≡◌, ℕ, ◌+◌, Result, Ok, Err, not, nat_lt, List, replicate, Option, Some, None, if◌then◌else◌, ◌==◌}
-use Rattle.guest_cpu.specs.Terms.{AllocError, Choice, Heap, Env, served_free, served_malloc, Ecall, Area, bytes_at, put_bytes, read, BadFree, answered, free, malloc, may_send, Effect, Emits, Fails, Goes, Machine, Grant, Event}
+use Rattle.std.specs.Prelude.{◌≡◌, ℕ, ◌+◌, Result, Ok, Err, not, nat_lt, List, Option, Some, None, if◌then◌else◌, ◌==◌}
+use Rattle.guest_cpu.specs.Terms.{AllocError, Ask, Heap, Env, Served, served_ask, served_free, Ecall, Area, bytes_at, read, BadFree, allocation, answered, free, may_send, Effect, Emits, Fails, Goes, Machine, Grant, Event}
 use Rattle.guest_cpu.specs.declared.guest_core.Core.{Core}
 use Rattle.guest_cpu.specs.Standing.{Standing, standing, machine_of, moved, Turn, turn_of}
 
@@ -31,15 +31,15 @@ SendsBy e old memory (Err fault) new = (new ≡ old) × IsSending e
 abbrev pub sending : Standing → ℕ → ℕ → ℕ → Option (Turn Event)
 sending s conn at len = turn_of (Some Ecall) s (unasked s.guest.heap) (sends s.guest.machine conn at len)
 
--- a memory with the bytes of a block of a size zeroed, where the choice says so
-abbrev pub with_zeros : Choice → ℕ → List Area → List Area
-with_zeros choice size memory = if choice.zeroed then put_bytes memory choice.at (replicate size 0) else memory
+-- an ask that was answered, or that is bad
+abbrev pub allocates : Option Served → Ask → Standing → Option (Turn Event)
+allocates None ask s = turn_of (Some Ecall) s None (Fails BadFree)
+allocates (Some served) ask s =
+    turn_of (Some Ecall) s (Some (record { chosen = Some served.choice; heap = served.heap })) (allocation ask (Some served.choice) s.guest.machine)
 
--- malloc in an environment
-abbrev pub allocating : Env → Standing → ℕ → Option (Turn Event)
-allocating env s size =
-    let served = served_malloc env s.guest.heap size in
-    turn_of (Some Ecall) s (Some (record { chosen = Some served.choice; heap = served.heap })) (malloc (Some served.choice) s.guest.machine)
+-- what an ask does in an environment
+abbrev pub allocating : Env → Standing → Ask → Option (Turn Event)
+allocating env s ask = allocates (served_ask env s.guest.heap ask) ask s
 
 -- free in an environment
 abbrev pub frees : Option Heap → Standing → Option (Turn Event)

@@ -2,6 +2,7 @@ pub mod Terms
 pub mod Standing
 pub mod Turns
 pub mod Calls
+pub mod Placing
 pub mod Receiving
 pub mod Recording
 pub mod Cpus

@@ -1,9 +1,13 @@
--- What a guest does next as recorded: without a budget, an environment or a rule. The items and the answers of malloc are
+-- What a guest does next as recorded: without a budget, an environment or a rule. The items and the answers of the allocator are
 -- given from outside, and a free does what it does in the model.
-use Rattle.std.specs.Prelude.{ℕ, ◌+◌, Bool, Option, Some, None, nat_le, length, nat_lt, ◌||◌, ◌&&◌, if◌then◌else◌, ◌==◌}
-use Rattle.guest_cpu.specs.Terms.{Choice, is_allowed, live_blocks, live_block, Heap, is_live_at, most_blocks, with_block, without_block, Instr, allocated, Chooses, Effect, Emits, Ends, Fails, Goes, Wants, register, does, Free, Request, request_of, instruction_at, Question}
+use Rattle.std.specs.Prelude.{ℕ, ◌+◌, Bool, List, Option, Some, None, nat_le, length, nat_lt, ◌||◌, ◌&&◌, if◌then◌else◌, ◌==◌}
+use Rattle.guest_cpu.specs.Terms.{Ask, Choice, bytes_asked, is_allowed, is_defined, live_blocks, replaced, live_block, Heap, is_live_at, most_blocks, with_block, without_block, Instr, allocated, Chooses, Effect, Emits, Ends, Fails, Goes, Wants, does, Free, Request, request_of, instruction_at, BadFree, Question}
 use Rattle.guest_cpu.specs.declared.event.Question.TheVariants as question
-use Rattle.guest_cpu.specs.Standing.{Standing, Live, Turn, turn_to, moved, stored_by, zeroed_range, with_range}
+use Rattle.guest_cpu.specs.Standing.{Standing, Live, Turn, turn_to, moved, stored_by, set_range, with_range}
+
+-- The question at an ask: the answer is wanted, unless the ask is to replace what is no live block.
+abbrev pub asking : List (ℕ × ℕ) → Ask → Question
+asking live ask = if is_defined live ask then question.Wants ask else question.Failed BadFree
 
 -- a live block at an address is gone; any other free changes nothing
 abbrev pub released : Heap → ℕ → Heap
@@ -20,7 +24,7 @@ recorded_of found heap s (Goes m) = turn_to None (moved m heap s) (stored_by fou
 recorded_of found heap s (Emits conn bytes m) = turn_to (Some (question.Emits conn bytes)) (record (moved m heap s) { sends = s.sends + 1 }) None
 recorded_of found heap s (Ends code) = turn_to (Some (question.Exits code)) (record s { steps = s.steps + 1; ended = Some code }) None
 recorded_of found heap s Wants = turn_to (Some question.Asks) s None
-recorded_of found heap s (Chooses size) = turn_to (Some (question.Wants size)) s None
+recorded_of found heap s (Chooses ask) = turn_to (Some (question.Wants ask)) s None
 recorded_of found heap s (Fails cause) = turn_to (Some (question.Failed cause)) s None
 
 -- what a guest does next as recorded
@@ -32,24 +36,29 @@ recorded_turn s =
 unfoldable pub recorded : ℕ → Standing → Option (Turn Question)
 recorded until s = if nat_le until s.steps then Some (turn_to (Some question.Reached) s None) else Some (recorded_turn s)
 
--- whether an answer of malloc can be used: C allows it, and the block has room among those that stand
-abbrev pub is_usable : Standing → Choice → Bool
-is_usable s choice =
-    is_allowed s.guest.heap.start s.guest.heap.end (live_blocks s.guest.heap.blocks) (register s.guest.machine 10) choice
+-- whether an answer to an ask can be used: C allows it, and the block has room among those that stand
+abbrev pub is_usable : Standing → Ask → Choice → Bool
+is_usable s wanted choice =
+    is_allowed s.guest.heap.start s.guest.heap.end (live_blocks s.guest.heap.blocks) wanted choice
     && ((choice.at == 0) || nat_lt (length s.guest.heap.blocks) most_blocks)
 
--- the heap with a block of an answer of malloc, unless it is null
-abbrev pub heap_with : Choice → ℕ → Heap → Heap
-heap_with choice size heap = if choice.at == 0 then heap else with_block heap (live_block choice.at size 0)
+-- the heap without the block that is replaced
+abbrev pub released_over : Option ℕ → Heap → Heap
+released_over None heap = heap
+released_over (Some old) heap = released heap old
 
--- where a guest stands once malloc answered so
+-- the heap with the block of an answer in place of the one that it replaces, unless it is null
+abbrev pub heap_with : Choice → Heap → Heap
+heap_with choice heap =
+    if choice.at == 0 then heap else released_over (replaced choice.ask) (with_block heap (live_block choice.at (bytes_asked choice.ask) 0))
+
+-- where a guest stands once the allocator answered so
 abbrev pub chosen_standing : Choice → Standing → Standing
-chosen_standing choice s =
-    moved (allocated (register s.guest.machine 10) choice s.guest.machine) (heap_with choice (register s.guest.machine 10) s.guest.heap) s
+chosen_standing choice s = moved (allocated choice s.guest.machine) (heap_with choice s.guest.heap) s
 
--- a live guest once malloc answered so
+-- a live guest once the allocator answered so
 abbrev pub live_with_choice : ℕ → Choice → Live → Live
 live_with_choice base choice live = record {
   standing = chosen_standing choice live.standing;
-  written = with_range base (zeroed_range choice (register live.standing.guest.machine 10)) live.written;
+  written = with_range base (set_range live.standing.guest.machine.blocks choice) live.written;
 }

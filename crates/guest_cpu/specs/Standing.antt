@@ -1,6 +1,6 @@
 -- A guest with the counts of its run, and what it does next.
-use Rattle.std.specs.Prelude.{ℕ, ◌+◌, ◌-◌, ◌%◌, ◌^◌, ◌<◌, ◌≤◌, Bool, List, slice_index, Option, Some, None, option_map, option_and_then, if◌then◌else◌}
-use Rattle.guest_cpu.specs.Terms.{Choice, live_blocks, Heap, Env, with_reached, Instr, Store, displaced, store_size, Area, Effect, Emits, Ends, Fails, Goes, Machine, Wants, register, with_register, Grant, Guest, Limits, grant, serves, Range, buffer, instruction_at, Event}
+use Rattle.std.specs.Prelude.{ℕ, ◌+◌, ◌-◌, ◌%◌, ◌^◌, ◌<◌, ◌≤◌, Bool, List, Option, Some, None, option_map, option_and_then, if◌then◌else◌}
+use Rattle.guest_cpu.specs.Terms.{Choice, live_blocks, Heap, Env, with_reached, Instr, Store, displaced, store_size, Area, Effect, Emits, Ends, Fails, Goes, Machine, Wants, register, set_count, with_register, Grant, Guest, Limits, grant, serves, Range, buffer, instruction_at, Event}
 use Rattle.guest_cpu.specs.declared.guest_core.Core.{Core}
 use Rattle.guest_cpu.specs.declared.marks.Marks.{Marks}
 use Rattle.guest_cpu.specs.declared.event.Event.TheVariants as event
@@ -52,10 +52,6 @@ pub record CanCount (marks : Marks) : Type 0 where
   pub counted : AreCounted marks
   pub room : marks.steps < 2 ^ 64 - 1
 
--- how many bytes a malloc asks for
-abbrev pub size_asked : Core → ℕ
-size_asked core = slice_index core.regs.x 10
-
 -- one more instruction is counted
 abbrev pub counting : Core → Core
 counting core = record core { marks = record core.marks { since = core.marks.since + 1; steps = core.marks.steps + 1 } }
@@ -73,13 +69,13 @@ abbrev pub stored_by : Option Instr → Machine → Option Range
 stored_by (Some (Store op rs1 rs2 imm)) m = Some (record { at = displaced (register m rs1) imm; count = store_size op })
 stored_by _ m = None
 
--- the bytes of a block of a size that are zeroed
-abbrev pub zeroed_range : Choice → ℕ → Option Range
-zeroed_range choice size = if choice.zeroed then buffer choice.at size else None
+-- the bytes of a new block that are set
+abbrev pub set_range : List (ℕ × ℕ) → Choice → Option Range
+set_range live choice = buffer choice.at (set_count live choice)
 
--- the bytes that an instruction writes with this answer of malloc: those of a block that is zeroed, or a store's
+-- the bytes that an instruction writes with this answer of the allocator: those of a new block that are set, or a store's
 abbrev pub written_with : Option Choice → Option Instr → Machine → Option Range
-written_with (Some choice) found m = zeroed_range choice (register m 10)
+written_with (Some choice) found m = set_range m.blocks choice
 written_with None found m = stored_by found m
 
 -- An instruction that is done, or that stops a run: the event that it is, if it is one, where the guest stands then, and

@@ -1,13 +1,14 @@
 -- The words that this crate's definitions are written in: those of crates below, and types of its code.
 pub use Rattle.std.specs.declared.alloc.AllocError.{AllocError}
+pub use Rattle.block_book.specs.declared.choice.Ask.{Ask}
 pub use Rattle.block_book.specs.declared.choice.Choice.{Choice}
-pub use Rattle.block_book.specs.Answer.{live_blocks, without_live}
-unfoldable pub use Rattle.block_book.specs.Answer.{is_allowed, is_clear}
+pub use Rattle.block_book.specs.Answer.{bytes_asked, insert_live, is_calloc, is_defined, live_blocks, live_with, replaced, same_ask, size_at, without_live, without_replaced}
+unfoldable pub use Rattle.block_book.specs.Answer.{is_allowed, is_block, is_clear}
 pub use Rattle.block_book.specs.Block.{live_block}
 pub use Rattle.block_book.specs.Heap.{Heap, IsHeap, SameEnds, empty_heap, is_live_at, most_blocks, with_block, without_block}
 pub use Rattle.alloc_env.specs.declared.env.Env.{Env}
-pub use Rattle.alloc_env.specs.Serving.{live_with}
-unfoldable pub use Rattle.alloc_env.specs.Serving.{served_free, served_malloc}
+pub use Rattle.alloc_env.specs.Serving.{Served}
+unfoldable pub use Rattle.alloc_env.specs.Serving.{served_ask, served_free}
 pub use Rattle.cow_pages.specs.declared.frame_copy.TheConstants.{PAGE}
 pub use Rattle.cow_pages.specs.declared.store.TheConstants.{MAX_SLOTS}
 pub use Rattle.cow_pages.specs.Pages.{IsLawful, IsMade, Pages, Space, slot_at}
@@ -24,14 +25,14 @@ unfoldable pub use Rattle.elf_image.specs.Memory.{permitted}
 pub use Rattle.run_history.specs.declared.answer.Cause.{Cause}
 pub use Rattle.run_history.specs.declared.answer.Cause.TheVariants.{AssertFailed, BadAccess, BadFree, BadInstruction, Hang}
 pub use Rattle.run_history.specs.declared.regs.Regs.{Regs}
-pub use Rattle.run_history.specs.Call.{answered, chooses, free, malloc, may_send}
-unfoldable pub use Rattle.run_history.specs.Call.{allocated, freed, received}
+pub use Rattle.run_history.specs.Call.{allocation, answered, chooses, free, kept_bytes, kept_count, may_send, set_count}
+unfoldable pub use Rattle.run_history.specs.Call.{allocated, freed, received, set_bytes}
 pub use Rattle.run_history.specs.Machine.{Chooses, Effect, Emits, Ends, Fails, Goes, Machine, Wants, register, with_register}
 unfoldable pub use Rattle.run_history.specs.Machine.{start_machine}
 pub use Rattle.run_history.specs.Repeating.{repeated}
 pub use Rattle.run_history.specs.Run.{after, word_at}
 unfoldable pub use Rattle.run_history.specs.Run.{does, instruction}
-pub use Rattle.run_history.specs.Served.{Free, Grant, Guest, IsLaidOut, Limits, Malloc, Nothing, Path, Request, does_with, granted, guest_of, is_refused, listed, longer, request_of}
+pub use Rattle.run_history.specs.Served.{Allocate, Free, Grant, Guest, IsLaidOut, Limits, Nothing, Path, Request, does_with, granted, guest_of, is_refused, listed, longer, request_of}
 unfoldable pub use Rattle.run_history.specs.Served.{grant, served_next, serves}
 pub use Rattle.run_history.specs.Touching.{Range, buffer, call_buffer, touched_by}
 unfoldable pub use Rattle.run_history.specs.Touching.{instruction_at, touched}

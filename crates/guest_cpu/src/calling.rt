@@ -7,17 +7,18 @@ ghost use Rattle.run_history.specs.Machine.{Ends};
 ghost use Rattle.run_history.specs.Call.{may_send};
 ghost use Rattle.run_history.specs.Touching.{instruction_at};
 ghost use Rattle.run_history.specs.Served.{Limits, Grant};
-ghost use Rattle.guest_cpu.specs.Standing.{standing, AreCounted, machine_of, zeroed_range, turn, turn_of, turn_to};
-ghost use Rattle.guest_cpu.specs.Turns.{TurnsBy, Turned, Wrote, Keeps, Rises, Lasts, HasHeap};
-ghost use Rattle.guest_cpu.specs.Calls.{with_zeros, sends, SendsBy, allocating, freeing};
+ghost use Rattle.guest_cpu.specs.Standing.{standing, AreCounted, machine_of, turn, turn_of, turn_to};
+ghost use Rattle.guest_cpu.specs.Turns.{TurnsBy, Turned, Keeps, Rises, Lasts, HasHeap};
+ghost use Rattle.guest_cpu.specs.Calls.{sends, SendsBy, allocating, freeing};
 
 use crate::Event;
 use crate::guest_core::Core;
-use alloc_env::{Env, serve_free, serve_malloc};
-use block_book::Choice;
+use crate::placing::set_block;
+use alloc_env::{Env, serve_ask, serve_free};
+use block_book::Ask;
 use call_gate::{Call, MOST_SENT, check_call, read_call};
 use guest_space::{AccessRule, GuestSpace};
-use run_history::Cause;
+use run_history::{Cause, kept_count};
 use rx_io::{Bytes, Steps};
 use std::alloc::{AllocError, Global};
 use std::sync::ledger::Ledger;
@@ -58,7 +59,7 @@ pub fn call<R: AccessRule, L: Ledger>(
                 Err(e) => Err(e),
             }
         }
-        Call::Malloc { size } => Ok(Some(malloc(core, space, env, size, steps))),
+        Call::Allocate(ask) => Ok(Some(allocate(core, space, env, ask, steps))),
         Call::Free { at } => Ok(free(core, env, at, steps)),
         Call::Exit { code } => Ok(Some(exit(core, code, steps))),
         Call::Assert { code } => Ok(Some(Event::Failed(Cause::AssertFailed(code)))),
@@ -109,46 +110,34 @@ pub fn send<L: Ledger>(
     Ok(Some((conn as u16, Bytes::from_vec(bytes))))
 }
 
-// Malloc of so many bytes.
-fn malloc<L: Ledger>(
+// An ask of the allocator, which answers, or which is bad.
+fn allocate<L: Ledger>(
     core: &mut Core,
     space: &mut GuestSpace,
     env: Env,
-    size: u32,
+    ask: Ask,
     steps: &mut Steps<L>,
 ) -> Event
-    requires asked { size ≡ slice_index core.old.regs.x 10 }
     requires heap { HasHeap core.old space.old }
     requires counts { AreCounted core.old.marks }
     requires room { core.old.marks.steps < 2 ^ 64 - 1 }
-    ensures turned { Turned (allocating env (standing core.old (flat space.old)) size) (Some result) (standing core.new (flat space.new)) space.old space.new }
+    ensures turned { Turned (allocating env (standing core.old (flat space.old)) ask) (Some result) (standing core.new (flat space.new)) space.old space.new }
     ensures keeps { Keeps core.old core.new }
     ensures lasts { core.new.ended ≡ core.old.ended }
     ensures counted { steps.new + core.old.marks.steps ≡ steps.old + core.new.marks.steps }
 {
-    space.sound();
     core.book.sound();
-    let choice = serve_malloc(env, &mut core.book, size);
-    zero_block(space, choice, size);
-    core.answer(choice.at);
-    core.marks.choices += 1;
-    steps.tick();
-    Event::Chooses(choice)
-}
-
-/// Sets the bytes of a block to 0, where malloc's answer says so.
-pub fn zero_block(space: &mut GuestSpace, choice: Choice, size: u32)
-    requires { choice.zeroed ≡ true → permitted 2 (flat space.old) choice.at size ≡ true }
-    ensures memory { flat space.new ≡ with_zeros choice size (flat space.old) }
-    ensures wrote { Wrote (zeroed_range choice size) space.old space.new }
-{
-    if !choice.zeroed {
-        return;
+    let kept = kept_count(ask, &core.book);
+    match serve_ask(env, &mut core.book, ask) {
+        Ok(choice) => {
+            set_block(space, choice, kept);
+            core.answer(choice.at);
+            core.marks.choices += 1;
+            steps.tick();
+            Event::Chooses(choice)
+        }
+        Err(_) => Event::Failed(Cause::BadFree),
     }
-    if size == 0 {
-        return;
-    }
-    space.zero(choice.at, size);
 }
 
 // Free of the block at an address.

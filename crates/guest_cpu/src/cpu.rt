@@ -3,7 +3,7 @@ ghost use Rattle.std.specs.Prelude.{◌≡◌, ◌+◌, ◌-◌, ◌^◌, ◌<�
 ghost use Rattle.block_book.specs.Heap.{is_bare};
 ghost use Rattle.ckpt_ring.specs.Slots.{AreSound};
 ghost use Rattle.page_line.specs.Line.{count_true};
-ghost use Rattle.run_history.specs.Machine.{Wants, Chooses, register};
+ghost use Rattle.run_history.specs.Machine.{Wants, Chooses};
 ghost use Rattle.run_history.specs.Run.{does};
 ghost use Rattle.run_history.specs.Served.{IsLaidOut};
 ghost use Rattle.rv_exec.specs.Stepping.{limits_of};
@@ -21,7 +21,7 @@ use crate::recorded::advance_as_recorded;
 use crate::turning::advance;
 use crate::{Event, Marks, Question};
 use alloc_env::Env;
-use block_book::Choice;
+use block_book::{Ask, Choice};
 use guest_space::{AccessRule, AllMapped, GuestSpace};
 use page_line::SlotLine;
 use rx_io::{Item, Steps};
@@ -163,20 +163,25 @@ impl<R: AccessRule> Cpu<R> {
         }
     }
 
-    /// The malloc at which the guest stands answers so. False, and nothing changes, exactly where the answer can't be used: C
-    /// doesn't allow it, or 4096 blocks stand and it isn't null.
-    pub fn use_choice<L: Ledger>(&mut self, choice: Choice, steps: &mut Steps<L>) -> bool
-        requires wants { does None None self.old.slots.live.guest.machine ≡ Chooses (register self.old.slots.live.guest.machine 10) }
+    /// The ask at which the guest stands, which is wanted, is answered so. False, and nothing changes, exactly where the answer
+    /// can't be used: it is one to another ask, C doesn't allow it, or 4096 blocks stand and it isn't null.
+    pub fn use_choice<L: Ledger>(
+        &mut self,
+        wanted: Ask,
+        choice: Choice,
+        steps: &mut Steps<L>,
+    ) -> bool
+        requires wants { does None None self.old.slots.live.guest.machine ≡ Chooses wanted }
         requires bare { is_bare self.old.slots.live.guest.heap ≡ true }
         requires room { self.old.slots.live.steps < 2 ^ 64 - 1 }
-        ensures usable { result ≡ is_usable self.old.slots.live choice }
+        ensures usable { result ≡ is_usable self.old.slots.live wanted choice }
         ensures live { MatchBool result (live_of self.new ≡ live_with_choice self.old.base choice (live_of self.old)) (self.new ≡ self.old) }
         ensures kept { self.new ≡ with_live (live_of self.new) self.old }
         ensures bare { is_bare self.new.slots.live.guest.heap ≡ true }
         ensures counted { MatchBool result (steps.new ≡ steps.old + 1) (steps.new ≡ steps.old) }
     {
         self.space.sound();
-        if !choose(&mut self.core, &mut self.space, choice) {
+        if !choose(&mut self.core, &mut self.space, wanted, choice) {
             return false;
         }
         steps.tick();

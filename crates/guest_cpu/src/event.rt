@@ -1,6 +1,6 @@
 // Why a run stops.
 
-use block_book::Choice;
+use block_book::{Ask, Choice};
 use run_history::Cause;
 use rx_io::Bytes;
 
@@ -11,7 +11,7 @@ pub enum Event {
     Asks,
     /// It sent bytes to a connection.
     Emits(u16, Bytes),
-    /// It called malloc, which answered so.
+    /// It asked the allocator, which answered so.
     Chooses(Choice),
     /// It ended itself with a code.
     Exits(u32),
@@ -26,8 +26,8 @@ pub enum Question {
     Asks,
     /// It sent bytes to a connection.
     Emits(u16, Bytes),
-    /// It calls malloc for so many bytes: the call isn't executed.
-    Wants(u32),
+    /// It asks the allocator: the call isn't executed.
+    Wants(Ask),
     /// It ended itself with a code.
     Exits(u32),
     /// It failed: the instruction isn't executed.

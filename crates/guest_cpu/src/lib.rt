@@ -17,6 +17,7 @@ mod guest_core;
 pub mod laws;
 mod making;
 mod marks;
+mod placing;
 mod quiet;
 mod receiving;
 mod recorded;

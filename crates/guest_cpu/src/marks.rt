@@ -9,7 +9,7 @@ pub struct Marks {
     pub since: u64,
     /// The instructions done.
     pub steps: u64,
-    /// The answers of malloc.
+    /// The answers of the allocator.
     pub choices: u64,
     /// The sends made.
     pub sends: u64,

@@ -1,5 +1,6 @@
 // One instruction of a guest as recorded: without a budget, an environment or a rule.
 ghost use Rattle.std.specs.Prelude.{◌≡◌, ◌-◌, ◌+◌, ◌^◌, ◌<◌, List, Some, Ok, None, slice_index};
+ghost use Rattle.block_book.specs.Answer.{live_blocks};
 ghost use Rattle.elf_image.specs.Memory.{Area};
 ghost use Rattle.guest_space.specs.Space.{flat};
 ghost use Rattle.rv_isa.specs.declared.instr.Instr.TheVariants.{Ecall};
@@ -7,14 +8,15 @@ ghost use Rattle.run_history.specs.Call.{free};
 ghost use Rattle.run_history.specs.Touching.{instruction_at};
 ghost use Rattle.guest_cpu.specs.Standing.{standing, machine_of, turn_to, AreCounted};
 ghost use Rattle.guest_cpu.specs.Turns.{TurnsBy, Keeps, Rises, RecordedLasts};
-ghost use Rattle.guest_cpu.specs.Recording.{released, recorded_of, recorded_turn, recorded};
+ghost use Rattle.guest_cpu.specs.Recording.{released, asking, recorded_of, recorded_turn, recorded};
 
 use crate::Question;
 use crate::calling::send;
 use crate::guest_core::Core;
+use block_book::{Ask, Book};
 use call_gate::{Call, check_call, read_call};
 use guest_space::{AllMapped, GuestSpace};
-use run_history::Cause;
+use run_history::{Cause, may_ask};
 use rv_exec::{next_instr, step};
 use rv_isa::Instr;
 use rx_io::Steps;
@@ -58,7 +60,7 @@ pub fn advance_as_recorded<L: Ledger>(
     }
 }
 
-// Does a call, or meets a question. At a recv whose buffer may be written the item is asked for, at a malloc its answer.
+// Does a call, or meets a question. At a recv whose buffer may be written the item is asked for, at an ask its answer.
 #[inline(never)]
 fn recorded_call<L: Ledger>(
     alloc: Global,
@@ -91,11 +93,21 @@ fn recorded_call<L: Ledger>(
                 Err(e) => Err(e),
             }
         }
-        Call::Malloc { size } => Ok(Some(Question::Wants(size))),
+        Call::Allocate(ask) => Ok(Some(wanted(&core.book, ask))),
         Call::Free { at } => Ok(release(core, at, steps)),
         Call::Exit { code } => Ok(Some(end(core, code, steps))),
         Call::Assert { code } => Ok(Some(Question::Failed(Cause::AssertFailed(code)))),
     }
+}
+
+// The answer to an ask is wanted, unless it is to replace what is no live block.
+fn wanted(book: &Book, ask: Ask) -> Question
+    ensures { result ≡ asking (live_blocks book.now.blocks) ask }
+{
+    if may_ask(ask, book) {
+        return Question::Wants(ask);
+    }
+    Question::Failed(Cause::BadFree)
 }
 
 // Free of the block at an address, as in the model: what isn't live stays as it is, and no free fails.

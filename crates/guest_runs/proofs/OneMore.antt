@@ -1,5 +1,5 @@
 -- What one more instruction that takes no item changes of a run, and what it keeps.
-use Rattle.guest_runs.proofs.Terms.{Bool, None, Option, Some, [], ap, cond, false, sym, true, ℕ, ◌+◌, ◌<◌, ◌∙◌, ◌≡◌, none-some, same_Some, Choice, is_allowed, Env, allocated_keeps, serves_to, Alone, Keeps, Picks, Same, Shape, Takes, does_shape, allocated, chooses, Chooses, Effect, Emits, Ends, Fails, Goes, Machine, State, Wants, register, after, does, Limits, Path, served_next}
+use Rattle.guest_runs.proofs.Terms.{Bool, None, Option, Some, [], ap, cond, false, sym, true, ℕ, ◌+◌, ◌<◌, ◌∙◌, ◌≡◌, none-some, same_Some, Ask, Choice, is_allowed, Env, allocated_keeps, serves_to, Alone, Keeps, Picks, Same, Shape, Takes, does_shape, allocated, chooses, Chooses, Effect, Emits, Ends, Fails, Goes, Machine, State, Wants, after, does, Limits, Path, served_next}
 
 -- what it changes of a state
 pub record Moves (s t : State) : Type 0 where
@@ -23,18 +23,18 @@ alone_moves s t (Ends code) alone h =
     let ended : t.ended ≡ Some code = sym (ap (λ (v : State). v.ended) (same_Some _ t h)) in
     record { taken = ap (λ (m : Machine). m.taken) machine; connections = ap (λ (m : Machine). m.connections) machine; since = λ lives. absurd (none-some code (sym lives ∙ ended)) }
 alone_moves s t Wants alone h = absurd alone
-alone_moves s t (Chooses size) alone h = absurd alone
+alone_moves s t (Chooses ask) alone h = absurd alone
 alone_moves s t (Fails cause) alone h = absurd (none-some t h)
 
--- after a malloc
-chosen_moves : (s t : State) (size : ℕ) (choice : Option Choice) → after s (chooses size s.machine choice) ≡ Some t → Moves s t
-chosen_moves s t size None h = absurd (none-some t h)
-chosen_moves s t size (Some choice) h = of_test (is_allowed s.machine.heap_start s.machine.heap_end s.machine.blocks size choice) h
+-- after an ask
+chosen_moves : (s t : State) (ask : Ask) (choice : Option Choice) → after s (chooses ask s.machine choice) ≡ Some t → Moves s t
+chosen_moves s t ask None h = absurd (none-some t h)
+chosen_moves s t ask (Some choice) h = of_test (is_allowed s.machine.heap_start s.machine.heap_end s.machine.blocks ask choice) h
   where
-    of_test : (b : Bool) → after s (cond b (Goes (allocated size choice s.machine)) (Chooses size)) ≡ Some t → Moves s t
+    of_test : (b : Bool) → after s (cond b (Goes (allocated choice s.machine)) (Chooses ask)) ≡ Some t → Moves s t
     of_test true is =
-        let keeps = allocated_keeps size choice s.machine in
-        let machine : t.machine ≡ allocated size choice s.machine = sym (ap (λ (v : State). v.machine) (same_Some _ t is)) in
+        let keeps = allocated_keeps choice s.machine in
+        let machine : t.machine ≡ allocated choice s.machine = sym (ap (λ (v : State). v.machine) (same_Some _ t is)) in
         record {
           taken = ap (λ (m : Machine). m.taken) machine ∙ keeps.taken;
           connections = ap (λ (m : Machine). m.connections) machine ∙ keeps.connections;
@@ -48,7 +48,7 @@ does_moves s t choice goes = of_shape (does_shape s.machine)
     of_shape : Shape s.machine (λ item choice. does item choice s.machine) → Moves s t
     of_shape (Same e alone is) = alone_moves s t e alone (ap (after s) (sym (is None choice)) ∙ goes)
     of_shape (Takes may is) = absurd (none-some t (ap (after s) (sym (is None choice)) ∙ goes))
-    of_shape (Picks is) = chosen_moves s t (register s.machine 10) choice (ap (after s) (sym (is None choice)) ∙ goes)
+    of_shape (Picks ask good is) = chosen_moves s t ask choice (ap (after s) (sym (is None choice)) ∙ goes)
 
 -- one more instruction of a run, without items
 pub record OneMore (limits : Limits) (path next : Path) : Type 0 where

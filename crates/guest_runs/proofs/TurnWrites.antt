@@ -8,7 +8,7 @@ WritesAs (Some event.Asks) wrote range = wrote ≡ None
 WritesAs (Some (event.Failed cause)) wrote range = wrote ≡ None
 WritesAs _ wrote range = wrote ≡ range
 
--- an instruction that goes on, and is an answer of malloc or no event
+-- an instruction that goes on, and is an answer of the allocator or no event
 goes_as : (chosen : Option Choice) (range : Option Range) → WritesAs (option_map event.Chooses chosen) range range
 goes_as None range = refl
 goes_as (Some choice) range = refl
@@ -25,8 +25,8 @@ written_as s (Some given) Wants item t turns = subst (λ (u : Turn Event). Write
 written_as s None Wants item t turns = subst (λ (u : Turn Event). WritesAs u.event u.written (written_by Wants item None s.guest.machine)) (same_Some _ t turns) refl
 written_as s (Some given) (Fails cause) item t turns = subst (λ (u : Turn Event). WritesAs u.event u.written None) (same_Some _ t turns) refl
 written_as s None (Fails cause) item t turns = subst (λ (u : Turn Event). WritesAs u.event u.written None) (same_Some _ t turns) refl
-written_as s (Some given) (Chooses size) item t turns = absurd (none-some t turns)
-written_as s None (Chooses size) item t turns = absurd (none-some t turns)
+written_as s (Some given) (Chooses ask) item t turns = absurd (none-some t turns)
+written_as s None (Chooses ask) item t turns = absurd (none-some t turns)
 written_as s None (Goes m) item t turns = absurd (none-some t turns)
 written_as s None (Emits conn bytes m) item t turns = absurd (none-some t turns)
 

@@ -34,7 +34,7 @@ written_alike (Goes new) one other None m same = refl
 written_alike (Goes new) one other (Some given) m same = refl
 written_alike (Emits conn bytes new) one other given m same = refl
 written_alike (Ends code) one other given m same = refl
-written_alike (Chooses size) one other given m same = refl
+written_alike (Chooses ask) one other given m same = refl
 written_alike (Fails cause) one other given m same = refl
 
 -- an instruction that wanted an item, and was done, has one

@@ -1,10 +1,10 @@
--- What a run writes is fixed by where it comes from and where it leads to: the environments on the way add nothing, since the answers of malloc that it used
+-- What a run writes is fixed by where it comes from and where it leads to: the environments on the way add nothing, since the answers of the allocator that it used
 -- stand in it.
 use Rattle.std.proofs.lemmas.Bool.{lt-leb}
-use Rattle.alloc_env.specs.Serving.{served_malloc}
-use Rattle.guest_runs.proofs.Terms.{Bool, List, None, Option, Some, [], ap, append-nil, append_assoc, arith, false, leb, refl, subst, sym, ℕ, ◌++◌, ◌∙◌, ◌∷◌, ◌≡◌, ◌≤◌, append_cancel_left, same_Some, slice_get, Item, Choice, Heap, Env, map_some, serves_to, Chooses, Effect, Emits, Ends, Fails, Goes, Machine, State, Wants, after, does, Free, Grant, Guest, Limits, Malloc, Nothing, Path, Request, grant, granted, guest_of, is_refused, listed, request_of, served_next, serves, Range, instruction_at, touched, with_range, written_with, WritesIn, writes, written_by, WritesOnce}
+use Rattle.alloc_env.specs.Serving.{Served as Answered, served_ask}
+use Rattle.guest_runs.proofs.Terms.{Bool, List, None, Option, Some, [], ap, append-nil, append_assoc, arith, false, leb, refl, subst, sym, ℕ, ◌++◌, ◌∙◌, ◌∷◌, ◌≡◌, ◌≤◌, append_cancel_left, same_Some, slice_get, Item, Choice, Heap, Env, map_some, serves_to, Chooses, Effect, Emits, Ends, Fails, Goes, Machine, State, Wants, after, does, Allocate, Free, Grant, Guest, Limits, Nothing, Path, Request, grant, granted, guest_of, is_refused, listed, request_of, served_next, serves, Range, instruction_at, touched, with_range, written_with, WritesIn, writes, written_by, WritesOnce}
 
--- a run that goes on used more answers of malloc behind its own, and has no fewer instructions
+-- a run that goes on used more answers of the allocator behind its own, and has no fewer instructions
 record Adds (first second : Path) : Type 0 where
   others : List Choice
   chose : second.choices ≡ first.choices ++ others
@@ -26,15 +26,16 @@ in_adds limits items base (env ∷ envs) first before second after wrote =
 same_choice : (one other : Choice) (rest more : List Choice) → one ∷ rest ≡ other ∷ more → one ≡ other
 same_choice one other rest more same = cc
 
--- In each environment a malloc is answered by a choice, and nothing else is. So where a list of answers goes on by both, they are the same.
+-- In each environment an ask is answered by a choice, and nothing else is. So where a list of answers goes on by both, they are the same.
 granted_once : (env under : Env) (heap apart : Heap) (request : Request) (given found : Grant) (rest more : List Choice) → granted env heap request ≡ Some given → granted under apart request ≡ Some found
     → listed given.chosen ++ rest ≡ listed found.chosen ++ more → given.chosen ≡ found.chosen
-granted_once env under heap apart (Malloc size) given found rest more one other same =
-    let is : Some (served_malloc env heap size).choice ≡ given.chosen = ap (λ (g : Grant). g.chosen) (same_Some _ given one) in
-    let was : Some (served_malloc under apart size).choice ≡ found.chosen = ap (λ (g : Grant). g.chosen) (same_Some _ found other) in
-    let both : listed (Some (served_malloc env heap size).choice) ++ rest ≡ listed (Some (served_malloc under apart size).choice) ++ more =
-    ap (λ (c : Option Choice). listed c ++ rest) is ∙ same ∙ ap (λ (c : Option Choice). listed c ++ more) (sym was) in
-    sym is ∙ ap Some (same_choice (served_malloc env heap size).choice (served_malloc under apart size).choice rest more both) ∙ was
+granted_once env under heap apart (Allocate ask) given found rest more one other same =
+    let p = map_some (λ (served : Answered). record { chosen = Some served.choice; heap = served.heap }) (served_ask env heap ask) given one in
+    let q = map_some (λ (served : Answered). record { chosen = Some served.choice; heap = served.heap }) (served_ask under apart ask) found other in
+    let is : Some p.0.choice ≡ given.chosen = ap (λ (g : Grant). g.chosen) p.2 in
+    let was : Some q.0.choice ≡ found.chosen = ap (λ (g : Grant). g.chosen) q.2 in
+    let both : listed (Some p.0.choice) ++ rest ≡ listed (Some q.0.choice) ++ more = ap (λ (c : Option Choice). listed c ++ rest) is ∙ same ∙ ap (λ (c : Option Choice). listed c ++ more) (sym was) in
+    sym is ∙ ap Some (same_choice p.0.choice q.0.choice rest more both) ∙ was
 granted_once env under heap apart (Free place) given found rest more one other same =
     let p = map_some _ _ given one in
     let q = map_some _ _ found other in
@@ -56,7 +57,7 @@ written_given Wants (Some item) given found m same = refl
 written_given (Goes new) item given found m same = ap (λ (c : Option Choice). written_with c (instruction_at m) m) same
 written_given (Emits conn bytes new) item given found m same = refl
 written_given (Ends code) item given found m same = refl
-written_given (Chooses size) item given found m same = refl
+written_given (Chooses ask) item given found m same = refl
 written_given (Fails cause) item given found m same = refl
 
 -- what an instruction that is done writes, by the answer of the allocator
@@ -71,7 +72,7 @@ record Alike (one other : Path) : Type 0 where
   choices : one.choices ≡ other.choices
   steps : one.steps ≡ other.steps
 
--- One instruction at each, where the answers of malloc go on the same: it leads to two such places, and writes the same.
+-- One instruction at each, where the answers of the allocator go on the same: it leads to two such places, and writes the same.
 next_once : (limits : Limits) (items : List Item) (env under : Env) (one other next far : Path) (rest more : List Choice) → Alike one other → served_next limits items env one ≡ Some next → served_next limits items under other ≡ Some far
     → next.choices ++ rest ≡ far.choices ++ more → Alike next far × (writes limits items env one ≡ writes limits items under other)
 next_once limits items env under one other next far rest more alike goes comes same =

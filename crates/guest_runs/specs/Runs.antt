@@ -17,7 +17,7 @@ pub record GoesOn (limits : Limits) (items : List Item) (plan : List Override) (
   pub later : first.steps ≤ second.steps
   pub bounded : second.state.ended ≡ None → IsBounded limits.budget first → IsBounded limits.budget second
 
--- nothing was sent, and no answer of malloc was used
+-- nothing was sent, and no answer of the allocator was used
 pub record IsSilent (first second : Path) : Type 0 where
   pub choices : second.choices ≡ first.choices
   pub sends : second.state.sends ≡ first.state.sends

@@ -3,7 +3,7 @@ use Rattle.std.specs.Prelude.{◌≡◌, ℕ, Bool, List, [], ◌∷◌, Option,
 use Rattle.guest_runs.specs.Terms.{AllocError, Item, Env, Effect, Goes, Machine, Wants, Grant, Limits, Override, Path, grant, guest_of, served_next, serves, Range, instruction_at, Event, received_range, Live, with_range, written_with}
 use Rattle.guest_runs.specs.Runs.{RunsOn, TakesOn}
 
--- The bytes that an instruction writes, by what it does without an item: those of the item that it takes, of a block that is zeroed, or a store's.
+-- The bytes that an instruction writes, by what it does without an item: those of the item that it takes, of a new block that are set, or a store's.
 abbrev pub written_by : Effect → Option Item → Option Grant → Machine → Option Range
 written_by Wants (Some item) granted m = received_range item m
 written_by (Goes after) item (Some granted) m = written_with granted.chosen (instruction_at m) m

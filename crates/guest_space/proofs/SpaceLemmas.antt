@@ -1,6 +1,6 @@
 -- A guest's memory: what its spans and its pages say of the flat memory.
 use Rattle.cow_pages.specs.Little as pages
-use Rattle.guest_space.proofs.Terms.{Bool, IfSome, IsSome, List, MatchBool, None, Option, Some, [], ap, arith, drop, false, inl, inr, length, refl, slice_get, subst, suc, sym, take, true, zero, ℕ, ◌%◌, ◌*◌, ◌+◌, ◌-◌, ◌/◌, ◌<◌, ◌^◌, ◌∙◌, ◌∷◌, ◌≡◌, ◌≤◌, cases_Bool, false≢true, All, PAGE, writes_nothing, IsLawful, Pages, Space, slot_at, Writes, little_bytes, little_number, Table, bytes_at, permitted, GuestPages, IsLawfulSpace, LiesIn, Span, flat, flat_of, guest_pages, Puts, AreHeld, HasCode}
+use Rattle.guest_space.proofs.Terms.{Bool, IfSome, IsSome, List, MatchBool, None, Option, Some, [], ap, arith, drop, false, inl, inr, length, refl, slice_get, subst, suc, sym, take, true, zero, ℕ, ◌%◌, ◌*◌, ◌++◌, ◌+◌, ◌-◌, ◌/◌, ◌<◌, ◌^◌, ◌∙◌, ◌∷◌, ◌≡◌, ◌≤◌, cases_Bool, false≢true, length-drop, length-take-le, All, PAGE, writes_more, writes_nothing, IsLawful, Pages, Space, slot_at, Writes, little_bytes, little_number, Table, Area, bytes_at, permitted, put_byte, put_bytes, GuestPages, IsLawfulSpace, LiesIn, Span, flat, flat_of, guest_pages, Puts, AreHeld, HasCode}
 use Rattle.guest_space.proofs.CodeLemmas.{restores_keep_code, writes_keep_code}
 use Rattle.guest_space.proofs.FlatLemmas.{permitted-held, held-permitted, range_inside, bytes_at-flat, put_bytes-flat}
 
@@ -167,3 +167,34 @@ parts_place flag base spans store code space at size so is some held =
 pub parts_run : (flag base : ℕ) (spans : List Span) (store : Pages) (code : Table) (space : GuestPages) (at size : ℕ) → IsLawfulSpace (guest_pages base spans store code) → guest_pages base spans store code ≡ space → 0 < size → permitted flag (flat space) at size ≡ true → (base ≤ at) × (at - base + size ≤ PAGE * store.pages)
 parts_run flag base spans store code space at size so is some h =
     parts_room flag base spans store code at size so some (parts_held flag base spans store code space at size so is h)
+
+-- bytes that were copied are those of the flat memory, as many as were asked for
+pub parts_copied : (base : ℕ) (spans : List Span) (before store : Pages) (code : Table) (old : GuestPages) (from at size : ℕ) → IsLawfulSpace (guest_pages base spans before code) → guest_pages base spans before code ≡ old → 0 < size → permitted 4 (flat old) from size ≡ true → Writes before store (at - base) (take size (drop (from - base) before.live.bytes))
+    → Writes before store (at - base) (bytes_at 4 (flat old) from size) × (length (bytes_at 4 (flat old) from size) ≡ size)
+parts_copied base spans before store code old from at size so is some h wrote =
+    let same : take size (drop (from - base) before.live.bytes) ≡ bytes_at 4 (flat old) from size = parts_bytes 4 base spans before code old from size so is (parts_held 4 base spans before code old from size so is h) in
+    let room = (parts_run 4 base spans before code old from size so is some h).1 in
+    let whole = bytes_are (guest_pages base spans before code) so in
+    let many : length (take size (drop (from - base) before.live.bytes)) ≡ size = length-take-le size (drop (from - base) before.live.bytes) (omega (arith, room, whole, length-drop (from - base) before.live.bytes)) in
+    (subst (Writes before store (at - base)) same wrote, ap length (sym same) ∙ many)
+
+-- two lists of bytes, one right behind the other
+put_bytes-append : (memory : List Area) (at : ℕ) (first second : List ℕ) → put_bytes memory at (first ++ second) ≡ put_bytes (put_bytes memory at first) (at + length first) second
+put_bytes-append memory at [] second = let e : at ≡ at + 0 = omega arith in ap (λ n. put_bytes memory n second) e
+put_bytes-append memory at (byte ∷ first) second =
+    let e : at + 1 + length first ≡ at + suc (length first) = omega arith in
+    put_bytes-append (put_byte memory at byte) (at + 1) first second
+    ∙ ap (λ n. put_bytes (put_bytes (put_byte memory at byte) (at + 1) first) n second) e
+
+-- bytes were put right behind others, which is a put of both
+pub puts_more : (old mid new : GuestPages) (at : ℕ) (first second : List ℕ) → IsLawfulSpace old → old.base ≤ at → at - old.base + length first + length second ≤ PAGE * old.store.pages → Puts old at first mid → Puts mid (at + length first) second new → Puts old at (first ++ second) new
+puts_more old mid new at first second so low room one two =
+    let place : at + length first - mid.base ≡ at - old.base + length first = omega (arith, one.base_stays, low) in
+    record {
+      base_stays = two.base_stays ∙ one.base_stays;
+      spans_stay = two.spans_stay ∙ one.spans_stay;
+      code_stays = two.code_stays ∙ one.code_stays;
+      memory = two.memory ∙ ap (λ m. put_bytes m (at + length first) second) one.memory ∙ sym (put_bytes-append (flat old) at first second);
+      pages = writes_more old.store mid.store new.store (at - old.base) first second one.pages (subst (λ n. Writes mid.store new.store n second) place two.pages) so.store one.lawful.store room;
+      lawful = two.lawful;
+    }

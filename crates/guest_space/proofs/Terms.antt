@@ -6,7 +6,7 @@ pub use Rattle.std.proofs.lemmas.List.{append-nil, append_assoc, at_drop_all, at
 pub use Rattle.std.proofs.lemmas.List.Elements.{All-append, All-cons, All-get_or, All-head, All-map, All-nil, All-push, All-replicate, All-set, All-tail, All-weaker}
 pub use Rattle.std.proofs.lemmas.Option.{get_or_from_slice_get, slice_get-get_or, slice_get_within}
 pub use Rattle.std.specs.Prelude.{slice_index}
-pub use Rattle.cow_pages.proofs.RunSteps.{shared_after, writes_nothing}
+pub use Rattle.cow_pages.proofs.RunSteps.{shared_after, writes_more, writes_nothing}
 pub use Rattle.cow_pages.proofs.Runs.{reaches-here, reaches-other, refill}
 pub use Rattle.guest_space.specs.Terms.{All, AllPairs, Area, Image, IsLawful, IsMade, IsPlaced, IsTableOf, NumberAfter, PAGE, Pages, STACK, Segment, Space, StandsAt, Table, Writes, base, blank_area, byte_at, bytes_at, copied_pages, covers, each_covered, has, heap_end, heap_start, is_shared, little_bytes, little_number, memory_of, put_at, put_byte, put_bytes, reaches, saved_numbers, segment_area, share_byte, slot_at, stack_top, used_of, word_in}
 unfoldable pub use Rattle.guest_space.specs.Terms.{permitted, zeros}

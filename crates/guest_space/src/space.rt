@@ -1,5 +1,5 @@
 // The memory of a guest: spans of a window of pages.
-ghost use Rattle.std.specs.Prelude.{◌≡◌, ◌==◌, ◌+◌, ◌-◌, ◌*◌, ◌/◌, ◌%◌, ◌^◌, ◌<◌, ◌≤◌, length, take, drop, replicate, true, false, Some, None, is_some, IsSome, IfOk, Ok, IfSome, MatchBool, slice_get, slice_set, if◌then◌else◌};
+ghost use Rattle.std.specs.Prelude.{◌≡◌, ◌==◌, ◌+◌, ◌-◌, ◌*◌, ◌/◌, ◌%◌, ◌^◌, ◌<◌, ◌≤◌, length, take, drop, replicate, true, false, Some, None, is_some, IsSome, IfOk, Ok, IfSome, MatchBool, slice_get, slice_set, if◌then◌else◌, ◌⊎◌};
 ghost use Rattle.std.specs.Bool.{OnFalse, OnTrue};
 ghost use Rattle.rv_isa.specs.Words.{little_bytes, little_number};
 ghost use Rattle.elf_image.specs.Memory.{permitted, bytes_at};
@@ -291,6 +291,21 @@ impl GuestSpace {
             return;
         }
         self.store.zero_run(at - self.base, len);
+    }
+
+    /// Puts as many bytes from an address on as stand from another one on, where they are read from. It requires that those may be read and
+    /// these written, which `allows` tests, and that the two runs share no byte. It refuses nothing.
+    pub fn copy(&mut self, from: u32, at: u32, len: u32)
+        requires read { permitted 4 (flat self.old) from len ≡ true }
+        requires written { permitted 2 (flat self.old) at len ≡ true }
+        requires apart { (from + len ≤ at) ⊎ (at + len ≤ from) }
+        ensures { Puts self.old at (bytes_at 4 (flat self.old) from len) self.new }
+    {
+        let _base = self.base;
+        if len == 0 {
+            return;
+        }
+        self.store.copy_run(from - self.base, at - self.base, len);
     }
 
     /// Saves the memory in a slot.

@@ -3,7 +3,7 @@ use Rattle.std.specs.Prelude.{◌≡◌, ℕ, ◌≤◌, List, [], ◌∷◌, �
 use Rattle.links.specs.declared.journal.Entry.TheVariants as entry
 use Rattle.links.specs.declared.journal.LinkEvent.TheVariants as event
 use Rattle.session_history.specs.Heeding as unheeded
-use Rattle.link_gate.specs.Terms.{Rose, Send, Entry, LinkEvent, Comes, Coming, Counts, Refuses, Tells, Told, events_in, Seen, IsPieceOf, Log, Ledger, is_open, stamped_to, IsHeard, IsHeeded, IsUnheeded, Bounds, KeepsItems, KeepsPhases, KeepsReplies, HearFault, Heard}
+use Rattle.link_gate.specs.Terms.{Rose, Send, Entry, LinkEvent, Coming, Counts, IsNext, Refuses, Tells, Told, events_in, Seen, IsPieceOf, Log, Ledger, is_open, stamped_to, IsHeard, IsHeeded, IsUnheeded, Bounds, KeepsItems, KeepsPhases, KeepsReplies, HearFault, Heard}
 use Rattle.link_gate.specs.declared.heard.Heard.TheVariants as heard
 use Rattle.link_gate.specs.declared.heard.HearFault.TheVariants as fault
 
@@ -55,7 +55,7 @@ TakesBehind old new takes (Err other) = takes ≡ true
 
 -- what comes stays as it was where a link has ended or refused
 abbrev pub ComesLast : Option Coming → Result Heard HearFault → Type 0
-ComesLast coming (Ok heard.Ends) = IfSome coming (λ next. next ≡ Comes event.Ends)
+ComesLast coming (Ok heard.Ends) = IfSome coming (λ next. IsNext next event.Ends)
 ComesLast coming (Err (fault.Refused kind offset)) = IfSome coming (λ next. next ≡ Refuses kind offset)
 ComesLast coming _ = Unit {0}
 

@@ -10,7 +10,7 @@ pub use Rattle.links.specs.declared.journal.Given.TheVariants.{All, Gone}
 pub use Rattle.links.specs.declared.journal.LinkEvent.{LinkEvent}
 pub use Rattle.links.specs.declared.journal.LinkEvent.TheVariants.{Closes, Ends, Opens, Piece, Settles}
 pub use Rattle.links.specs.declared.journal.LinkFault.{LinkFault}
-pub use Rattle.links.specs.Links.{Closed, Comes, Coming, Counts, Cuts, Gives, GivesAtClose, HasGiveCause, IsInOrder, Open, Phase, Phases, Refuses, StaysTold, StillComes, Tells, TellsHanded, Told, Unopened, cut_entries, events_in, phases_after}
+pub use Rattle.links.specs.Links.{Closed, Coming, Counts, Cuts, Gives, GivesAtClose, HasGiveCause, IsInOrder, IsNext, Open, Phase, Phases, Refuses, StaysTold, StillComes, Tells, TellsHanded, Told, Unopened, cut_entries, events_in, phases_after}
 pub use Rattle.links.specs.Seen.{GiveShows, Seen, but_given}
 pub use Rattle.msg_frame.specs.declared.framing.Framing.{Framing}
 pub use Rattle.msg_frame.specs.Messages.{Parts}

@@ -1,6 +1,6 @@
 -- What a link between clients and a session tells, and what its calls do to it. The journal of a link is one list of
 -- entries: the events that were taken from it, and the pieces that were given to its connections, in order.
-use Rattle.std.specs.Prelude.{◌≡◌, ℕ, ◌<◌, ◌≤◌, Bool, true, false, List, [], ◌∷◌, ◌++◌, length, take, Option, Some, None, IfSome, IsSome, Result, Ok, Err, IsErrOf, unwrap_or, if◌then◌else◌, ◌==◌}
+use Rattle.std.specs.Prelude.{◌≡◌, ◌≢◌, ℕ, ◌<◌, ◌≤◌, Bool, true, false, List, [], ◌∷◌, ◌++◌, length, take, Option, Some, None, IfSome, IsSome, Result, Ok, Err, IsErrOf, unwrap_or, if◌then◌else◌, ◌==◌}
 use Rattle.rx_io.specs.Faults.{Rose}
 use Rattle.links.specs.Terms.{Prefix, Entry, Given, All, Gone, LinkEvent, LinkFault, Memory, ReadFault, Refused, WriteFault}
 use Rattle.links.specs.declared.journal.Entry.TheVariants as entry
@@ -93,16 +93,21 @@ pub record Tells (old new : Told) (entries : List Entry) : Type 0 where
   pub pieces : Grew old.pieces new.pieces (pieces_in entries)
   pub journal : Grew old.journal new.journal entries
 
--- what a link's grammar has behind the events that were taken: one more, Ends among them, or a refusal with its kind and
--- its offset
+-- What a link's grammar has behind the events that were taken: one more, Ends among them, or a refusal with its kind and
+-- its offset. A link may tell only that it refuses nothing, and not which event comes.
 pub data Coming : Type 0 where
   Comes : LinkEvent → Coming
   Refuses : ℕ → ℕ → Coming
+  ComesUntold : Coming
+
+-- an event is the one that comes, unless it isn't told which one does
+abbrev pub IsNext : Coming → LinkEvent → Type 0
+IsNext coming event = coming ≢ ComesUntold → coming ≡ Comes event
 
 -- An event is taken, or refused, exactly as the grammar has it, where the link tells that. A fault of reading or want of
 -- memory may come in place of either; a fault of writing doesn't.
 abbrev pub GoesBy : Option Coming → Result LinkEvent LinkFault → Type 0
-GoesBy coming (Ok event) = IfSome coming (λ next. next ≡ Comes event)
+GoesBy coming (Ok event) = IfSome coming (λ next. IsNext next event)
 GoesBy coming (Err (Refused kind offset)) = IfSome coming (λ next. next ≡ Refuses kind offset)
 GoesBy coming (Err ReadFault) = Unit {0}
 GoesBy coming (Err Memory) = Unit {0}
@@ -110,7 +115,7 @@ GoesBy coming (Err WriteFault) = ⊥
 
 -- what comes stays as it was where a link has ended or refused
 abbrev pub StillComes : Option Coming → Result LinkEvent LinkFault → Type 0
-StillComes coming (Ok event.Ends) = IfSome coming (λ next. next ≡ Comes event.Ends)
+StillComes coming (Ok event.Ends) = IfSome coming (λ next. IsNext next event.Ends)
 StillComes coming (Err (Refused kind offset)) = IfSome coming (λ next. next ≡ Refuses kind offset)
 StillComes coming _ = Unit {0}
 

@@ -37,13 +37,12 @@ abbrev pub next_coming : Phases → Script → Coming
 next_coming phases script = if is_in_order phases (next_event script) then Comes (next_event script) else Refuses 4 script.taken
 
 -- an event that comes is answered, and one that is refused is a fault
-abbrev pub answer_of : Coming → Result LinkEvent LinkFault
-answer_of (Comes event) = Ok event
-answer_of (Refuses kind offset) = Err (Refused kind offset)
+abbrev pub next_answer : Phases → Script → Result LinkEvent LinkFault
+next_answer phases script = if is_in_order phases (next_event script) then Ok (next_event script) else Err (Refused 4 script.taken)
 
 -- what a call of `next` is to answer
 abbrev pub planned_next : Phases → Script → Result LinkEvent LinkFault
-planned_next phases script = if fails_next script.plan then Err ReadFault else answer_of (next_coming phases script)
+planned_next phases script = if fails_next script.plan then Err ReadFault else next_answer phases script
 
 -- how many bytes go out before the connection is gone, if the call with this number is to find it so
 abbrev pub gone_at : ℕ → List (ℕ × ℕ) → Option ℕ

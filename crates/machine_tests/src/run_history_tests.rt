@@ -1,5 +1,5 @@
-use block_book::{Book, Choice};
-use run_history::{laws, legal_choice};
+use block_book::{Ask, Book, Choice};
+use run_history::{kept_count, laws, legal_choice, may_ask};
 use std::test::Fail;
 
 // Which answers of malloc are allowed in a heap from 4096 to 4160, in which 17 bytes from 4096 on are live; the laws do nothing, and return.
@@ -20,12 +20,38 @@ fn choices_and_laws(rt: HostRuntime) -> Result<(), Fail> {
         (4160, false, 0, false),
         (4080, false, 16, false),
     ] {
-        let choice = Choice { at, zeroed };
+        let ask = Ask::Malloc { size };
+        let choice = Choice { ask, at, zeroed };
         assert_eq!(rt;
-            legal_choice(choice, &book, size),
+            legal_choice(choice, &book, ask),
             want,
             "at {at}, {size} bytes"
         );
+    }
+    let calloc = Ask::Calloc { count: 2, size: 8 };
+    let swapped = Ask::Calloc { count: 8, size: 2 };
+    let zeroed = Choice {
+        ask: calloc,
+        at: 4128,
+        zeroed: true,
+    };
+    let left = Choice {
+        ask: calloc,
+        at: 4128,
+        zeroed: false,
+    };
+    assert!(rt; legal_choice(zeroed, &book, calloc));
+    assert!(rt; !legal_choice(zeroed, &book, swapped));
+    assert!(rt; !legal_choice(left, &book, calloc));
+    for (old, size, good, kept) in [
+        (4096, 8, true, 8),
+        (4096, 32, true, 17),
+        (0, 32, true, 0),
+        (4112, 8, false, 0),
+    ] {
+        let ask = Ask::Realloc { old, size };
+        assert_eq!(rt; may_ask(ask, &book), good, "{old}");
+        assert_eq!(rt; kept_count(ask, &book), kept, "{old} to {size} bytes");
     }
     laws::runs_compose();
     laws::runs_stay();

@@ -1,6 +1,6 @@
-// Answers of malloc and free by the table of environments, on a heap of 65536 bytes and on one of 4096, with addresses worked out by hand.
-use alloc_env::{Env, serve_free, serve_malloc};
-use block_book::{Book, Choice};
+// Answers of malloc, calloc, realloc and free by the table of environments, on a heap of 65536 bytes and on one of 4096, with addresses worked out by hand.
+use alloc_env::{Env, serve_ask, serve_calloc, serve_free, serve_malloc, serve_realloc};
+use block_book::{Ask, Book, Choice};
 use std::alloc::Global;
 use std::process::Abort;
 use std::test::Fail;
@@ -12,6 +12,12 @@ const H: u32 = 0x12000;
 enum Call {
     // The size, and the answer: the address, and whether the block is zeroed.
     Malloc(Env, u32, u32, bool),
+    // The count and the size, and the answer.
+    Calloc(Env, u32, u32, u32, bool),
+    // The old address and the size, and the answer.
+    Realloc(Env, u32, u32, u32, bool),
+    // An old address that is bad.
+    BadRealloc(Env, u32),
     // The address, and whether it may be freed.
     Free(Env, u32, bool),
 }
@@ -131,11 +137,88 @@ static SMALL_DELAY: [Call; 9] = [
     Call::Malloc(Env::Delay, 0, 0, false),
 ];
 
+#[rattlefmt::skip]
+static AGAIN_PLAIN: [Call; 9] = [
+    Call::Realloc(Env::Plain, 0, 16, H, false),
+    Call::Realloc(Env::Plain, H, 32, H + 16, false), // the old one stands while it is placed
+    Call::Malloc(Env::Plain, 16, H, false), // and not any more
+    Call::Realloc(Env::Plain, H + 16, 8, H + 48, false),
+    Call::BadRealloc(Env::Plain, H + 16),
+    Call::Calloc(Env::Plain, 3, 4, H + 16, true),
+    Call::Calloc(Env::Plain, 65536, 65536, 0, false), // 2 ^ 32 bytes
+    Call::Realloc(Env::Plain, H, 65536, 0, false),
+    Call::Free(Env::Plain, H, true), // so the old one stays
+];
+
+#[rattlefmt::skip]
+static AGAIN_PAD: [Call; 3] = [
+    Call::Calloc(Env::Pad, 4, 4, H + 256, true), // an extent from H to H + 528
+    Call::Realloc(Env::Pad, H + 256, 16, H + 784, false), // and on to H + 1056
+    Call::Realloc(Env::Pad, H + 784, 16, H + 256, false),
+];
+
+#[rattlefmt::skip]
+static AGAIN_ZERO: [Call; 3] = [
+    Call::Realloc(Env::Zero, 0, 0, H, true),
+    Call::Realloc(Env::Zero, H, 65536, 0, false),
+    Call::Realloc(Env::Zero, H, 1, H + 16, true),
+];
+
+#[rattlefmt::skip]
+static AGAIN_ISOLATE: [Call; 2] = [
+    Call::Realloc(Env::Isolate, 0, 16, H + 32768, false),
+    Call::Realloc(Env::Isolate, H + 32768, 32752, H + 32784, false),
+];
+
+#[rattlefmt::skip]
+static AGAIN_DELAY: [Call; 6] = [
+    Call::Malloc(Env::Delay, 16, H, false),
+    Call::Realloc(Env::Delay, H, 16, H + 16, false),
+    Call::BadRealloc(Env::Delay, H), // it is delayed
+    Call::Calloc(Env::Delay, 65536, 65536, 0, false), // recycles nothing
+    Call::Malloc(Env::Delay, 16, H + 32, false),
+    Call::Free(Env::Delay, H, true),
+];
+
+#[rattlefmt::skip]
+static AGAIN_ALL: [Call; 3] = [
+    Call::Calloc(Env::All, 1, 16, H + 33024, true), // an extent from the middle to H + 33296
+    Call::Realloc(Env::All, H + 33024, 16, H + 33552, true),
+    Call::BadRealloc(Env::All, H + 33024),
+];
+
 fn try_call(rt: &impl Abort, book: &mut Book, call: Call) {
     match call {
         Call::Malloc(env, size, at, zeroed) => {
             let choice = serve_malloc(env, book, size);
-            assert_eq!(rt; choice, Choice { at, zeroed }, "{size} bytes in {env:?}");
+            let ask = Ask::Malloc { size };
+            assert_eq!(rt;
+                choice,
+                Choice { ask, at, zeroed },
+                "{size} bytes in {env:?}"
+            );
+        }
+        Call::Calloc(env, count, size, at, zeroed) => {
+            let choice = serve_calloc(env, book, count, size);
+            let ask = Ask::Calloc { count, size };
+            assert_eq!(rt;
+                choice,
+                Choice { ask, at, zeroed },
+                "{count} times {size} bytes in {env:?}"
+            );
+        }
+        Call::Realloc(env, old, size, at, zeroed) => {
+            let answer = serve_realloc(env, book, old, size);
+            let ask = Ask::Realloc { old, size };
+            assert_eq!(rt;
+                answer,
+                Ok(Choice { ask, at, zeroed }),
+                "{old} to {size} bytes in {env:?}"
+            );
+        }
+        Call::BadRealloc(env, old) => {
+            let ask = Ask::Realloc { old, size: 16 };
+            assert!(rt; serve_ask(env, book, ask).is_err(), "{old} in {env:?}");
         }
         Call::Free(env, at, want) => {
             assert_eq!(rt;
@@ -172,6 +255,12 @@ fn environments_answer_by_the_table(rt: HostRuntime) -> Result<(), Fail> {
     try_calls(&rt, rt.alloc(), &ZERO)?;
     try_calls(&rt, rt.alloc(), &ISOLATE)?;
     try_calls(&rt, rt.alloc(), &DELAY)?;
+    try_calls(&rt, rt.alloc(), &AGAIN_PLAIN)?;
+    try_calls(&rt, rt.alloc(), &AGAIN_PAD)?;
+    try_calls(&rt, rt.alloc(), &AGAIN_ZERO)?;
+    try_calls(&rt, rt.alloc(), &AGAIN_ISOLATE)?;
+    try_calls(&rt, rt.alloc(), &AGAIN_DELAY)?;
+    try_calls(&rt, rt.alloc(), &AGAIN_ALL)?;
     try_calls(&rt, rt.alloc(), &ALL)
 }
 

@@ -1,5 +1,5 @@
 // Books of small heaps, call by call, with answers worked out by hand from the rules of block_book.
-use block_book::{Book, Choice, Choices, Standing};
+use block_book::{Ask, Book, Choice, Choices, Standing};
 use std::alloc::Global;
 use std::process::Abort;
 use std::test::Fail;
@@ -161,7 +161,10 @@ fn books_take_blocks_and_copies(rt: HostRuntime) -> Result<(), Fail> {
     assert_eq!(rt; copy.find(4112), Standing::Live(17));
     assert_eq!(rt; copy.find(4144), Standing::Live(0));
     assert_eq!(rt; (copy.start(), copy.end()), (4096, 4160));
+    assert_eq!(rt; copy.live_size(4112), Some(17));
+    assert_eq!(rt; copy.live_size(4128), None);
     let null = Choice {
+        ask: Ask::Malloc { size: 1 },
         at: 0,
         zeroed: false,
     };

@@ -2,4 +2,6 @@
 #![tactic(auto)]
 
 #[cfg(test)]
+mod listener_tests;
+#[cfg(test)]
 mod rx_io_tests;

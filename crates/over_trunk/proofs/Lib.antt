@@ -11,4 +11,5 @@ mod SameRun
 mod FrontLemmas
 mod SendLemmas
 mod TrunkLemmas
+mod ConvertLemmas
 pub mod EndLemmas

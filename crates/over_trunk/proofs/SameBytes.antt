@@ -1,7 +1,7 @@
 -- A session's record is replayed over the bytes that the session had.
 use Rattle.run_history.specs.declared.answer.Answer.TheVariants as answer
 use Rattle.session_history.specs.Heeding as unheeded
-use Rattle.over_trunk.proofs.Terms.{List, None, Option, Some, [], ap, append-nil, append_assoc, inl, inr, subst, sym, ℕ, ◌++◌, ◌∙◌, ◌∷◌, ◌≡◌, ◌⊎◌, IsDrained, Stream, Took, Prefix, Entry, LinkEvent, Coming, Phases, events_in, front-bad, IsRefused, AreFramesOf, AreInOrder, phases_behind, Bad, Part, Whole, front, fresh, Image, Answer, prefix_trans, State, heeded_front, IsAccount, Session, journal_of, Rules, Recorded, HasSession, AreAsked, EndsBy, IsAsking, IsReplay, Replay, bounds_of, TookRefused, TookWhole, IsAsRecorded, IsWithin, SameBytesAreReplayed, IsRecordedRun, TakesReplay, WritesReplay, WritesSends}
+use Rattle.over_trunk.proofs.Terms.{List, None, Option, Some, [], ap, append-nil, append_assoc, inl, inr, refl, subst, sym, ℕ, ◌++◌, ◌∙◌, ◌∷◌, ◌≡◌, ◌⊎◌, Err, Ok, Result, IsDrained, Stream, Took, Prefix, Entry, LinkEvent, Coming, Phases, events_in, front-bad, IsRefused, AreFramesOf, AreInOrder, phases_behind, Bad, Part, Whole, front, fresh, Image, Answer, prefix_trans, State, heeded_front, IsAccount, Session, journal_of, Rules, Noted, Keeping, Recorded, Outcome, HasSession, AreAsked, EndsBy, IsAsking, IsReplay, Replay, bounds_of, TookRefused, TookWhole, ServesTrunk, IsAsRecorded, IsConverted, IsWithin, SameBytesAreReplayed, SessionIsConverted, IsRecordedRun, ReplaysTrunk, TakesReplay, WritesReplay, WritesSends, ConvertsTrunk, converted}
 use Rattle.over_trunk.proofs.FrameFronts.{two_readings, whole_reading, next_frame}
 use Rattle.over_trunk.proofs.SameRun.{brought_not, refused_not, mismatch_not, same_end}
 
@@ -66,17 +66,70 @@ module _ (rules : Rules) (image : Image) (session : Session) (recording : Record
       mismatch_not rules image session recording entries account has asked near replay coming step is ends (λ ended. all_read takes.0 (takes.1 ended))
   answers_so _ ends takes = absurd ends
 
-pub same_bytes : SameBytesAreReplayed
-same_bytes rules keeping image input again input_later again_later output output_later written written_later outcome answered noted_before noted_now counted counted_again recording served replayed has within same =
-    let ours = left_is input input_later (served.bytes.took.whole ++ served.bytes.took.tail) served.bytes.took.took in
-    let theirs = left_is again again_later (replayed.took.whole ++ replayed.took.tail) replayed.took.took in
-    let left : again.left ≡ served.bytes.took.whole ++ (served.bytes.took.tail ++ ours.0) = same ∙ ours.1 ∙ append_assoc served.bytes.took.whole served.bytes.took.tail ours.0 in
-    let near = two_readings fresh (events_in (journal_of served.telling.account)) (events_in replayed.entries) served.bytes.took.whole (served.bytes.took.tail ++ ours.0) replayed.took.whole (replayed.took.tail ++ theirs.0)
-    served.bytes.took.order replayed.took.order served.bytes.took.are replayed.took.are (sym left ∙ theirs.1 ∙ append_assoc replayed.took.whole replayed.took.tail theirs.0) in (
+-- Of a session that served a trunk, and a replay of its record over the bytes that it had.
+module _ {rules : Rules} {keeping : Keeping} {image : Image} {input again : Stream} {input_later again_later : Option Stream} {output output_later written written_later : Option (List ℕ)} {outcome : Outcome} {answered : Answer}
+    {noted_before noted_now : Noted} {counted counted_again : ℕ} {recording : Recorded} (served : ServesTrunk rules keeping image (Some input) input_later output output_later outcome noted_before noted_now counted)
+    (replayed : ReplaysTrunk image recording (Some again) again_later written written_later answered counted_again) (same : again.left ≡ input.left) where
+  -- what stands behind the session's frames
+  ours : (rest : List ℕ) × (input.left ≡ (served.bytes.took.whole ++ served.bytes.took.tail) ++ rest) × (IsDrained input_later → rest ≡ [])
+  ours = left_is input input_later (served.bytes.took.whole ++ served.bytes.took.tail) served.bytes.took.took
+
+  theirs : (rest : List ℕ) × (again.left ≡ (replayed.took.whole ++ replayed.took.tail) ++ rest) × (IsDrained again_later → rest ≡ [])
+  theirs = left_is again again_later (replayed.took.whole ++ replayed.took.tail) replayed.took.took
+
+  left : again.left ≡ served.bytes.took.whole ++ (served.bytes.took.tail ++ ours.0)
+  left = same ∙ ours.1 ∙ append_assoc served.bytes.took.whole served.bytes.took.tail ours.0
+
+  -- the events of one are the first of the other's
+  near : Prefix (events_in (journal_of served.telling.account)) (events_in replayed.entries) ⊎ Prefix (events_in replayed.entries) (events_in (journal_of served.telling.account))
+  near =
+      two_readings fresh (events_in (journal_of served.telling.account)) (events_in replayed.entries) served.bytes.took.whole (served.bytes.took.tail ++ ours.0) replayed.took.whole (replayed.took.tail ++ theirs.0)
+      served.bytes.took.order replayed.took.order served.bytes.took.are replayed.took.are (sym left ∙ theirs.1 ∙ append_assoc replayed.took.whole replayed.took.tail theirs.0)
+
+  pub as_recorded : HasSession rules served.telling.account recording → IsWithin rules.bounds (bounds_of recording) → IsAsRecorded answered
+  as_recorded has within =
       answers_so rules image served.telling.account recording replayed.entries replayed.replay replayed.coming served.is.is.ended.account has within replayed.asked replayed.is again again_later served.bytes.took.whole
-          (served.bytes.took.tail ++ ours.0) served.bytes.took.order replayed.took.order served.bytes.took.are left near answered replayed.ends replayed.takes,
-      λ finished.
-          let state_is = same_end rules image served.telling.account recording replayed.entries served.is.is.ended.account has replayed.asked near replayed.replay
-          (subst (IsRecordedRun image recording replayed.entries replayed.replay) finished replayed.whole) in
-          subst (λ (s : State). WritesSends written written_later s.sends) state_is (subst (WritesReplay written written_later replayed.replay.state.sends) finished replayed.writes),
+      (served.bytes.took.tail ++ ours.0) served.bytes.took.order replayed.took.order served.bytes.took.are left near answered replayed.ends replayed.takes
+
+  pub same_run : HasSession rules served.telling.account recording → answered ≡ answer.Finished
+      → (replayed.replay.state ≡ served.telling.account.survivor.now.state) × (replayed.replay.choices ≡ served.telling.account.survivor.now.choices)
+  same_run has finished =
+      same_end rules image served.telling.account recording replayed.entries served.is.is.ended.account has replayed.asked near replayed.replay
+      (subst (IsRecordedRun image recording replayed.entries replayed.replay) finished replayed.whole)
+
+pub same_bytes : SameBytesAreReplayed
+same_bytes rules keeping image input again input_later again_later output output_later written written_later outcome answered noted_before noted_now counted counted_again recording served replayed has within same = (
+  as_recorded served replayed same has within,
+  λ finished.
+      subst (λ (s : State). WritesSends written written_later s.sends) (same_run served replayed same has finished).0 (subst (WritesReplay written written_later replayed.replay.state.sends) finished replayed.writes),
+)
+
+-- a conversion of it
+converts_so : (end : Answer) → IsAsRecorded end → (end ≡ answer.Finished → ⊥) → (end ≡ answer.WriteFault → ⊥) → IsConverted (Err end)
+converts_so answer.Finished is unfinished no_fault = unfinished refl
+converts_so answer.ReadFault is unfinished no_fault = tt
+converts_so answer.WriteFault is unfinished no_fault = no_fault refl
+converts_so answer.Memory is unfinished no_fault = tt
+converts_so _ is unfinished no_fault = absurd is
+
+-- an answer of a conversion that is none of these two is a replay's
+ends_so : (image : Image) (recording : Recorded) (source later : Option Stream) (counted : ℕ) (end : Answer) → ConvertsTrunk image recording source later (Err end) counted
+    → (end ≡ answer.Finished → ⊥) × (end ≡ answer.WriteFault → ⊥) × ReplaysTrunk image recording source later None None end counted
+ends_so image recording source later counted answer.Finished converts = absurd converts
+ends_so image recording source later counted answer.WriteFault converts = absurd converts
+ends_so image recording source later counted _ converts = ((λ is. cc), (λ is. cc), converts)
+
+pub session_converted : SessionIsConverted
+session_converted rules keeping image input again input_later again_later output output_later outcome result noted_before noted_now counted counted_again recording served converts has within same = by_result result converts
+  where
+    by_result : (result : Result (List ℕ) Answer) → ConvertsTrunk image recording (Some again) again_later result counted_again
+        → IsConverted result × ((text : List ℕ) → result ≡ Ok text → text ≡ converted recording served.telling.account.survivor.now.choices)
+    by_result (Ok text) converts = (
+      tt,
+      λ other is.
+          let here : text ≡ other = cc in
+          sym here ∙ converts.text_is ∙ ap (converted recording) (same_run served converts.replayed same has refl).1,
     )
+    by_result (Err end) converts =
+        let ends = ends_so image recording (Some again) again_later counted_again end converts in
+        (converts_so end (as_recorded served ends.2 same has within) ends.0 ends.1, λ text is. absurd (let never : ⊥ = cc in never))

@@ -4,7 +4,9 @@ use Rattle.links.specs.declared.journal.Entry.TheVariants as entry
 use Rattle.run_history.specs.declared.answer.Answer.TheVariants as answer
 use Rattle.run_history.proofs.Runs.{run_more}
 use Rattle.replay.specs.Replaying.{WasAsked}
-use Rattle.replay.proofs.RecordLemmas.{begins, goes_on, starved_not}
+use Rattle.replay.proofs.LineLemmas.{same_answers}
+use Rattle.replay.proofs.SameLemmas.{Agree, run_same}
+use Rattle.replay.proofs.RecordLemmas.{begins, goes_on, none_used, starved_not}
 use Rattle.replay.proofs.RoomLemmas.{session_leaves_record}
 use Rattle.replay.proofs.SessionLemmas.{session_is_replayed}
 use Rattle.over_trunk.proofs.Terms.{List, None, Option, Some, [], ap, append-nil, append_assoc, arith, inl, inr, length, refl, subst, sym, true, true≢false, ℕ, ◌++◌, ◌∙◌, ◌∷◌, ◌≡◌, ◌≤◌, ◌⊎◌, none-some, same_Some, Prefix, Entry, LinkEvent, events_in-append, Coming, HasEnded, Unopened, events_in, Seen, no_faults, Choice, items_of, Image, prefix_trans, State, start, run, heeded_front, IsAccount, Session, journal_of, IsLastRefused, Unheeded, heeded, items_in, Rules, Recorded, items_grow, two_fronts, BringsFirst, HadOneStream, HasSession, IsRecordOf, AreAsked, EndsBy, HasReplayed, IsReplay, Replay, bounds_of, IsWithin, IsRecordedRun}
@@ -31,7 +33,7 @@ untold coming = record {
 
 module _ (rules : Rules) (image : Image) (session : Session) (recording : Recorded) (entries : List Entry) (account : IsAccount rules image session)
     (has : HasSession rules session recording) (asked : AreAsked image recording entries) (near : Prefix (events_in (journal_of session)) (events_in entries) ⊎ Prefix (events_in entries) (events_in (journal_of session))) where
-  of_run : IsRecordOf image (items_in rules.bounds (journal_of session)) session.survivor.now.state recording
+  of_run : IsRecordOf image (items_in rules.bounds (journal_of session)) session.survivor.now.choices session.survivor.now.state recording
   of_run = session_leaves_record rules image session recording account has
 
   -- where a replay asked for an event, there is more in the session than was taken
@@ -39,15 +41,16 @@ module _ (rules : Rules) (image : Image) (session : Session) (recording : Record
   brought_not before was front =
       let these = items_in (bounds_of recording) before in
       let own : BringsFirst (bounds_of recording) these before = record { more = []; first = sym (append-nil these); all = λ ended. refl } in
-      let here = begins was.asks.is own in
       let items : Prefix (items_in rules.bounds (journal_of session)) (items_of recording.frame (events_in before)) =
       subst (λ framing. Prefix (items_of framing (heeded rules.bounds (events_in (journal_of session)))) (items_of recording.frame (events_in before))) has.frame (items_grow recording.frame _ front) in
       let all : Prefix (items_in rules.bounds (journal_of session)) these =
       subst (λ (events : List LinkEvent). Prefix (items_in rules.bounds (journal_of session)) (items_of recording.frame events)) (sym was.asks.heeds) items in
-      let there = on_more (items_in rules.bounds (journal_of session)) these recording.choices (start image) session.survivor.now.state recording.steps all of_run.ran.ran in
+      let choices = session.survivor.now.choices in
+      let there = on_more (items_in rules.bounds (journal_of session)) these choices (start image) session.survivor.now.state recording.steps all of_run.ran.ran in
+      let here = (begins was.asks.is own of_run.lines there).ran in
       let on = goes_on here there was.asks.waits.shorter in
       let none : length these ≤ was.replay.state.machine.taken = omega (arith, was.asks.waits.taken) in
-      starved_not these recording.choices was.replay.state was.asks.waits.asks none on.goes
+      starved_not these choices was.replay.state was.asks.waits.asks none on.goes
 
   -- so the session heeded what comes next there
   next_heeded : (before : List Entry) (next : LinkEvent) (rest all : List LinkEvent) → WasAsked image recording before → Prefix (heeded rules.bounds (events_in (journal_of session))) all
@@ -110,12 +113,22 @@ module _ (rules : Rules) (image : Image) (session : Session) (recording : Record
         | inr front ↦ inr (subst (λ framing. Prefix (items_of framing (heeded rules.bounds (events_in (journal_of session)))) (items_in (bounds_of recording) entries)) has.frame (items_grow recording.frame _ front))
       ]
 
-  -- at Finished the replay stands where the session's run does
-  pub same_end : (replay : Replay) → IsRecordedRun image recording entries replay answer.Finished → replay.state ≡ session.survivor.now.state
+  -- at Finished the replay stands where the session's run does, and used the same answers of the allocator
+  pub same_end : (replay : Replay) → IsRecordedRun image recording entries replay answer.Finished → (replay.state ≡ session.survivor.now.state) × (replay.choices ≡ session.survivor.now.choices)
   same_end replay whole =
       let theirs = items_in (bounds_of recording) entries in
       let ours = items_in rules.bounds (journal_of session) in
+      let now = session.survivor.now in
       elim items_near [
-        | inl front ↦ same_Some replay.state session.survivor.now.state (sym (on_more theirs ours recording.choices (start image) replay.state recording.steps front whole.0.ran) ∙ of_run.ran.ran)
-        | inr front ↦ same_Some replay.state session.survivor.now.state (sym whole.0.ran ∙ on_more ours theirs recording.choices (start image) session.survivor.now.state recording.steps front of_run.ran.ran)
+        | inl front ↦
+            let own = on_more theirs ours replay.choices (start image) replay.state recording.steps front whole.0.ran in
+            alike (run_same ours recording.lines replay.choices now.choices (start image) recording.steps replay.state now.state whole.1 of_run.lines (none_used image replay.choices now.choices) own of_run.ran.ran)
+        | inr front ↦
+            let other = on_more ours theirs now.choices (start image) now.state recording.steps front of_run.ran.ran in
+            alike (run_same theirs recording.lines replay.choices now.choices (start image) recording.steps replay.state now.state whole.1 of_run.lines (none_used image replay.choices now.choices) whole.0.ran other)
       ]
+    where
+      alike : (replay.state ≡ session.survivor.now.state) × Agree replay.state replay.choices session.survivor.now.choices → (replay.state ≡ session.survivor.now.state) × (replay.choices ≡ session.survivor.now.choices)
+      alike same =
+          let used = whole.0.used in
+          (same.0, same_answers replay.choices session.survivor.now.choices (whole.2 ∙ sym of_run.all) (λ i low. same.1 i (omega (arith, low, used))))

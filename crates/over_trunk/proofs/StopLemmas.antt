@@ -3,7 +3,7 @@ use Rattle.links.specs.declared.journal.LinkEvent.TheVariants as event
 use Rattle.session_history.specs.declared.ends.SessionEnd.TheVariants as session_end
 use Rattle.trunk_wire.specs.declared.header.Header.{Header}
 use Rattle.trunk_wire.specs.declared.header.TheConstants.{OPEN, BYTES, CLOSE}
-use Rattle.over_trunk.proofs.Terms.{Bool, List, None, Option, Some, [], ap, append-nil, arith, false, if◌then◌else◌, inl, inr, length, length-append, nat_lt, refl, subst, sym, take, true, ℕ, ◌++◌, ◌==◌, ◌∙◌, ◌∷◌, ◌≡◌, IfSome, IsSome, IsDrained, Stream, Took, LinkEvent, Comes, Phases, Refuses, Refusal, Countable, IsRefused, count_after, AreFramesOf, header_of, AreInOrder, Intake, IsTail, phases_behind, Part, Whole, coming_of, event_at, event_of, front, front_accepted, front_by, header_refusal, fresh, told_coming, SessionEnd, Session, HasComeTo, TakesAtEnd, Rules, StopsAt, TookNoPart, TookRefused, TookWhole}
+use Rattle.over_trunk.proofs.Terms.{Bool, List, None, Option, Some, [], ap, append-nil, arith, false, if◌then◌else◌, inl, inr, length, length-append, nat_lt, refl, subst, sym, take, true, ℕ, ◌++◌, ◌==◌, ◌∙◌, ◌∷◌, ◌≡◌, ◌≢◌, IfSome, IsSome, IsDrained, Stream, Took, LinkEvent, Comes, ComesUntold, IsNext, Phases, Refuses, Refusal, Countable, IsRefused, count_after, AreFramesOf, header_of, AreInOrder, Intake, IsTail, phases_behind, Bad, Front, Part, Whole, coming_of, event_at, event_of, front, front_accepted, front_by, header_refusal, fresh, told_coming, SessionEnd, Session, HasComeTo, TakesAtEnd, Rules, StopsAt, TookNoPart, TookRefused, TookWhole}
 use Rattle.over_trunk.proofs.ReadLemmas.{few_taken}
 
 -- a frame is no end
@@ -39,9 +39,19 @@ none_left : (phases : Phases) (at : ℕ) (bytes : List ℕ) → event_at phases 
 none_left phases at [] is = refl
 none_left phases at (byte ∷ bytes) is = absurd (front_no_end phases at (byte ∷ bytes) is)
 
-pub drained : (told : Option Stream) (took : ℕ) (phases : Phases) (takes : Bool) (refused : Option Refusal) → takes ≡ true → IfSome (told_coming told took phases takes refused) (λ next. next ≡ Comes event.Ends) → IsDrained told
+-- a trunk tells which event comes
+coming_told : (at : ℕ) (next : Front) → coming_of at next ≢ ComesUntold
+coming_told at (Whole event) same = cc
+coming_told at Part same = cc
+coming_told at (Bad kind) same = cc
+
+event_told : (phases : Phases) (at : ℕ) (bytes : List ℕ) → event_at phases at bytes ≢ ComesUntold
+event_told phases at [] same = cc
+event_told phases at (byte ∷ bytes) same = coming_told at (front phases (byte ∷ bytes)) same
+
+pub drained : (told : Option Stream) (took : ℕ) (phases : Phases) (takes : Bool) (refused : Option Refusal) → takes ≡ true → IfSome (told_coming told took phases takes refused) (λ next. IsNext next event.Ends) → IsDrained told
 drained None took phases takes refused is ends = tt
-drained (Some stream) took phases true refused is ends = none_left phases took stream.left ends
+drained (Some stream) took phases true refused is ends = none_left phases took stream.left (ends (event_told phases took stream.left))
 drained (Some stream) took phases false refused is ends = let no : ⊥ = cc in absurd no
 
 -- what is refused, by the refusal that the link has

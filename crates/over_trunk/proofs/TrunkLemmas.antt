@@ -1,7 +1,7 @@
 -- What a replay over a trunk leaves, by what it leaves over a link.
 use Rattle.run_history.specs.declared.answer.Answer.TheVariants as answer
 use Rattle.session_state.specs.Serving.{StaysKnown}
-use Rattle.over_trunk.proofs.Terms.{List, None, Option, Some, [], arith, inl, inr, option_map, refl, subst, sym, take, true, ℕ, ◌+◌, ◌∙◌, ◌≡◌, take_all, IsSome, Stream, Entry, gives_below_4096, Coming, Counts, Grew, Handed, IsFresh, Told, events_in, pieces_in, Seen, Choice, Countable, GivesOn, Intake, Output, TakesOn, TookFrames, WroteFrames, told_coming, told_events, told_nothing, told_pieces, trunk_told, Image, Answer, Run, items_in, Recorded, EndsBy, HasReplayedBy, IsAsking, IsReplay, LeavesLink, Replay, bounds_of, BreaksTrunk, TakesNoPart, WritesWhole, IsRecordedRun, ReplaysTrunk, TakesReplay, TookReplay, WritesFront, WritesReplay}
+use Rattle.over_trunk.proofs.Terms.{List, None, Option, Some, [], arith, inl, inr, option_map, refl, subst, sym, true, ℕ, ◌+◌, ◌∙◌, ◌≡◌, IsSome, Stream, Entry, gives_below_4096, Coming, Counts, Grew, Handed, IsFresh, Told, events_in, pieces_in, Seen, Choice, Countable, GivesOn, Intake, Output, TakesOn, TookFrames, WroteFrames, told_coming, told_events, told_nothing, told_pieces, trunk_told, Image, Answer, Run, items_in, Recorded, EndsBy, HasReplayedBy, IsAsking, IsReplay, LeavesLink, Replay, bounds_of, BreaksTrunk, TakesNoPart, WritesWhole, IsRecordedRun, ReplaysTrunk, TakesReplay, TookReplay, WritesFront, WritesReplay}
 use Rattle.over_trunk.proofs.WriteLemmas.{Short}
 use Rattle.over_trunk.proofs.StopLemmas.{HasTaken, took_whole, took_refused, drained}
 use Rattle.over_trunk.proofs.ServeLemmas.{upcoming, has_taken, known_still, takes_trunk, writes_trunk, writes_whole}
@@ -28,11 +28,7 @@ module _ (image : Image) (recording : Recorded) (entries : List Entry) (replay :
   -- at Finished the run is the record's
   whole_run : (coming : Option Coming) (end : Answer) → IsReplay image recording entries replay → EndsBy image recording entries coming replay end → IsRecordedRun image recording entries replay end
   whole_run coming answer.Finished is ends =
-      let choices : take replay.used recording.choices ≡ recording.choices = take_all replay.used recording.choices (omega (arith, ends.1)) in (
-        subst (λ n. Run image (items_in (bounds_of recording) entries) recording.choices n replay.state) ends.0
-            (subst (λ (cs : List Choice). Run image (items_in (bounds_of recording) entries) cs replay.steps replay.state) choices is.ran),
-        ends.2,
-      )
+      (subst (λ n. Run image (items_in (bounds_of recording) entries) replay.choices n replay.state) ends.0 is.ran, is.lines, ends.1, ends.2)
   whole_run coming _ is ends = tt
 
   -- what was written, by the answer
@@ -117,3 +113,15 @@ replays image recording old new out later handed handed_later counts counts_late
       writes = writes_by image recording replayed.entries replayed.replay (upcoming new) out.told later.told (shown old out handed counts) (shown new later handed_later counts_later) end replayed.ends leaves front whole;
       breaks = breaks_by image recording replayed.entries replayed.replay old new is_fresh none few went events (upcoming new) (shown old out handed counts) (shown new later handed_later counts_later) out.told later.told end refl replayed.ends leaves whole;
     }
+
+-- and the answers of the allocator that it used
+pub fills : (image : Image) (recording : Recorded) (old new : Intake) (out later : Output) (handed handed_later : Option Handed) (counts counts_later : Counts) (end : Answer) (choices : List Choice) (before after counted : ℕ) → IsFresh old.phases → old.took ≡ 0
+    → out.wrote ≡ 0 → old.takes ≡ true → out.gives ≡ true → Countable new.told → Short later.told → (shown old out handed counts).told ≡ told_nothing old.told out.told → TakesOn old.takes old new → GivesOn out.gives out later
+    → LeavesLink (shown old out handed counts) (shown new later handed_later counts_later) end
+    → (has : HasReplayedBy image recording (shown old out handed counts) (shown new later handed_later counts_later) (WritesFront out.told later.told) end before after) → choices ≡ has.replayed.replay.choices
+    → after ≡ before + counted → (is : ReplaysTrunk image recording old.told new.told out.told later.told end counted) × (choices ≡ is.replay.choices)
+unfolding replays
+fills image recording old new out later handed handed_later counts counts_later end choices before after counted is_fresh none nothing takes gives few short start taken_on given_on leaves has all count = (
+  replays image recording old new out later handed handed_later counts counts_later end before after counted is_fresh none nothing takes gives few short start taken_on given_on leaves has count,
+  all,
+)

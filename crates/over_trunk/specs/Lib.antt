@@ -3,4 +3,5 @@ pub mod Trunk
 pub mod Serving
 pub mod Laws
 pub mod Replaying
+pub mod Converting
 pub mod EndLaws

@@ -1,7 +1,7 @@
 -- What a replay over a trunk leaves: the bytes that its source lost, and those that its sink gained.
-use Rattle.std.specs.Prelude.{◌≡◌, ℕ, List, map, false, Option, None, Some}
+use Rattle.std.specs.Prelude.{◌≡◌, ℕ, List, length, map, false, Option, None, Some}
 use Rattle.run_history.specs.declared.answer.Answer.TheVariants as answer
-use Rattle.over_trunk.specs.Terms.{Appends, IsDrained, Stream, Prefix, Send, Entry, Coming, HasEnded, Piece, events_in, pieces_in, frames, Image, Answer, Run, items_in, Recorded, piece_of, AreAsked, EndsBy, IsAsking, IsReplay, Replay, bounds_of}
+use Rattle.over_trunk.specs.Terms.{Appends, IsDrained, Stream, Prefix, Send, Entry, Coming, HasEnded, Piece, events_in, pieces_in, frames, Image, Answer, Run, items_in, Recorded, piece_of, AreAsked, AreOfLines, EndsBy, IsAsking, IsReplay, Replay, bounds_of}
 use Rattle.over_trunk.specs.Trunk.{TakesTrunk, TookWhole, TookRefused, WritesTrunk, BreaksTrunk}
 
 -- each send as one whole piece
@@ -43,10 +43,11 @@ abbrev pub TakesReplay : Option Stream → Option Stream → List Entry → Answ
 TakesReplay None new entries end = Unit {0}
 TakesReplay (Some old) new entries end = TookReplay (Some old) new entries end
 
--- at Finished there is the whole run that the record tells of
+-- at Finished there is the whole run that the record tells of, with an answer of the allocator for each of its lines
 abbrev pub IsRecordedRun : Image → Recorded → List Entry → Replay → Answer → Type 0
 IsRecordedRun image recorded entries replay answer.Finished =
-    Run image (items_in (bounds_of recorded) entries) recorded.choices recorded.steps replay.state × (replay.state.machine.taken ≡ recorded.taken)
+    Run image (items_in (bounds_of recorded) entries) replay.choices recorded.steps replay.state × AreOfLines recorded.lines replay.choices
+    × (length replay.choices ≡ length recorded.lines) × (replay.state.machine.taken ≡ recorded.taken)
 IsRecordedRun image recorded entries replay end = Unit {0}
 
 -- What a replay leaves that was done over a source and a sink: one account of it, what stands behind its answer, and its count of instructions. The bytes

@@ -1,20 +1,21 @@
 -- The words that this crate's definitions are written in: those of crates below, and types of its code.
 pub use Rattle.std.specs.Io.KnownBytes.{Appends}
 pub use Rattle.std.specs.List.{AllByRecursion}
+pub use Rattle.rx_io.specs.Faults.{Rose}
 pub use Rattle.rx_io.specs.Outside.{IsDrained, Stream, Took}
 pub use Rattle.rx_io.specs.Prefix.{Prefix}
 pub use Rattle.rx_io.specs.Sends.{Send, sent_to}
 pub use Rattle.links.specs.declared.journal.Entry.{Entry}
 pub use Rattle.links.specs.declared.journal.LinkEvent.{LinkEvent}
 pub use Rattle.links.specs.LinkForms.{gives_below_4096, handed_by}
-pub use Rattle.links.specs.Links.{Comes, Coming, Counts, Grew, Handed, HasEnded, IsFresh, IsInOrder, Phases, Piece, Refuses, Told, Unopened, cut_entries, events_in, phases_after, pieces_in}
+pub use Rattle.links.specs.Links.{Comes, ComesUntold, Coming, Counts, Grew, Handed, HasEnded, IsFresh, IsInOrder, IsNext, Phases, Piece, Refuses, Told, Unopened, cut_entries, events_in, phases_after, pieces_in}
 pub use Rattle.links.specs.Seen.{Seen, no_faults}
 pub use Rattle.block_book.specs.declared.choice.Choice.{Choice}
 pub use Rattle.trunk_wire.specs.declared.refusal.Refusal.{Refusal}
 pub use Rattle.trunk_wire.specs.Calls.{IsRefused, Writes, WritesBy, count_after}
 pub use Rattle.trunk_wire.specs.Frames.{AreFramesOf, IsFrameOf, frames, header_of, piece_frame}
 pub use Rattle.trunk_wire.specs.Going.{AreInOrder, GivesOn, Intake, IsCut, IsFramed, IsTail, Output, TakesOn, TookFrames, WroteFrames, phases_behind}
-pub use Rattle.trunk_wire.specs.Grammar.{Bad, Part, Whole, coming_of, event_at, event_of, front, front_accepted, front_by, header_refusal}
+pub use Rattle.trunk_wire.specs.Grammar.{Bad, Front, Part, Whole, coming_of, event_at, event_of, front, front_accepted, front_by, header_refusal}
 pub use Rattle.trunk_wire.specs.Parts.{last_bytes, put_bytes}
 pub use Rattle.trunk_wire.specs.Pieces.{event_reader, events, fresh, given_to, payload, pieces, whole_event}
 pub use Rattle.trunk_wire.specs.Tellings.{is_in_step, is_whole, told_coming, told_events, told_nothing, told_pieces, trunk_told}
@@ -39,6 +40,10 @@ pub use Rattle.session_history.specs.Passing.{passed_behind, passed_in}
 pub use Rattle.session_notes.specs.Noting.{Noted, Shown}
 pub use Rattle.recovery.specs.Handling.{HasRing, Keeping, Stand, stands_of}
 pub use Rattle.schedule_file.specs.declared.recorded.Recorded.{Recorded}
+pub use Rattle.schedule_file.specs.declared.recorded.TheConstants.{VERSION}
+pub use Rattle.schedule_file.specs.Lines.{choice_line, choice_lines, line_of, lines_text}
+unfoldable pub use Rattle.schedule_file.specs.Lines.{end_line, head_line, line_text}
+pub use Rattle.schedule_file.specs.Records.{IsAnswer, IsAskOf, IsRecord, record_of, text_of}
 pub use Rattle.session_state.specs.Leaving.{HandledAt, HasLeft, keeping_of}
 pub use Rattle.session_state.specs.Options.{keeping_for}
 pub use Rattle.session_state.specs.Recovered.{HasRecovered, IsOutcome, Outcome, Telling}
@@ -46,4 +51,4 @@ pub use Rattle.session_state.specs.Serving.{BreaksAt, LinkAnswers, NotesAnswer, 
 pub use Rattle.session_state.specs.Sessions.{IsBegun, SessionState}
 pub use Rattle.replay.specs.Giving.{AreGiven, BreaksOff, found_gone, piece_of}
 pub use Rattle.replay.specs.Laws.{BringsFirst, HadOneStream, HasSession, IsRecordOf}
-pub use Rattle.replay.specs.Replaying.{AreAsked, EndsBy, HasReplayed, HasReplayedBy, IsAsking, IsReplay, LeavesLink, Replay, bounds_of}
+pub use Rattle.replay.specs.Replaying.{AreAsked, AreOfLines, EndsBy, HasAsk, HasReplayed, HasReplayedBy, IsAsking, IsOfLine, IsReplay, LeavesLink, Replay, bounds_of}

@@ -1,6 +1,6 @@
-//! Laws of sessions and replays over a trunk, each as the contract of a function that does nothing.
+//! Laws of sessions, replays and conversions over a trunk, each as the contract of a function that does nothing.
 ghost use Rattle.over_trunk.specs.EndLaws.{NoOtherEnd, SendsAreWritten};
-ghost use Rattle.over_trunk.specs.Laws.{SameBytesAreReplayed};
+ghost use Rattle.over_trunk.specs.Laws.{ConvertsToItself, SameBytesAreReplayed, SessionIsConverted};
 
 /// A session's record is replayed over the bytes that the session had, to the frames of its run's sends.
 pub fn same_bytes_are_replayed()
@@ -15,4 +15,14 @@ pub fn no_other_end()
 /// At an end the frames of all sends were written, where nothing was held back or recovered.
 pub fn sends_are_written()
     ensures { SendsAreWritten }
+{}
+
+/// A record of version 2 is converted to its own text, byte for byte.
+pub fn converts_to_itself()
+    ensures { ConvertsToItself }
+{}
+
+/// A session's record is converted over the bytes that the session had to the text of its run.
+pub fn session_is_converted()
+    ensures { SessionIsConverted }
 {}

@@ -1,4 +1,4 @@
-//! A session, and the replay of a record, over a trunk of many connections.
+//! A session, the replay of a record, and its conversion, over a trunk of many connections.
 //!
 //! A session of `rx_engine` serves a `TrunkLink` of `trunk_wire` over a source and a sink, with any notes.
 //! What is known of it is said of bytes: what was taken and written at each answer.
@@ -6,15 +6,20 @@
 //! No clause says that the payload behind it is from that send, and not the piece before.
 //! A replay writes whole frames of its sends, in their order.
 //! Where a write failed or memory ran out, a first part of the next send's frame may stand behind them.
+//! A conversion is a replay that gives nothing. Its text has each answer of the allocator that the run used, with what was asked.
+//! The laws say that a record of version 2 is converted to itself, and a session's record to the text of the session's run.
 //! The law `same_bytes_are_replayed` speaks of any session that served a trunk, however it was answered.
-//! It supposes the bytes that the session's source had, and a record with its framing, answers, instructions and items.
+//! It supposes the bytes that the session's source had, and a record with its framing, lines, instructions and items.
 //! Then no replay is answered Mismatch, though a fault or want of memory may come.
 #![tactic(auto)]
 
+mod converting;
+mod discard;
 mod frame_giver;
 pub mod laws;
 mod replaying;
 mod serving;
 
+pub use converting::convert_trunk;
 pub use replaying::replay_trunk;
 pub use serving::serve_trunk;

@@ -69,7 +69,10 @@ const ACCEPTED: &str = "\
     asm a b => Some(Asm(AsmCommand { source: \"a\", out: \"b\" }))\n\
     asm asm run => Some(Asm(AsmCommand { source: \"asm\", out: \"run\" }))\n\
     replay p r => Some(Replay(ReplayCommand { program: \"p\", recording: \"r\" }))\n\
-    replay run run => Some(Replay(ReplayCommand { program: \"run\", recording: \"run\" }))\n";
+    replay run run => Some(Replay(ReplayCommand { program: \"run\", recording: \"run\" }))\n\
+    convert p r o => Some(Convert(ConvertCommand { program: \"p\", recording: \"r\", out: \"o\" }))\n\
+    convert p p q => Some(Convert(ConvertCommand { program: \"p\", recording: \"p\", out: \"q\" }))\n\
+    convert p r p => Some(Convert(ConvertCommand { program: \"p\", recording: \"r\", out: \"p\" }))\n";
 
 // Refused behind `run p --record r --report t `.
 const REFUSED_ENDS: &str = "\
@@ -162,10 +165,19 @@ const REFUSED: &str = "\n \n\
     replay p --record r\n\
     replay -p r\n\
     replay p -r\n\
-    replay p \n";
+    replay p \n\
+    convert\n\
+    convert p\n\
+    convert p r\n\
+    convert p r r\n\
+    convert p r o q\n\
+    convert p r o --ring 2\n\
+    convert p r -o\n\
+    convert p r \n\
+    converts p r o\n";
 
-const COMPLAINTS: &str = " => word 1: the command is missing, run or asm or replay\n\
-    serve p => word 1: the command is run or asm or replay, not serve\n\
+const COMPLAINTS: &str = " => word 1: the command is missing, run or asm or replay or convert\n\
+    serve p => word 1: the command is run or asm or replay or convert, not serve\n\
     run p --ring 08 --record r --report t => word 4: --ring is 1 to 16, not 08\n\
     run p --hold=2 => word 3: --hold=2 is no option of run\n\
     run --hold 1001 => word 3: --hold is 0 to 1000, not 1001\n\
@@ -186,7 +198,11 @@ const COMPLAINTS: &str = " => word 1: the command is missing, run or asm or repl
     asm a b => \n\
     replay p => word 3: RECORD is missing\n\
     replay p r --ring 2 => word 4: --ring is no option of replay\n\
-    replay p p => \n";
+    replay p p => \n\
+    convert p r => word 4: OUT is missing\n\
+    convert p r r => word 4: RECORD and OUT are two names, not r twice\n\
+    convert r r o => \n\
+    convert p r o --ring 2 => word 5: --ring is no option of convert\n";
 
 const RUN_USAGE: &str = "run PROGRAM and in any place, each once:
   --record a name, always
@@ -219,10 +235,11 @@ fn usage_is_told(rt: HostRuntime) -> Result<(), Fail> {
     for (command, first, rest) in [
         ("run", RUN_USAGE, ""),
         ("asm", "", "asm SOURCE OUT\n"),
+        ("convert", "", "convert PROGRAM RECORD OUT\n"),
         (
             "serve",
             RUN_USAGE,
-            "asm SOURCE OUT\nreplay PROGRAM RECORD\n",
+            "asm SOURCE OUT\nreplay PROGRAM RECORD\nconvert PROGRAM RECORD OUT\n",
         ),
     ] {
         let told = usage(rt.alloc(), command)?;

@@ -15,7 +15,7 @@ fn an_echo_ends_as_its_row_says(rt: HostRuntime) -> Result<(), Fail> {
         rt.alloc(),
         r#"
         echo
-        in=0100000000 0200000300 68690a; end=Finished 0 0 [] 34 2; out=0200000300 68690a; left=; record=rx record 1 window 4 frame line/end 34 2/; report=rx report 1/end 0 taken 2 steps 34/
+        in=0100000000 0200000300 68690a; end=Finished 0 0 [] 34 2; out=0200000300 68690a; left=; record=rx record 2 window 4 frame line/end 34 2/; report=rx report 1/end 0 taken 2 steps 34/
         in=0100000000 0200000100 68 0200000100 65 0200000100 6c 0200000100 6c 0200000200 6f0a; end=Finished 0 0 [] 34 2; out=0200000600 68656c6c6f0a; left=
         in=0100000000 0101000000 0201000100 78 0200000400 610a620a 0201000200 790a; end=Finished 0 0 [] 80 5; out=0200000200 610a 0200000200 620a 0201000300 78790a; left=
         in=0100000000 0300000000; end=Finished 0 0 [] 26 2; out=; left=
@@ -23,7 +23,7 @@ fn an_echo_ends_as_its_row_says(rt: HostRuntime) -> Result<(), Fail> {
         in=0100000000 0100000000; end=InputRefused { kind: 3, offset: 5 } 4 0 [] 16 1; out=; left=
         options=--frame length; in=0100000000 0200000600 02000000 6869; end=Finished 0 0 [] 34 2; out=0200000200 6869; left=
         options=--frame length; in=0100000000 0200000400 00000000; end=Finished 0 0 [] 34 2; out=; left=
-        options=--frame length; in=0100000000 0200000400 01100000; end=MessageTooLong { conn: 0 } 4 0 [] 16 1; out=; left=; record=rx record 1 window 4 frame length/end 16 1/; report=rx report 1/end 4 taken 1 steps 16/
+        options=--frame length; in=0100000000 0200000400 01100000; end=MessageTooLong { conn: 0 } 4 0 [] 16 1; out=; left=; record=rx record 2 window 4 frame length/end 16 1/; report=rx report 1/end 4 taken 1 steps 16/
         options=--frame whole; in=0100000000 0200000200 6869; end=Finished 0 0 [] 34 2; out=0200000200 6869; left=
     "#,
     )
@@ -36,8 +36,8 @@ fn an_echo_has_other_options_and_streams(rt: HostRuntime) -> Result<(), Fail> {
         rt.alloc(),
         r#"
         echo
-        options=--form json; in=0100000000 0200000300 68690a; record=rx record 1 window 4 frame line/end 34 2/; report={"report":1}/{"end":0,"steps":34,"taken":2}/
-        options=--window 10 --frames 2 --frame whole; in=0100000000 0200000200 6869; record=rx record 1 window 10 frame whole/end 34 2/; report=rx report 1/end 0 taken 2 steps 34/
+        options=--form json; in=0100000000 0200000300 68690a; record=rx record 2 window 4 frame line/end 34 2/; report={"report":1}/{"end":0,"steps":34,"taken":2}/
+        options=--window 10 --frames 2 --frame whole; in=0100000000 0200000200 6869; record=rx record 2 window 10 frame whole/end 34 2/; report=rx report 1/end 0 taken 2 steps 34/
         in=0100000000 0200000300 68690a 0200000600 74686572650a; answer=Finished; out=0200000300 68690a 0200000600 74686572650a
         # A call on source or sink moves one byte.
         in=0100000000 0200000300 68690a; takes=1; gives=1; end=Finished 0 0 [] 34 2; out=0200000300 68690a; left=
@@ -73,24 +73,24 @@ fn a_guest_ends_as_its_row_says(rt: HostRuntime) -> Result<(), Fail> {
         three
         end=Finished 0 0 [] 3 0; out=; left=
         options=--budget 4; end=Finished 0 0 [] 3 0; out=; left=
-        options=--budget 3; end=GaveUp { point: 0, cause: Hang } 5 0 [] 3 0; out=; left=; record=rx record 1 window 4 frame line/end 3 0/; report=rx report 1/failure 0 point 0 cause Hang at 0001000c/try 0 checkpoint 0 env pad result Hang/try 1 checkpoint 0 env zero result Hang/try 2 checkpoint 0 env isolate result Hang/try 3 checkpoint 0 env delay result Hang/try 4 checkpoint 0 env all result Hang/end 5 taken 0 steps 3/
-        in=0100000000 0200000300 68690a; end=GaveUp { point: 1, cause: BadAccess } 5 0 [] 4 1; out=; left=0200000300 68690a; record=rx record 1 window 4 frame line/end 4 1/; report=rx report 1/failure 0 point 1 cause BadAccess at 00010010/try 0 checkpoint 0 env pad result BadAccess/try 1 checkpoint 0 env zero result BadAccess/try 2 checkpoint 0 env isolate result BadAccess/try 3 checkpoint 0 env delay result BadAccess/try 4 checkpoint 0 env all result BadAccess/end 5 taken 1 steps 4/
+        options=--budget 3; end=GaveUp { point: 0, cause: Hang } 5 0 [] 3 0; out=; left=; record=rx record 2 window 4 frame line/end 3 0/; report=rx report 1/failure 0 point 0 cause Hang at 0001000c/try 0 checkpoint 0 env pad result Hang/try 1 checkpoint 0 env zero result Hang/try 2 checkpoint 0 env isolate result Hang/try 3 checkpoint 0 env delay result Hang/try 4 checkpoint 0 env all result Hang/end 5 taken 0 steps 3/
+        in=0100000000 0200000300 68690a; end=GaveUp { point: 1, cause: BadAccess } 5 0 [] 4 1; out=; left=0200000300 68690a; record=rx record 2 window 4 frame line/end 4 1/; report=rx report 1/failure 0 point 1 cause BadAccess at 00010010/try 0 checkpoint 0 env pad result BadAccess/try 1 checkpoint 0 env zero result BadAccess/try 2 checkpoint 0 env isolate result BadAccess/try 3 checkpoint 0 env delay result BadAccess/try 4 checkpoint 0 env all result BadAccess/end 5 taken 1 steps 4/
 
         null
-        in=0100000000 0200000200 780a; end=GaveUp { point: 2, cause: BadAccess } 5 0 [] 20 2; out=; left=; record=rx record 1 window 4 frame line/end 20 2/; report=rx report 1/failure 0 point 2 cause BadAccess at 00010028/try 0 checkpoint 1 env pad result BadAccess/try 1 checkpoint 1 env zero result BadAccess/try 2 checkpoint 1 env isolate result BadAccess/try 3 checkpoint 1 env delay result BadAccess/try 4 checkpoint 1 env all result BadAccess/try 5 checkpoint 0 env pad result BadAccess/try 6 checkpoint 0 env zero result BadAccess/try 7 checkpoint 0 env isolate result BadAccess/try 8 checkpoint 0 env delay result BadAccess/try 9 checkpoint 0 env all result BadAccess/end 5 taken 2 steps 20/
+        in=0100000000 0200000200 780a; end=GaveUp { point: 2, cause: BadAccess } 5 0 [] 20 2; out=; left=; record=rx record 2 window 4 frame line/end 20 2/; report=rx report 1/failure 0 point 2 cause BadAccess at 00010028/try 0 checkpoint 1 env pad result BadAccess/try 1 checkpoint 1 env zero result BadAccess/try 2 checkpoint 1 env isolate result BadAccess/try 3 checkpoint 1 env delay result BadAccess/try 4 checkpoint 1 env all result BadAccess/try 5 checkpoint 0 env pad result BadAccess/try 6 checkpoint 0 env zero result BadAccess/try 7 checkpoint 0 env isolate result BadAccess/try 8 checkpoint 0 env delay result BadAccess/try 9 checkpoint 0 env all result BadAccess/end 5 taken 2 steps 20/
 
         overflow
-        in=0100000000 0200000300 68690a; end=Finished 0 2 [] 81 2; out=0200000300 68690a; left=; record=rx record 1 window 4 frame line/m 00012000 -/m 00012010 -/end 81 2/; report=rx report 1/end 0 taken 2 steps 81/
+        in=0100000000 0200000300 68690a; end=Finished 0 2 [] 81 2; out=0200000300 68690a; left=; record=rx record 2 window 4 frame line/m 00012000 - 00000010/m 00012010 - 00000010/end 81 2/; report=rx report 1/end 0 taken 2 steps 81/
 
         li a0, 1/li a7, 5/ecall/
         in=0100000000; end=Exited(1) 1 0 [] 5 0; out=; left=0100000000
-        options=--form text; record=rx record 1 window 4 frame line/end 5 0/; report=rx report 1/end 1 taken 0 steps 5/
+        options=--form text; record=rx record 2 window 4 frame line/end 5 0/; report=rx report 1/end 1 taken 0 steps 5/
 
         counter
         in=0100000000 0200000300 68690a 0200000600 74686572650a; answer=Finished; out=0200000200 310a 0200000200 320a
 
         lui a0, 524288/li a7, 3/ecall/li a0, 0/li a7, 5/ecall/
-        record=rx record 1 window 4 frame line/m 00000000 -/end 9 0/; report=rx report 1/end 0 taken 0 steps 9/
+        record=rx record 2 window 4 frame line/m 00000000 - 80000000/end 9 0/; report=rx report 1/end 0 taken 0 steps 9/
     "#,
     )
 }
@@ -105,41 +105,41 @@ fn a_guest_that_fails_ends_as_its_row_says(rt: HostRuntime) -> Result<(), Fail> 
         rt.alloc(),
         r#"
         overflow
-        in=0100000000 0200002800 78*39 0a; end=Finished 0 2 [] 303 2; out=0200002800 78*39 0a; left=; record=rx record 1 window 4 frame line/m 00012100 -/m 00012310 -/end 303 2/; report=rx report 1/failure 0 point 2 cause AssertFailed 1 at 000100ac/try 0 checkpoint 1 env pad result survived/end 0 taken 2 steps 303/
-        options=--form json; in=0100000000 0200002800 78*39 0a; record=rx record 1 window 4 frame line/m 00012100 -/m 00012310 -/end 303 2/; report={"report":1}/{"cause":"AssertFailed 1","failure":0,"pc":"000100ac","point":2,"tries":[{"checkpoint":1,"env":"pad","result":"survived"}]}/{"end":0,"steps":303,"taken":2}/
+        in=0100000000 0200002800 78*39 0a; end=Finished 0 2 [] 303 2; out=0200002800 78*39 0a; left=; record=rx record 2 window 4 frame line/m 00012100 - 00000010/m 00012310 - 00000010/end 303 2/; report=rx report 1/failure 0 point 2 cause AssertFailed 1 at 000100ac/try 0 checkpoint 1 env pad result survived/end 0 taken 2 steps 303/
+        options=--form json; in=0100000000 0200002800 78*39 0a; record=rx record 2 window 4 frame line/m 00012100 - 00000010/m 00012310 - 00000010/end 303 2/; report={"report":1}/{"cause":"AssertFailed 1","failure":0,"pc":"000100ac","point":2,"tries":[{"checkpoint":1,"env":"pad","result":"survived"}]}/{"end":0,"steps":303,"taken":2}/
         # Padding stays for four items behind the first failure. The second long line fails once more.
         # Overflow does 16 instructions up to its first message, and 47 and 6 for each byte to the next.
-        in=0100000000 0200002800 78*39 0a 0200000100 0a 0200000100 0a 0200000100 0a 0200002800 78*39 0a; record=rx record 1 window 4 frame line/m 00012100 -/m 00012310 -/m 00012100 -/m 00012310 -/m 00012100 -/m 00012310 -/m 00012100 -/m 00012310 -/m 00012100 -/m 00012310 -/end 749 6/; report=rx report 1/failure 0 point 2 cause AssertFailed 1 at 000100ac/try 0 checkpoint 1 env pad result survived/failure 1 point 6 cause AssertFailed 1 at 000100ac/try 0 checkpoint 5 env pad result survived/end 0 taken 6 steps 749/
-        options=--ring 1 --form json; in=0100000000 0200002800 78*39 0a 0200000100 0a 0200000100 0a 0200000100 0a 0200002800 78*39 0a; record=rx record 1 window 4 frame line/m 00012100 -/m 00012310 -/m 00012100 -/m 00012310 -/m 00012100 -/m 00012310 -/m 00012100 -/m 00012310 -/m 00012100 -/m 00012310 -/end 749 6/; report={"report":1}/{"cause":"AssertFailed 1","failure":0,"pc":"000100ac","point":2,"tries":[{"checkpoint":1,"env":"pad","result":"survived"}]}/{"cause":"AssertFailed 1","failure":1,"pc":"000100ac","point":6,"tries":[{"checkpoint":5,"env":"pad","result":"survived"}]}/{"end":0,"steps":749,"taken":6}/
+        in=0100000000 0200002800 78*39 0a 0200000100 0a 0200000100 0a 0200000100 0a 0200002800 78*39 0a; record=rx record 2 window 4 frame line/m 00012100 - 00000010/m 00012310 - 00000010/m 00012100 - 00000010/m 00012310 - 00000010/m 00012100 - 00000010/m 00012310 - 00000010/m 00012100 - 00000010/m 00012310 - 00000010/m 00012100 - 00000010/m 00012310 - 00000010/end 749 6/; report=rx report 1/failure 0 point 2 cause AssertFailed 1 at 000100ac/try 0 checkpoint 1 env pad result survived/failure 1 point 6 cause AssertFailed 1 at 000100ac/try 0 checkpoint 5 env pad result survived/end 0 taken 6 steps 749/
+        options=--ring 1 --form json; in=0100000000 0200002800 78*39 0a 0200000100 0a 0200000100 0a 0200000100 0a 0200002800 78*39 0a; record=rx record 2 window 4 frame line/m 00012100 - 00000010/m 00012310 - 00000010/m 00012100 - 00000010/m 00012310 - 00000010/m 00012100 - 00000010/m 00012310 - 00000010/m 00012100 - 00000010/m 00012310 - 00000010/m 00012100 - 00000010/m 00012310 - 00000010/end 749 6/; report={"report":1}/{"cause":"AssertFailed 1","failure":0,"pc":"000100ac","point":2,"tries":[{"checkpoint":1,"env":"pad","result":"survived"}]}/{"cause":"AssertFailed 1","failure":1,"pc":"000100ac","point":6,"tries":[{"checkpoint":5,"env":"pad","result":"survived"}]}/{"end":0,"steps":749,"taken":6}/
 
         unset
-        in=0100000000 0200000300 68690a; end=Finished 0 2 [] 106 2; out=0200000300 68690a; left=; record=rx record 1 window 4 frame line/m 00012000 z/m 00012000 z/end 106 2/; report=rx report 1/failure 0 point 2 cause AssertFailed 2 at 00010098/try 0 checkpoint 1 env pad result AssertFailed 2/try 1 checkpoint 1 env zero result survived/end 0 taken 2 steps 106/
-        options=--form json; in=0100000000 0200000300 68690a; record=rx record 1 window 4 frame line/m 00012000 z/m 00012000 z/end 106 2/; report={"report":1}/{"cause":"AssertFailed 2","failure":0,"pc":"00010098","point":2,"tries":[{"checkpoint":1,"env":"pad","result":"AssertFailed 2"},{"checkpoint":1,"env":"zero","result":"survived"}]}/{"end":0,"steps":106,"taken":2}/
+        in=0100000000 0200000300 68690a; end=Finished 0 2 [] 106 2; out=0200000300 68690a; left=; record=rx record 2 window 4 frame line/m 00012000 z 00000040/m 00012000 z 00000040/end 106 2/; report=rx report 1/failure 0 point 2 cause AssertFailed 2 at 00010098/try 0 checkpoint 1 env pad result AssertFailed 2/try 1 checkpoint 1 env zero result survived/end 0 taken 2 steps 106/
+        options=--form json; in=0100000000 0200000300 68690a; record=rx record 2 window 4 frame line/m 00012000 z 00000040/m 00012000 z 00000040/end 106 2/; report={"report":1}/{"cause":"AssertFailed 2","failure":0,"pc":"00010098","point":2,"tries":[{"checkpoint":1,"env":"pad","result":"AssertFailed 2"},{"checkpoint":1,"env":"zero","result":"survived"}]}/{"end":0,"steps":106,"taken":2}/
 
         twice
-        in=0100000000 0200000300 68690a; end=Finished 0 1 [] 45 2; out=0200000300 68690a; left=; record=rx record 1 window 4 frame line/m 00012000 -/end 45 2/; report=rx report 1/failure 0 point 2 cause BadFree at 00010050/try 0 checkpoint 1 env pad result BadFree/try 1 checkpoint 1 env zero result BadFree/try 2 checkpoint 1 env isolate result BadFree/try 3 checkpoint 1 env delay result survived/end 0 taken 2 steps 45/
+        in=0100000000 0200000300 68690a; end=Finished 0 1 [] 45 2; out=0200000300 68690a; left=; record=rx record 2 window 4 frame line/m 00012000 - 00000020/end 45 2/; report=rx report 1/failure 0 point 2 cause BadFree at 00010050/try 0 checkpoint 1 env pad result BadFree/try 1 checkpoint 1 env zero result BadFree/try 2 checkpoint 1 env isolate result BadFree/try 3 checkpoint 1 env delay result survived/end 0 taken 2 steps 45/
 
         stale
-        in=0100000000 0200000200 610a 0200000200 620a; end=Finished 0 2 [] 141 3; out=0200000200 610a 0200000200 620a; left=; record=rx record 1 window 4 frame line/m 00012000 -/m 00012040 -/end 141 3/; report=rx report 1/failure 0 point 3 cause AssertFailed 3 at 000100e0/try 0 checkpoint 2 env pad result AssertFailed 3/try 1 checkpoint 2 env zero result AssertFailed 3/try 2 checkpoint 2 env isolate result AssertFailed 3/try 3 checkpoint 2 env delay result AssertFailed 3/try 4 checkpoint 2 env all result AssertFailed 3/try 5 checkpoint 1 env pad result AssertFailed 3/try 6 checkpoint 1 env zero result AssertFailed 3/try 7 checkpoint 1 env isolate result AssertFailed 3/try 8 checkpoint 1 env delay result survived/end 0 taken 3 steps 141/
+        in=0100000000 0200000200 610a 0200000200 620a; end=Finished 0 2 [] 141 3; out=0200000200 610a 0200000200 620a; left=; record=rx record 2 window 4 frame line/m 00012000 - 00000040/m 00012040 - 00000040/end 141 3/; report=rx report 1/failure 0 point 3 cause AssertFailed 3 at 000100e0/try 0 checkpoint 2 env pad result AssertFailed 3/try 1 checkpoint 2 env zero result AssertFailed 3/try 2 checkpoint 2 env isolate result AssertFailed 3/try 3 checkpoint 2 env delay result AssertFailed 3/try 4 checkpoint 2 env all result AssertFailed 3/try 5 checkpoint 1 env pad result AssertFailed 3/try 6 checkpoint 1 env zero result AssertFailed 3/try 7 checkpoint 1 env isolate result AssertFailed 3/try 8 checkpoint 1 env delay result survived/end 0 taken 3 steps 141/
 
         tell_free
-        in=0100000000 0200000200 610a; end=Finished 0 1 [] 119 2; out=0200000900 30303031333030300a; left=; record=rx record 1 window 4 frame line/m 00013000 -/end 119 2/; report=rx report 1/failure 0 point 2 cause BadFree at 00010078/try 0 checkpoint 1 env pad result Contradicts/try 1 checkpoint 1 env zero result BadFree/try 2 checkpoint 1 env isolate result Contradicts/try 3 checkpoint 1 env delay result survived/end 0 taken 2 steps 119/
+        in=0100000000 0200000200 610a; end=Finished 0 1 [] 119 2; out=0200000900 30303031333030300a; left=; record=rx record 2 window 4 frame line/m 00013000 - 00000010/end 119 2/; report=rx report 1/failure 0 point 2 cause BadFree at 00010078/try 0 checkpoint 1 env pad result Contradicts/try 1 checkpoint 1 env zero result BadFree/try 2 checkpoint 1 env isolate result Contradicts/try 3 checkpoint 1 env delay result survived/end 0 taken 2 steps 119/
 
         pair
-        in=0100000000 0101000000 0201000300 676f0a; end=Finished 0 2 [] 76 3; out=0200000200 610a 0201000200 620a; left=; record=rx record 1 window 4 frame line/m 00013000 -/m 00013000 -/end 76 3/; report=rx report 1/failure 0 point 3 cause BadFree at 0001009c/try 0 checkpoint 2 env pad result Contradicts/try 1 checkpoint 2 env zero result BadFree/try 2 checkpoint 2 env isolate result Contradicts/try 3 checkpoint 2 env delay result survived/end 0 taken 3 steps 76/
+        in=0100000000 0101000000 0201000300 676f0a; end=Finished 0 2 [] 76 3; out=0200000200 610a 0201000200 620a; left=; record=rx record 2 window 4 frame line/m 00013000 - 00000010/m 00013000 - 00000010/end 76 3/; report=rx report 1/failure 0 point 3 cause BadFree at 0001009c/try 0 checkpoint 2 env pad result Contradicts/try 1 checkpoint 2 env zero result BadFree/try 2 checkpoint 2 env isolate result Contradicts/try 3 checkpoint 2 env delay result survived/end 0 taken 3 steps 76/
 
         tell_over
-        in=0100000000 0200000200 610a; end=GaveUp { point: 2, cause: AssertFailed(5) } 5 2 [] 247 2; out=0200000900 30303031333030300a; left=; record=rx record 1 window 4 frame line/m 00013000 -/m 00013010 -/end 247 2/; report=rx report 1/failure 0 point 2 cause AssertFailed 5 at 000100c4/try 0 checkpoint 1 env pad result Contradicts/try 1 checkpoint 1 env zero result AssertFailed 5/try 2 checkpoint 1 env isolate result Contradicts/try 3 checkpoint 1 env delay result AssertFailed 5/try 4 checkpoint 1 env all result Contradicts/try 5 checkpoint 0 env pad result Contradicts/try 6 checkpoint 0 env zero result AssertFailed 5/try 7 checkpoint 0 env isolate result Contradicts/try 8 checkpoint 0 env delay result AssertFailed 5/try 9 checkpoint 0 env all result Contradicts/end 5 taken 2 steps 247/
-        options=--hold 2; in=0100000000 0200000200 610a; end=Finished 0 2 [] 256 2; out=0200000900 30303031333130300a; left=; record=rx record 1 window 4 frame line/m 00013100 -/m 00013310 -/end 256 2/; report=rx report 1/failure 0 point 2 cause AssertFailed 5 at 000100c4/try 0 checkpoint 1 env pad result survived/end 0 taken 2 steps 256/
+        in=0100000000 0200000200 610a; end=GaveUp { point: 2, cause: AssertFailed(5) } 5 2 [] 247 2; out=0200000900 30303031333030300a; left=; record=rx record 2 window 4 frame line/m 00013000 - 00000010/m 00013010 - 00000010/end 247 2/; report=rx report 1/failure 0 point 2 cause AssertFailed 5 at 000100c4/try 0 checkpoint 1 env pad result Contradicts/try 1 checkpoint 1 env zero result AssertFailed 5/try 2 checkpoint 1 env isolate result Contradicts/try 3 checkpoint 1 env delay result AssertFailed 5/try 4 checkpoint 1 env all result Contradicts/try 5 checkpoint 0 env pad result Contradicts/try 6 checkpoint 0 env zero result AssertFailed 5/try 7 checkpoint 0 env isolate result Contradicts/try 8 checkpoint 0 env delay result AssertFailed 5/try 9 checkpoint 0 env all result Contradicts/end 5 taken 2 steps 247/
+        options=--hold 2; in=0100000000 0200000200 610a; end=Finished 0 2 [] 256 2; out=0200000900 30303031333130300a; left=; record=rx record 2 window 4 frame line/m 00013100 - 00000010/m 00013310 - 00000010/end 256 2/; report=rx report 1/failure 0 point 2 cause AssertFailed 5 at 000100c4/try 0 checkpoint 1 env pad result survived/end 0 taken 2 steps 256/
 
         dirty
-        options=--window 1 --frames 2; in=0100000000 0200000200 610a 0200000200 620a 0200000200 630a; end=Finished 0 1 [] 300 4; out=0200000200 610a 0200000200 620a 0200000200 630a; left=; record=rx record 1 window 1 frame line/m 00012000 -/end 300 4/; report=rx report 1/end 0 taken 4 steps 300/
+        options=--window 1 --frames 2; in=0100000000 0200000200 610a 0200000200 620a 0200000200 630a; end=Finished 0 1 [] 300 4; out=0200000200 610a 0200000200 620a 0200000200 630a; left=; record=rx record 2 window 1 frame line/m 00012000 - 00010000/end 300 4/; report=rx report 1/end 0 taken 4 steps 300/
 
         late
-        in=0100000000 0200000200 780a; end=Finished 0 2 [] 60 2; out=0200000200 610a; left=; record=rx record 1 window 4 frame line/m 00013000 -/m 00013000 -/end 60 2/; report=rx report 1/failure 0 point 2 cause BadFree at 000100a8/try 0 checkpoint 1 env pad result Behind/try 1 checkpoint 1 env zero result BadFree/try 2 checkpoint 1 env isolate result Behind/try 3 checkpoint 1 env delay result survived/end 0 taken 2 steps 60/
+        in=0100000000 0200000200 780a; end=Finished 0 2 [] 60 2; out=0200000200 610a; left=; record=rx record 2 window 4 frame line/m 00013000 - 00000010/m 00013000 - 00000010/end 60 2/; report=rx report 1/failure 0 point 2 cause BadFree at 000100a8/try 0 checkpoint 1 env pad result Behind/try 1 checkpoint 1 env zero result BadFree/try 2 checkpoint 1 env isolate result Behind/try 3 checkpoint 1 env delay result survived/end 0 taken 2 steps 60/
 
         three
-        options=--budget 3 --form json; record=rx record 1 window 4 frame line/end 3 0/; report={"report":1}/{"cause":"Hang","failure":0,"pc":"0001000c","point":0,"tries":[{"checkpoint":0,"env":"pad","result":"Hang"},{"checkpoint":0,"env":"zero","result":"Hang"},{"checkpoint":0,"env":"isolate","result":"Hang"},{"checkpoint":0,"env":"delay","result":"Hang"},{"checkpoint":0,"env":"all","result":"Hang"}]}/{"end":5,"steps":3,"taken":0}/
+        options=--budget 3 --form json; record=rx record 2 window 4 frame line/end 3 0/; report={"report":1}/{"cause":"Hang","failure":0,"pc":"0001000c","point":0,"tries":[{"checkpoint":0,"env":"pad","result":"Hang"},{"checkpoint":0,"env":"zero","result":"Hang"},{"checkpoint":0,"env":"isolate","result":"Hang"},{"checkpoint":0,"env":"delay","result":"Hang"},{"checkpoint":0,"env":"all","result":"Hang"}]}/{"end":5,"steps":3,"taken":0}/
     "#,
     )
 }
@@ -155,19 +155,19 @@ fn a_call_fails_at_the_start(rt: HostRuntime) -> Result<(), Fail> {
         in=0100000000 0200000300 68690a; source=2; end=ReadFault 7 0 [] 16 1; out=; left=0200000300 68690a
 
         overflow
-        in=0100000000 0200000300 68690a; sink=2; gives=3; end=WriteFault 8 0 [Choice { at: 73728, zeroed: false }, Choice { at: 73744, zeroed: false }] 68 2; out=020000; left=
+        in=0100000000 0200000300 68690a; sink=2; gives=3; end=WriteFault 8 0 [Choice { ask: Malloc { size: 16 }, at: 73728, zeroed: false }, Choice { ask: Malloc { size: 16 }, at: 73744, zeroed: false }] 68 2; out=020000; left=
         # Calls on files are to load the program, to start the record and add to it, and to start the report and add to it. Nothing is read.
         in=0100000000 0200002800 78*39 0a; files=1; end=FileFault 9 0 [] 0 0; out=; left=0100000000 0200002800 78*39 0a; record=none; report=none
         in=0100000000 0200002800 78*39 0a; files=2; end=FileFault 9 0 [] 0 0; out=; left=0100000000 0200002800 78*39 0a; record=none; report=none
         in=0100000000 0200002800 78*39 0a; files=3; end=FileFault 9 0 [] 0 0; out=; left=0100000000 0200002800 78*39 0a; record=; report=none
-        in=0100000000 0200002800 78*39 0a; files=4; end=FileFault 9 0 [] 0 0; out=; left=0100000000 0200002800 78*39 0a; record=rx record 1 window 4 frame line/; report=none
-        in=0100000000 0200002800 78*39 0a; files=5; end=FileFault 9 0 [] 0 0; out=; left=0100000000 0200002800 78*39 0a; record=rx record 1 window 4 frame line/; report=
+        in=0100000000 0200002800 78*39 0a; files=4; end=FileFault 9 0 [] 0 0; out=; left=0100000000 0200002800 78*39 0a; record=rx record 2 window 4 frame line/; report=none
+        in=0100000000 0200002800 78*39 0a; files=5; end=FileFault 9 0 [] 0 0; out=; left=0100000000 0200002800 78*39 0a; record=rx record 2 window 4 frame line/; report=
         # What they had is written anew. The last one fails nowhere.
         in=0100000000 0200002800 78*39 0a; before=as it was/; files=2; end=FileFault 9 0 [] 0 0; out=; left=0100000000 0200002800 78*39 0a; record=as it was/; report=as it was/
         in=0100000000 0200002800 78*39 0a; before=as it was/; files=3; end=FileFault 9 0 [] 0 0; out=; left=0100000000 0200002800 78*39 0a; record=; report=as it was/
-        in=0100000000 0200002800 78*39 0a; before=as it was/; files=4; end=FileFault 9 0 [] 0 0; out=; left=0100000000 0200002800 78*39 0a; record=rx record 1 window 4 frame line/; report=as it was/
-        in=0100000000 0200002800 78*39 0a; before=as it was/; files=5; end=FileFault 9 0 [] 0 0; out=; left=0100000000 0200002800 78*39 0a; record=rx record 1 window 4 frame line/; report=
-        in=0100000000 0200002800 78*39 0a; before=as it was/; end=Finished 0 2 [] 303 2; out=0200002800 78*39 0a; left=; record=rx record 1 window 4 frame line/m 00012100 -/m 00012310 -/end 303 2/; report=rx report 1/failure 0 point 2 cause AssertFailed 1 at 000100ac/try 0 checkpoint 1 env pad result survived/end 0 taken 2 steps 303/
+        in=0100000000 0200002800 78*39 0a; before=as it was/; files=4; end=FileFault 9 0 [] 0 0; out=; left=0100000000 0200002800 78*39 0a; record=rx record 2 window 4 frame line/; report=as it was/
+        in=0100000000 0200002800 78*39 0a; before=as it was/; files=5; end=FileFault 9 0 [] 0 0; out=; left=0100000000 0200002800 78*39 0a; record=rx record 2 window 4 frame line/; report=
+        in=0100000000 0200002800 78*39 0a; before=as it was/; end=Finished 0 2 [] 303 2; out=0200002800 78*39 0a; left=; record=rx record 2 window 4 frame line/m 00012100 - 00000010/m 00012310 - 00000010/end 303 2/; report=rx report 1/failure 0 point 2 cause AssertFailed 1 at 000100ac/try 0 checkpoint 1 env pad result survived/end 0 taken 2 steps 303/
     "#,
     )
 }
@@ -179,23 +179,23 @@ fn a_call_fails_in_mid_session(rt: HostRuntime) -> Result<(), Fail> {
         rt.alloc(),
         r#"
         overflow
-        # The first file call of the session adds its failure to the report. At the end the answers of malloc are added to the record, and
+        # The first file call of the session adds its failure to the report. At the end the answers of the allocator are added to the record, and
         # the last lines to both. There is no tenth call.
-        in=0100000000 0200002800 78*39 0a; files=6; end=FileFault 9 0 [Choice { at: 73984, zeroed: false }, Choice { at: 74512, zeroed: false }] 303 2; out=; left=; record=rx record 1 window 4 frame line/; report=rx report 1/
-        in=0100000000 0200002800 78*39 0a; files=7; end=FileFault 9 0 [Choice { at: 73984, zeroed: false }, Choice { at: 74512, zeroed: false }] 303 2; out=0200002800 78*39 0a; left=; record=rx record 1 window 4 frame line/; report=rx report 1/failure 0 point 2 cause AssertFailed 1 at 000100ac/try 0 checkpoint 1 env pad result survived/
-        in=0100000000 0200002800 78*39 0a; files=8; end=FileFault 9 2 [] 303 2; out=0200002800 78*39 0a; left=; record=rx record 1 window 4 frame line/m 00012100 -/m 00012310 -/; report=rx report 1/failure 0 point 2 cause AssertFailed 1 at 000100ac/try 0 checkpoint 1 env pad result survived/
-        in=0100000000 0200002800 78*39 0a; files=9; end=FileFault 9 2 [] 303 2; out=0200002800 78*39 0a; left=; record=rx record 1 window 4 frame line/m 00012100 -/m 00012310 -/end 303 2/; report=rx report 1/failure 0 point 2 cause AssertFailed 1 at 000100ac/try 0 checkpoint 1 env pad result survived/
-        in=0100000000 0200002800 78*39 0a; files=10; end=Finished 0 2 [] 303 2; out=0200002800 78*39 0a; left=; record=rx record 1 window 4 frame line/m 00012100 -/m 00012310 -/end 303 2/; report=rx report 1/failure 0 point 2 cause AssertFailed 1 at 000100ac/try 0 checkpoint 1 env pad result survived/end 0 taken 2 steps 303/
-        # With one checkpoint the answers of malloc are added to the record at each recv.
-        options=--ring 1; in=0100000000 0200000300 68690a 0200000300 68690a; files=6; end=FileFault 9 0 [Choice { at: 73728, zeroed: false }, Choice { at: 73744, zeroed: false }] 81 2; out=0200000300 68690a; left=0200000300 68690a; record=rx record 1 window 4 frame line/; report=rx report 1/
-        options=--ring 1; in=0100000000 0200000300 68690a 0200000300 68690a; files=7; end=FileFault 9 2 [Choice { at: 73728, zeroed: false }, Choice { at: 73744, zeroed: false }] 146 3; out=0200000300 68690a 0200000300 68690a; left=; record=rx record 1 window 4 frame line/m 00012000 -/m 00012010 -/; report=rx report 1/
-        options=--ring 1; in=0100000000 0200000300 68690a 0200000300 68690a; files=8; end=FileFault 9 4 [] 146 3; out=0200000300 68690a 0200000300 68690a; left=; record=rx record 1 window 4 frame line/m 00012000 -/m 00012010 -/m 00012000 -/m 00012010 -/; report=rx report 1/
-        options=--ring 1; in=0100000000 0200000300 68690a 0200000300 68690a; files=9; end=FileFault 9 4 [] 146 3; out=0200000300 68690a 0200000300 68690a; left=; record=rx record 1 window 4 frame line/m 00012000 -/m 00012010 -/m 00012000 -/m 00012010 -/end 146 3/; report=rx report 1/
+        in=0100000000 0200002800 78*39 0a; files=6; end=FileFault 9 0 [Choice { ask: Malloc { size: 16 }, at: 73984, zeroed: false }, Choice { ask: Malloc { size: 16 }, at: 74512, zeroed: false }] 303 2; out=; left=; record=rx record 2 window 4 frame line/; report=rx report 1/
+        in=0100000000 0200002800 78*39 0a; files=7; end=FileFault 9 0 [Choice { ask: Malloc { size: 16 }, at: 73984, zeroed: false }, Choice { ask: Malloc { size: 16 }, at: 74512, zeroed: false }] 303 2; out=0200002800 78*39 0a; left=; record=rx record 2 window 4 frame line/; report=rx report 1/failure 0 point 2 cause AssertFailed 1 at 000100ac/try 0 checkpoint 1 env pad result survived/
+        in=0100000000 0200002800 78*39 0a; files=8; end=FileFault 9 2 [] 303 2; out=0200002800 78*39 0a; left=; record=rx record 2 window 4 frame line/m 00012100 - 00000010/m 00012310 - 00000010/; report=rx report 1/failure 0 point 2 cause AssertFailed 1 at 000100ac/try 0 checkpoint 1 env pad result survived/
+        in=0100000000 0200002800 78*39 0a; files=9; end=FileFault 9 2 [] 303 2; out=0200002800 78*39 0a; left=; record=rx record 2 window 4 frame line/m 00012100 - 00000010/m 00012310 - 00000010/end 303 2/; report=rx report 1/failure 0 point 2 cause AssertFailed 1 at 000100ac/try 0 checkpoint 1 env pad result survived/
+        in=0100000000 0200002800 78*39 0a; files=10; end=Finished 0 2 [] 303 2; out=0200002800 78*39 0a; left=; record=rx record 2 window 4 frame line/m 00012100 - 00000010/m 00012310 - 00000010/end 303 2/; report=rx report 1/failure 0 point 2 cause AssertFailed 1 at 000100ac/try 0 checkpoint 1 env pad result survived/end 0 taken 2 steps 303/
+        # With one checkpoint the answers of the allocator are added to the record at each recv.
+        options=--ring 1; in=0100000000 0200000300 68690a 0200000300 68690a; files=6; end=FileFault 9 0 [Choice { ask: Malloc { size: 16 }, at: 73728, zeroed: false }, Choice { ask: Malloc { size: 16 }, at: 73744, zeroed: false }] 81 2; out=0200000300 68690a; left=0200000300 68690a; record=rx record 2 window 4 frame line/; report=rx report 1/
+        options=--ring 1; in=0100000000 0200000300 68690a 0200000300 68690a; files=7; end=FileFault 9 2 [Choice { ask: Malloc { size: 16 }, at: 73728, zeroed: false }, Choice { ask: Malloc { size: 16 }, at: 73744, zeroed: false }] 146 3; out=0200000300 68690a 0200000300 68690a; left=; record=rx record 2 window 4 frame line/m 00012000 - 00000010/m 00012010 - 00000010/; report=rx report 1/
+        options=--ring 1; in=0100000000 0200000300 68690a 0200000300 68690a; files=8; end=FileFault 9 4 [] 146 3; out=0200000300 68690a 0200000300 68690a; left=; record=rx record 2 window 4 frame line/m 00012000 - 00000010/m 00012010 - 00000010/m 00012000 - 00000010/m 00012010 - 00000010/; report=rx report 1/
+        options=--ring 1; in=0100000000 0200000300 68690a 0200000300 68690a; files=9; end=FileFault 9 4 [] 146 3; out=0200000300 68690a 0200000300 68690a; left=; record=rx record 2 window 4 frame line/m 00012000 - 00000010/m 00012010 - 00000010/m 00012000 - 00000010/m 00012010 - 00000010/end 146 3/; report=rx report 1/
         # The source fails behind the long line; the sink at its first call, and in the midst of the second reply. No file has its last line.
-        in=0100000000 0200002800 78*39 0a; source=4; end=ReadFault 7 0 [Choice { at: 73984, zeroed: false }, Choice { at: 74512, zeroed: false }] 303 2; out=0200002800 78*39 0a; left=; record=rx record 1 window 4 frame line/; report=rx report 1/failure 0 point 2 cause AssertFailed 1 at 000100ac/try 0 checkpoint 1 env pad result survived/
-        in=0100000000 0200002800 78*39 0a; sink=1; end=WriteFault 8 0 [Choice { at: 73984, zeroed: false }, Choice { at: 74512, zeroed: false }] 303 2; out=; left=; record=rx record 1 window 4 frame line/; report=rx report 1/failure 0 point 2 cause AssertFailed 1 at 000100ac/try 0 checkpoint 1 env pad result survived/
-        options=--ring 1; in=0100000000 0200002800 78*39 0a; source=4; end=ReadFault 7 2 [] 303 2; out=0200002800 78*39 0a; left=; record=rx record 1 window 4 frame line/m 00012100 -/m 00012310 -/; report=rx report 1/failure 0 point 2 cause AssertFailed 1 at 000100ac/try 0 checkpoint 1 env pad result survived/
-        options=--ring 1; in=0100000000 0200000300 68690a 0200000300 68690a; sink=12; gives=1; end=WriteFault 8 2 [Choice { at: 73728, zeroed: false }, Choice { at: 73744, zeroed: false }] 133 3; out=0200000300 68690a 020000; left=; record=rx record 1 window 4 frame line/m 00012000 -/m 00012010 -/; report=rx report 1/
+        in=0100000000 0200002800 78*39 0a; source=4; end=ReadFault 7 0 [Choice { ask: Malloc { size: 16 }, at: 73984, zeroed: false }, Choice { ask: Malloc { size: 16 }, at: 74512, zeroed: false }] 303 2; out=0200002800 78*39 0a; left=; record=rx record 2 window 4 frame line/; report=rx report 1/failure 0 point 2 cause AssertFailed 1 at 000100ac/try 0 checkpoint 1 env pad result survived/
+        in=0100000000 0200002800 78*39 0a; sink=1; end=WriteFault 8 0 [Choice { ask: Malloc { size: 16 }, at: 73984, zeroed: false }, Choice { ask: Malloc { size: 16 }, at: 74512, zeroed: false }] 303 2; out=; left=; record=rx record 2 window 4 frame line/; report=rx report 1/failure 0 point 2 cause AssertFailed 1 at 000100ac/try 0 checkpoint 1 env pad result survived/
+        options=--ring 1; in=0100000000 0200002800 78*39 0a; source=4; end=ReadFault 7 2 [] 303 2; out=0200002800 78*39 0a; left=; record=rx record 2 window 4 frame line/m 00012100 - 00000010/m 00012310 - 00000010/; report=rx report 1/failure 0 point 2 cause AssertFailed 1 at 000100ac/try 0 checkpoint 1 env pad result survived/
+        options=--ring 1; in=0100000000 0200000300 68690a 0200000300 68690a; sink=12; gives=1; end=WriteFault 8 2 [Choice { ask: Malloc { size: 16 }, at: 73728, zeroed: false }, Choice { ask: Malloc { size: 16 }, at: 73744, zeroed: false }] 133 3; out=0200000300 68690a 020000; left=; record=rx record 2 window 4 frame line/m 00012000 - 00000010/m 00012010 - 00000010/; report=rx report 1/
     "#,
     )
 }
@@ -247,6 +247,13 @@ fn a_record_is_replayed_as_its_row_says(rt: HostRuntime) -> Result<(), Fail> {
         words=replay p r; in=0100000000 0200002800 78*39 0a; before=rx record 1 window 4 frame line/m 00012100 -/m 00012310 -/end 303 2/; end=Finished 0 0 [] 0 0; out=0200002800 78*39 0a; left=
         words=replay p r; in=0100000000 0200002800 78*39 0a; before=rx record 1 window 4 frame line/m 00012100 -/m 00012100 -/end 303 2/; end=Mismatch { step: 30 } 3 0 [] 0 0; out=; left=
         words=replay p r; in=0100000000 0200002800 78*39 0a; before=rx record 1 window 4 frame line/m 0001210A -/m 00012310 -/end 303 2/; end=RecordRefused { line: 2 } 3 0 [] 0 0; out=; left=0100000000 0200002800 78*39 0a
+        # The same in version 2; with another size in the first line or in the second one; with a calloc there; and with a line of version 1. The first
+        # call of malloc comes behind 26 instructions.
+        words=replay p r; in=0100000000 0200002800 78*39 0a; before=rx record 2 window 4 frame line/m 00012100 - 00000010/m 00012310 - 00000010/end 303 2/; end=Finished 0 0 [] 0 0; out=0200002800 78*39 0a; left=
+        words=replay p r; in=0100000000 0200002800 78*39 0a; before=rx record 2 window 4 frame line/m 00012100 - 0000000f/m 00012310 - 00000010/end 303 2/; end=Mismatch { step: 26 } 3 0 [] 0 0; out=; left=
+        words=replay p r; in=0100000000 0200002800 78*39 0a; before=rx record 2 window 4 frame line/m 00012100 - 00000010/m 00012310 - 00000011/end 303 2/; end=Mismatch { step: 30 } 3 0 [] 0 0; out=; left=
+        words=replay p r; in=0100000000 0200002800 78*39 0a; before=rx record 2 window 4 frame line/m 00012100 - 00000010/c 00012310 z 00000001 00000010/end 303 2/; end=Mismatch { step: 30 } 3 0 [] 0 0; out=; left=
+        words=replay p r; in=0100000000 0200002800 78*39 0a; before=rx record 2 window 4 frame line/m 00012100 - 00000010/m 00012310 -/end 303 2/; end=RecordRefused { line: 3 } 3 0 [] 0 0; out=; left=0100000000 0200002800 78*39 0a
 
         echo
         # The echo's record; one that ends behind the first reply, where no event more is taken; one with an instruction more, for which the run
@@ -259,6 +266,32 @@ fn a_record_is_replayed_as_its_row_says(rt: HostRuntime) -> Result<(), Fail> {
         words=replay p r; in=0100000000 0200000300 68690a; before=rx record 1 window 4 frame line/end 34 2/; source=2; end=ReadFault 7 0 [] 0 0; out=; left=0200000300 68690a
         words=replay p r; in=0100000000 0200000300 68690a; before=rx record 1 window 4 frame line/end 34 2/; sink=2; gives=3; end=WriteFault 8 0 [] 0 0; out=020000; left=
         words=replay p r; in=0100000000 0200000300 68690a; before=rx record 1 window 4 frame line/end 34 2/; files=2; end=FileFault 9 0 [] 0 0; out=; left=0100000000 0200000300 68690a
+    "#,
+    )
+}
+
+// The records of both versions become one of version 2, and nothing is given. Calls on files are to load the program and the record, to start `o` and to add
+// to it.
+#[test]
+fn a_record_is_converted_as_its_row_says(rt: HostRuntime) -> Result<(), Fail> {
+    play_rows(
+        &rt,
+        rt.alloc(),
+        r#"
+        overflow
+        words=convert p r o; in=0100000000 0200002800 78*39 0a; before=rx record 1 window 4 frame line/m 00012100 -/m 00012310 -/end 303 2/; end=Finished 0 0 [] 0 0; out=; left=; o=rx record 2 window 4 frame line/m 00012100 - 00000010/m 00012310 - 00000010/end 303 2/
+        words=convert p r o; in=0100000000 0200002800 78*39 0a; before=rx record 2 window 4 frame line/m 00012100 - 00000010/m 00012310 - 00000010/end 303 2/; end=Finished 0 0 [] 0 0; out=; left=; o=rx record 2 window 4 frame line/m 00012100 - 00000010/m 00012310 - 00000010/end 303 2/
+        words=convert p r o; in=0100000000 0200002800 78*39 0a; before=rx record 1 window 4 frame line/m 00012100 -/m 00012100 -/end 303 2/; end=Mismatch { step: 30 } 3 0 [] 0 0; out=; left=; o=none
+        words=convert p r o; in=0100000000 0200002800 78*39 0a; before=rx record 1 window 4 frame line/m 00012100 -/m 00012310 - 00000010/end 303 2/; end=RecordRefused { line: 3 } 3 0 [] 0 0; out=; left=0100000000 0200002800 78*39 0a; o=none
+
+        echo
+        # The sink isn't called. The source fails at its second call, and the files as `o` is started and as it is added to.
+        words=convert p r o; in=0100000000 0200000300 68690a; before=rx record 1 window 4 frame line/end 34 2/; sink=1; end=Finished 0 0 [] 0 0; out=; left=; o=rx record 2 window 4 frame line/end 34 2/
+        words=convert p r o; in=0100000000 0200000300 68690a; before=rx record 1 window 4 frame line/end 34 2/; source=2; end=ReadFault 7 0 [] 0 0; out=; left=0200000300 68690a; o=none
+        words=convert p r o; in=0100000000 0200000300 68690a; before=rx record 1 window 4 frame line/end 34 2/; files=2; end=FileFault 9 0 [] 0 0; out=; left=0100000000 0200000300 68690a; o=none
+        words=convert p r o; in=0100000000 0200000300 68690a; before=rx record 1 window 4 frame line/end 34 2/; files=3; end=FileFault 9 0 [] 0 0; out=; left=; o=none
+        words=convert p r o; in=0100000000 0200000300 68690a; before=rx record 1 window 4 frame line/end 34 2/; files=4; end=FileFault 9 0 [] 0 0; out=; left=; o=
+        words=convert p r r; in=0100000000 0200000300 68690a; before=rx record 1 window 4 frame line/end 34 2/; end=BadWords 2 0 [] 0 0; out=; left=0100000000 0200000300 68690a; record=rx record 1 window 4 frame line/end 34 2/
     "#,
     )
 }

@@ -58,7 +58,7 @@ behind_after : (oldest : Path) (ring : List Path) → AreAfter oldest ring → A
 behind_after oldest [] are = tt
 behind_after oldest (newest ∷ older) are = (are.0.choices, behind_after oldest older are.1)
 
--- The oldest checkpoint used all of its answers of malloc.
+-- The oldest checkpoint used all of its answers of the allocator.
 pub oldest_used : (limits : Limits) (items : List Item) (plan : List Override) (image : Image) (later : Path) (ring : List Path) (oldest : Path) → AreChained limits items plan image later ring → slice_get ring (length ring - 1) ≡ Some oldest
     → oldest.state.machine.allocations ≡ length oldest.choices
 oldest_used limits items plan image later ring oldest chain last =
@@ -129,7 +129,7 @@ module _ {R : Type 0} where
         sends = subst (λ (o : Option (Saved Standing)). IfSome o (λ oldest. oldest.state.sends ≤ ledger.first + length ledger.kept)) (sym h.first) sends_there;
       }
 
-  -- The answers of malloc before the oldest checkpoint: as many were used at each checkpoint, and the run has them.
+  -- The answers of the allocator before the oldest checkpoint: as many were used at each checkpoint, and the run has them.
   pub behind_marks : (rules : Rules) (image : Image) (entries : List Entry) (plan : List Override) (now : Path) (ring : List Path) (cpu : CpuState R) (checkpoints : Checkpoints) (log : Log) (ledger : Ledger) (marks : Marks)
       → IfSome (slice_get cpu.slots.saved 0) (λ one. marks ≡ marks_of one.state) → KeepsRing rules image entries plan now ring cpu checkpoints log ledger → AreBehind marks.choices ring × (marks.choices ≤ length now.choices)
   behind_marks rules image entries plan now ring cpu checkpoints log ledger marks is k =

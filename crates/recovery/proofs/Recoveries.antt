@@ -28,7 +28,7 @@ module _ {R : Type 0} {site : FailureSite} {failure : Failure} {old : CpuState R
   episode_tells begun episode is w =
       λ i. record { point = (is.point_is ∙ sym has.failed.point_is) i; cause = is.cause_is i; pc = (is.pc_is ∙ sym has.pc_is) i; tries = w.tries_are i }
 
-  -- the answers of malloc of the trial that survived
+  -- the answers of the allocator of the trial that survived
   own_of : {trials : List Trial} {adopted : Adopted} {cpu : CpuState R} {own : List Choice} {later : Ledger} (s : HasSurvived failure site.point trials adopted cpu own later) → OwnAnswers recorded failure.failed s.trial.path own
   own_of {adopted = adopted} {own = own} s =
       own_answers failure.plan failure.image failure.ring adopted.index has.early has.failed.has.chained s.from s.right.from s.adopts.chose

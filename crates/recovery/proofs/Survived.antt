@@ -57,12 +57,12 @@ adopted_asks items plan checkpoint pieces index env (tried.Failed cause) {adopte
 adopted_asks items plan checkpoint pieces index env tried.Contradicts {adopted = adopted} is comes = absurd (none-some adopted is)
 adopted_asks items plan checkpoint pieces index env tried.Behind {adopted = adopted} is comes = absurd (none-some adopted is)
 
--- the start used no answer of malloc
+-- the start used no answer of the allocator
 pub start_used : (image : Image) → IsUsed (origin image)
 unfolding start start_machine
 start_used image = refl
 
--- The answers of malloc of a run that goes on from a checkpoint, behind the first ones, which were used before it: those of a later run up to
+-- The answers of the allocator of a run that goes on from a checkpoint, behind the first ones, which were used before it: those of a later run up to
 -- there, and its own.
 pub record OwnAnswers (recorded : ℕ) (later path : Path) (own : List Choice) : Type 0 where
   pub few : recorded + length own ≤ path.state.machine.allocations

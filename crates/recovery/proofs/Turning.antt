@@ -56,7 +56,7 @@ module _ {R : Type 0} where
           asks = subst (AsksFor failure.rules.limits (everywhere env point) runs.now) (sym runs.goes.taken) asks;
         }
 
-    -- malloc was answered
+    -- an ask was answered
     pub chooses_now : (choice : Choice) → found ≡ event.Chooses choice → IsTrying failure point checkpoint env old choices log ledger → Ranto found → KeepsSaved old new → IsTrying failure point checkpoint env new (choices ++ choice ∷ []) log ledger
     chooses_now choice is t ran saved =
         let both = ran_on failure point checkpoint env old new choices log ledger budget permits (Ok (event.Chooses choice)) under t (subst Ranto is ran) in

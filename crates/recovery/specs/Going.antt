@@ -1,4 +1,4 @@
--- A trial on its way: what its guest, its answers of malloc and its ledger are, before each of its events.
+-- A trial on its way: what its guest, its answers of the allocator and its ledger are, before each of its events.
 use Rattle.std.specs.Prelude.{◌≡◌, ◌⊎◌, ℕ, ◌<◌, ◌≤◌, Bool, true, false, List, ◌++◌, length, take, drop, replicate, Option, None, Some, Result, Ok, Err}
 use Rattle.reply_ledger.specs.Trials as ledgers
 use Rattle.session_notes.specs.declared.episode.Tried.TheVariants as tried

@@ -15,7 +15,7 @@ abbrev pub recovery_of : Failure → Path → Cause → List Trial → Recovery
 recovery_of failure begun cause trials = record { survivor = record { plan = failure.plan; begun = begun; now = failure.failed }; cause = cause; ring = failure.ring; trials = trials }
 
 module _ {R : Type 0} where
-  -- A session whose survivor failed so: its checkpoints are those of the failure. Of the survivor's answers of malloc it has those behind the
+  -- A session whose survivor failed so: its checkpoints are those of the failure. Of the survivor's answers of the allocator it has those behind the
   -- first ones, which are recorded, and all of which were used before the oldest checkpoint.
   pub record HasToRecover (site : FailureSite) (failure : Failure) (cpu : CpuState R) (checkpoints : Checkpoints) (recorded : ℕ) (choices : List Choice) (log : Log) (ledger : Ledger) : Type 0 where
     pub failed : FailedAt site.point failure cpu log ledger
@@ -67,7 +67,7 @@ module _ {R : Type 0} where
   RecoversBy failure begun cause cpu ring_before ring_after recorded chose choices log old new before after (Err fault) = Unit {0}
 
 module _ {R : Type 0} where
-  -- the newer checkpoints were dropped, and the answers of malloc are those of the guest behind the recorded ones: these are its last ones
+  -- the newer checkpoints were dropped, and the answers of the allocator are those of the guest behind the recorded ones: these are its last ones
   pub record Adopts (index recorded : ℕ) (own : List Choice) (old new : CpuState R) (before after : Checkpoints) (chose choices : List Choice) : Type 0 where
     pub slots : new.slots ≡ without_newer_slots index old.slots
     pub capacity : after.capacity ≡ before.capacity
@@ -93,7 +93,7 @@ module _ {R : Type 0} where
     pub slots : KeepsSlots adopted old new
     pub bytes : HasSameBytes before after
 
-  -- by the answer: after want of memory the checkpoints and the answers of malloc are as they were
+  -- by the answer: after want of memory the checkpoints and the answers of the allocator are as they were
   abbrev pub LeavesRest : CpuState R → CpuState R → Checkpoints → Checkpoints → List Choice → List Choice → Ledger → Ledger → Result Recovered AllocError → Type 0
   LeavesRest old new before after chose choices ledger later (Ok recovered) = LeavesSession recovered.adopted old new ledger later
   LeavesRest old new before after chose choices ledger later (Err fault) = (after ≡ before) × (choices ≡ chose)

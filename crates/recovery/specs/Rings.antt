@@ -56,7 +56,7 @@ pub record CanSave {R : Type 0} (rules : Rules) (image : Image) (entries : List 
   pub items : log.first ≤ taken
   pub sends : ledger.first ≤ length now.state.sends
 
--- at each of some checkpoints so many answers of malloc were used, or more
+-- at each of some checkpoints so many answers of the allocator were used, or more
 abbrev pub AreBehind : ℕ → List Path → Type 0
 AreBehind count [] = Unit {0}
 AreBehind count (newest ∷ older) = (count ≤ length newest.choices) × AreBehind count older

@@ -39,7 +39,7 @@ module _ {R : Type 0} where
   StandsOn cpu index = cpu.slots.base ≡ from_newest (slot_numbers cpu.slots.saved) index
 
   -- A trial from a checkpoint came to this result: the guest stands where it has come, has marked the pages that it wrote since the checkpoint,
-  -- and these are its answers of malloc since then. Where it survives, the ledger has its sends, and else it has no trial.
+  -- and these are its answers of the allocator since then. Where it survives, the ledger has its sends, and else it has no trial.
   pub record HasTried (failure : Failure) (point : ℕ) (checkpoint : Path) (env : Env) (cpu : CpuState R) (choices : List Choice) (ledger : Ledger) (result : Tried) : Type 0 where
     pub path : Path
     pub trial : IsTrial failure.rules.limits (items_of failure) (plan_of_trial failure.plan checkpoint.state.machine.taken env point) checkpoint (pieces_of failure) point path result
@@ -60,7 +60,7 @@ module _ {R : Type 0} where
   TriesBy failure point checkpoint env cpu choices ledger (Err fault) = Unit {0}
 
   -- A trial is adopted, as the survivor: that of the chance at this index and in this environment, which ended itself with this code, if it did. The
-  -- guest stands where it has come, on its checkpoint, with the pages marked that it wrote since then; these are its answers of malloc since then; and
+  -- guest stands where it has come, on its checkpoint, with the pages marked that it wrote since then; these are its answers of the allocator since then; and
   -- the ledger has its sends.
   pub record IsAdopted (failure : Failure) (trial : Trial) (adopted : Adopted) (cpu : CpuState R) (choices : List Choice) (ledger : Ledger) : Type 0 where
     pub chance_is : chance_at failure.ring adopted.index adopted.env ≡ Some trial.chance

@@ -28,7 +28,7 @@ pub struct Recovered {
     pub adopted: Option<Adopted>,
 }
 
-// Some first answers of malloc, and others behind them.
+// Some first answers of the allocator, and others behind them.
 fn joined(alloc: Global, first: &[Choice], others: &[Choice]) -> Result<Vec<Choice>, AllocError>
     ensures { IfOk result (λ all. all.items ≡ first.now ++ others.now) }
 {
@@ -38,7 +38,7 @@ fn joined(alloc: Global, first: &[Choice], others: &[Choice]) -> Result<Vec<Choi
     Ok(all)
 }
 
-// Makes the trial that survived the session's run: of the answers of malloc behind the recorded ones as many as it has before its own stay,
+// Makes the trial that survived the session's run: of the answers of the allocator behind the recorded ones as many as it has before its own stay,
 // and its own come behind them. Checkpoints that are newer than its own, the one at this index, are dropped.
 fn adopt<R: AccessRule>(
     alloc: Global,
@@ -101,10 +101,10 @@ fn walk_watched<R: AccessRule, W: Watch, L: Ledger>(
 }
 
 /// Tries to come past a failure, by `walk`, and adopts the trial that survives, if one does. The episode tells where and why the program
-/// failed, and of all trials. Of the program's answers of malloc the first `recorded` ones, none of which is behind the oldest checkpoint, aren't in `choices`.
+/// failed, and of all trials. Of the program's answers of the allocator the first `recorded` ones, none of which is behind the oldest checkpoint, aren't in `choices`.
 ///
 /// Where a trial is adopted, the guest stands where it has come, at its request for the item behind the failure, or at its end;
-/// `choices` are its answers of malloc behind the first `recorded` ones, its sends are the survivor's in `replies`, and of the checkpoints those stand
+/// `choices` are its answers of the allocator behind the first `recorded` ones, its sends are the survivor's in `replies`, and of the checkpoints those stand
 /// that aren't newer than its own. Where none survives the guest may stand anywhere, and all else is as it was. What was passed stays.
 /// The watch looks at the failure first. `steps` counts the instructions of all trials, and those of the watch.
 ///

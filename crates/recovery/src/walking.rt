@@ -209,7 +209,7 @@ fn try_ring<R: AccessRule, L: Ledger>(
 /// Tries to come past a failure: goes on from each checkpoint of the ring, the newest first, in each of five environments, up to the
 /// first trial that survives, and adopts that one. Where and why the program failed stands in the episode, with all trials in their order.
 ///
-/// Where a trial was adopted, the guest stands where that trial has come, on its checkpoint; malloc's answers
+/// Where a trial was adopted, the guest stands where that trial has come, on its checkpoint; the allocator's answers
 /// since the checkpoint stand in `choices`, and its sends are the survivor's in `replies`. The pages that the trial's run writes since
 /// then (`writes` of `guest_runs`) are those that the guest counts as written. Where none survived, the guest may stand
 /// anywhere. The checkpoints, the items, and what was passed stay as they are. `steps` counts the instructions of all trials.

@@ -114,7 +114,7 @@ module _ {image : Image} {recording : Recorded} {began : Told} {seen : Seen} {co
 
   -- the journal where giving breaks off
   cut_parts : (later : Seen) (front : List ℕ) → has stage.gone conn ≡ false → Prefix front bytes → Tells seen.told later.told (cut_entries conn front)
-      → (entries : List Entry) × Tells began later.told entries × IsReplay image recording entries (replay_of (sending.sends ++ record { conn = conn; bytes = bytes; taken = sending.stamp } ∷ []) stage.live)
+      → (entries : List Entry) × Tells began later.told entries × IsReplay image recording entries (replay_of stage.choices (sending.sends ++ record { conn = conn; bytes = bytes; taken = sending.stamp } ∷ []) stage.live)
       × AreAsked image recording entries × AreGivenInPart (sending.sends ++ record { conn = conn; bytes = bytes; taken = sending.stamp } ∷ []) (pieces_in entries)
   cut_parts later [] is front tells = (
     sending.entries,
@@ -135,7 +135,7 @@ module _ {image : Image} {recording : Recorded} {began : Told} {seen : Seen} {co
 
   -- giving failed, or memory ran out
   broken : {later : Seen} (front : List ℕ) {end : Answer} (Gave : ℕ → List ℕ → Type 0) → later.takes ≡ true → later.gives ≡ false → has stage.gone conn ≡ false → Prefix front bytes → Tells seen.told later.told (cut_entries conn front) → Gave conn bytes
-      → ((sends : List Send) (entries : List Entry) → AreGivenInPart sends (pieces_in entries) → EndsBy image recording entries later.coming (replay_of sends stage.live) end)
+      → ((sends : List Send) (entries : List Entry) → AreGivenInPart sends (pieces_in entries) → EndsBy image recording entries later.coming (replay_of stage.choices sends stage.live) end)
       → IsEnd image recording began later (IsLastSend began seen.told Gave) stage end
   broken {later = later} front Gave take give is whole tells gave ends =
       let parts = cut_parts later front is whole tells in

@@ -82,7 +82,7 @@ module _ {image : Image} {recording : Recorded} {began : Told} {seen : Seen} {st
   all_taken =
       omega (arith, none_left, received_is (bounds_of recording) waiting.playing.entries stage.log waiting.playing.base.items, waiting.playing.base.taken)
 
-  asking : IsAsking image recording waiting.playing.entries (replay_of waiting.playing.sends stage.live)
+  asking : IsAsking image recording waiting.playing.entries (replay_of stage.choices waiting.playing.sends stage.live)
   asking = record {
     is = waiting.playing.base.is;
     waits = record { shorter = waiting.shorter; lives = waiting.lives; asks = waiting.asks; taken = all_taken };
@@ -93,11 +93,11 @@ module _ {image : Image} {recording : Recorded} {began : Told} {seen : Seen} {st
 
   -- it waits still where one more event brings no item
   waits_still : (event : LinkEvent) → items_in (bounds_of recording) (waiting.playing.entries ++ entry.Took event ∷ []) ≡ items_in (bounds_of recording) waiting.playing.entries
-      → WaitsForItem recording (waiting.playing.entries ++ entry.Took event ∷ []) (replay_of waiting.playing.sends stage.live)
+      → WaitsForItem recording (waiting.playing.entries ++ entry.Took event ∷ []) (replay_of stage.choices waiting.playing.sends stage.live)
   waits_still event same = record { shorter = waiting.shorter; lives = waiting.lives; asks = waiting.asks; taken = all_taken ∙ ap length (sym same) }
 
   took : (event : LinkEvent) → AreAsked image recording (waiting.playing.entries ++ entry.Took event ∷ [])
-  took event = asked_took event (record { replay = replay_of waiting.playing.sends stage.live; asks = asking }) waiting.playing.base.asked
+  took event = asked_took event (record { replay = replay_of stage.choices waiting.playing.sends stage.live; asks = asking }) waiting.playing.base.asked
 
   -- each connection that may be sent to is open
   opened_now : AreOpen seen.phases stage.live.guest.machine.connections
@@ -123,11 +123,11 @@ module _ {image : Image} {recording : Recorded} {began : Told} {seen : Seen} {st
       ap (items_of recording.frame) (heeded_without (bounds_of recording) waiting.playing.entries event cause one waiting.playing.base.items.all_heeded refused)
 
   refused_waits : {event : LinkEvent} {cause : Unheeded} → IsEvent event → refusal (bounds_of recording) (events_in waiting.playing.entries) event ≡ Some cause
-      → WaitsForItem recording (waiting.playing.entries ++ entry.Took event ∷ []) (replay_of waiting.playing.sends stage.live)
+      → WaitsForItem recording (waiting.playing.entries ++ entry.Took event ∷ []) (replay_of stage.choices waiting.playing.sends stage.live)
   refused_waits {event = event} one refused = waits_still event (refused_items one refused)
 
   refused_replay : {event : LinkEvent} {cause : Unheeded} → IsEvent event → refusal (bounds_of recording) (events_in waiting.playing.entries) event ≡ Some cause
-      → IsReplay image recording (waiting.playing.entries ++ entry.Took event ∷ []) (replay_of waiting.playing.sends stage.live)
+      → IsReplay image recording (waiting.playing.entries ++ entry.Took event ∷ []) (replay_of stage.choices waiting.playing.sends stage.live)
   refused_replay one refused = replay_same (refused_items one refused) waiting.playing.base.is
 
   tells_took : {told : Told} {event : LinkEvent} → Tells seen.told told (entry.Took event ∷ []) → Tells began told (waiting.playing.entries ++ entry.Took event ∷ [])

@@ -1,6 +1,8 @@
 pub mod Terms
 pub mod TurnLemmas
 pub mod RunLemmas
+pub mod LineLemmas
+pub mod SameLemmas
 pub mod ReplayLemmas
 pub mod JournalLemmas
 pub mod OpenLemmas

@@ -1,11 +1,12 @@
 -- Where a replay stands behind each question of its guest.
 use Rattle.run_history.specs.declared.answer.Answer.TheVariants as answer
 use Rattle.guest_cpu.specs.declared.event.Question.TheVariants as question
-use Rattle.replay.proofs.Terms.{Bool, List, None, ap, arith, cond, drop, false, length, refl, subst, sym, true, ℕ, ◌<◌, ◌∙◌, ◌≡◌, both_ways, eqb-false, eqb-true, Err, IfOk, IsSome, Ok, Result, is_some, ◌==◌, Send, Entry, Told, pieces_in, Seen, Image, Answer, Cause, Chooses, register, does, Question, recorded, RunsBy, Live, Standing, items_in, Recorded, Ended, EndsBy, Failed, Untaken, Unused, bounds_of, AreOpen, AreOpenThen, GoesOnBy, IsBase, IsBetween, IsEnd, IsPlaying, IsSending, IsWaiting, IsWanting, IsWholeEnd, Stage, TurnsBy, has, replay_of}
+use Rattle.replay.proofs.Terms.{Bool, List, None, ap, arith, cond, drop, false, length, refl, subst, sym, true, ℕ, ◌<◌, ◌∙◌, ◌≡◌, both_ways, eqb-false, eqb-true, Err, IfOk, IsSome, Ok, Result, is_some, ◌==◌, Send, Entry, Told, pieces_in, Seen, Ask, Image, Answer, Cause, Question, recorded, RunsBy, Live, Standing, items_in, Recorded, Ended, EndsBy, Failed, Untaken, Unused, bounds_of, AreOpen, AreOpenThen, GoesOnBy, IsBase, IsBetween, IsEnd, IsPlaying, IsSending, IsWaiting, IsWanting, IsWholeEnd, Stage, TurnsBy, has, replay_of}
 use Rattle.replay.specs.Giving as giving
 use Rattle.replay.specs.Judging.{judged}
 use Rattle.replay.proofs.RunLemmas.{Ran, same_sends, with_send, ComesTo, comes_by}
-use Rattle.replay.proofs.ReplayLemmas.{replay_ran, asked_size}
+use Rattle.replay.proofs.ReplayLemmas.{replay_ran}
+use Rattle.replay.proofs.LineLemmas.{few_lines}
 
 -- what holds at any time holds where the guest goes on
 base_ran : {image : Image} {recording : Recorded} {began : Told} {seen : Seen} {entries : List Entry} {sends : List Send} {stage : Stage} {later : Standing} (before after : List Send → List Send)
@@ -40,17 +41,17 @@ playing_ran ran playing = record {
 
 module _ {image : Image} {recording : Recorded} {began : Told} {seen : Seen} {stage : Stage} where
   -- a replay at an end, by an answer of which the facts hold
-  ended_by : seen.takes ≡ true → (playing : IsPlaying image recording began seen stage) (end : Answer) → EndsBy image recording playing.entries seen.coming (replay_of playing.sends stage.live) end → IsWholeEnd image recording began seen stage end
+  ended_by : seen.takes ≡ true → (playing : IsPlaying image recording began seen stage) (end : Answer) → EndsBy image recording playing.entries seen.coming (replay_of stage.choices playing.sends stage.live) end → IsWholeEnd image recording began seen stage end
   ended_by still playing end ends = record { entries = playing.entries; sends = playing.sends; tells = playing.base.tells; asked = playing.base.asked; is = playing.base.is; ends = ends; failed = λ no. absurd (both_ways seen.takes no still); given = playing.given }
 
   ends_judged : (playing : IsPlaying image recording began seen stage) → (stage.live.steps < recording.steps → IsSome stage.live.ended) → (all used taken : Bool) → (stage.live.steps == recording.steps) ≡ all
-      → (stage.live.guest.machine.allocations == length recording.choices) ≡ used → (stage.live.guest.machine.taken == recording.taken) ≡ taken
-      → EndsBy image recording playing.entries seen.coming (replay_of playing.sends stage.live) (cond all (cond used (cond taken answer.Finished (answer.Mismatch stage.live.steps)) (answer.Mismatch stage.live.steps)) (answer.Mismatch stage.live.steps))
-  ends_judged playing stopped true true true a u t = (eqb-true stage.live.steps recording.steps a, eqb-true stage.live.guest.machine.allocations (length recording.choices) u, eqb-true stage.live.guest.machine.taken recording.taken t, playing.given)
+      → (stage.live.guest.machine.allocations == length recording.lines) ≡ used → (stage.live.guest.machine.taken == recording.taken) ≡ taken
+      → EndsBy image recording playing.entries seen.coming (replay_of stage.choices playing.sends stage.live) (cond all (cond used (cond taken answer.Finished (answer.Mismatch stage.live.steps)) (answer.Mismatch stage.live.steps)) (answer.Mismatch stage.live.steps))
+  ends_judged playing stopped true true true a u t = (eqb-true stage.live.steps recording.steps a, sym playing.base.is.ran.used ∙ eqb-true stage.live.guest.machine.allocations (length recording.lines) u, eqb-true stage.live.guest.machine.taken recording.taken t, playing.given)
   ends_judged playing stopped true true false a u t = (refl, Untaken (eqb-true stage.live.steps recording.steps a) (eqb-false stage.live.guest.machine.taken recording.taken t), playing.given, λ ended. absurd (playing.base.goes_on ended))
   ends_judged playing stopped true false taken a u t =
-      let apart = eqb-false stage.live.guest.machine.allocations (length recording.choices) u in
-      (refl, Unused (eqb-true stage.live.steps recording.steps a) (omega (arith, apart, playing.base.is.used)), playing.given, λ ended. absurd (playing.base.goes_on ended))
+      let apart = eqb-false stage.live.guest.machine.allocations (length recording.lines) u in
+      (refl, Unused (eqb-true stage.live.steps recording.steps a) (omega (arith, apart, playing.base.is.ran.used, few_lines recording.lines stage.choices playing.base.is.lines)), playing.given, λ ended. absurd (playing.base.goes_on ended))
   ends_judged playing stopped false used taken a u t =
       let low : stage.live.steps < recording.steps = omega (arith, eqb-false stage.live.steps recording.steps a, playing.base.is.steps) in
       (refl, Ended low (stopped low), playing.given, λ ended. absurd (playing.base.goes_on ended))
@@ -59,7 +60,7 @@ module _ {image : Image} {recording : Recorded} {began : Told} {seen : Seen} {st
   pub judged_end : seen.takes ≡ true → IsPlaying image recording began seen stage → (stage.live.steps < recording.steps → IsSome stage.live.ended) → IsWholeEnd image recording began seen stage (judged recording stage.live)
   judged_end still playing stopped =
       ended_by still playing (judged recording stage.live)
-      (ends_judged playing stopped (stage.live.steps == recording.steps) (stage.live.guest.machine.allocations == length recording.choices) (stage.live.guest.machine.taken == recording.taken) refl refl refl)
+      (ends_judged playing stopped (stage.live.steps == recording.steps) (stage.live.guest.machine.allocations == length recording.lines) (stage.live.guest.machine.taken == recording.taken) refl refl refl)
 
 module _ {image : Image} {recording : Recorded} {began : Told} {seen : Seen} {stage : Stage} {later : Standing} (between : IsBetween image recording began seen stage) where
   pub reached_end : seen.takes ≡ true → ComesTo recording.steps stage.live question.Reached later → IsWholeEnd image recording began seen (record stage { live = later }) (judged recording later)
@@ -106,7 +107,7 @@ module _ {image : Image} {recording : Recorded} {began : Told} {seen : Seen} {st
     asks = comes.3;
   }
 
-  pub wants_wanting : {size : ℕ} → ComesTo recording.steps stage.live (question.Wants size) later → IsWanting image recording began seen (record stage { live = later })
+  pub wants_wanting : {ask : Ask} → ComesTo recording.steps stage.live (question.Wants ask) later → IsWanting image recording began seen ask (record stage { live = later })
   wants_wanting comes = record {
     between = record {
       playing = playing_ran comes.0 between.playing;
@@ -114,7 +115,7 @@ module _ {image : Image} {recording : Recorded} {began : Told} {seen : Seen} {st
       lives = comes.2;
     };
     shorter = comes.1;
-    wants = asked_size later.guest.machine comes.3;
+    wants = comes.3;
   }
 
   pub emits_sending : {conn : ℕ} {bytes : List ℕ} → ComesTo recording.steps stage.live (question.Emits conn bytes) later → IsSending image recording began seen conn bytes (record stage { live = later })
@@ -134,10 +135,6 @@ module _ {image : Image} {recording : Recorded} {began : Told} {seen : Seen} {st
 -- where a guest that lives has run to a question
 pub comes_to : (until : ℕ) {base : ℕ} {old new : Live} {found asked : Question} → old.standing.ended ≡ None → found ≡ asked → RunsBy question.Emits (recorded until) base old (Ok found) new → ComesTo until old.standing asked new.standing
 comes_to until {base = base} {old = old} {new = new} {found = found} lives is runs = subst (λ (q : Question). ComesTo until old.standing q new.standing) is (comes_by until base old new (Ok found) lives runs)
-
--- and what of it code asks for
-pub wants_first : {until : ℕ} {old new : Standing} {size : ℕ} → ComesTo until old (question.Wants size) new → does None None new.guest.machine ≡ Chooses (register new.guest.machine 10)
-wants_first {new = new} comes = asked_size new.guest.machine comes.3
 
 -- what rose behind a question rose since before it
 pub rises_behind : {until : ℕ} {old new : Standing} (before after : List Send → List Send) {later : ℕ} → Ran until old new before after → new.steps < later → old.steps < later

@@ -1,7 +1,9 @@
 -- A replay of a record that a run left is the beginning of that run, and the run's next instruction contradicts each way to differ.
 use Rattle.run_history.specs.declared.answer.Answer.TheVariants as answer
-use Rattle.replay.proofs.Terms.{Bool, List, None, Option, Some, [], ap, append-nil, arith, cond, drop, false, inl, inr, length, refl, subst, suc, sym, take, true, zero, ℕ, ◌++◌, ◌+◌, ◌-◌, ◌<◌, ◌∙◌, ◌∷◌, ◌≡◌, ◌≢◌, ◌≤◌, cases_Bool, ne_eqb, length-take-le, take-append-drop, none-some, option_and_then_some, same_Some, slice_get_past, IsSome, nat_lt, slice_get, Item, Entry, Coming, pieces_in, Seen, Choice, insert_live, is_allowed, most_blocks, Image, Answer, Cause, repeated_add, Later, does_more, next_parts, run_from, run_more, run_one, allocated, chooses, takes, Chooses, Fails, Goes, State, Wants, register, start, repeated, after, does, effect, next, run, items_in, Recorded, AreGiven, Differs, Ended, EndsBy, Failed, HasReplayed, IsReplay, IsUnusable, Replay, Starved, Unanswered, Untaken, Unused, bounds_of, BringsFirst, IsNoMismatch, IsRecordOf}
-use Rattle.replay.proofs.ReplayLemmas.{wants_takes, wants_chooses, asked_size}
+use Rattle.replay.proofs.Terms.{Bool, List, None, Option, Some, [], ap, append-nil, arith, inl, inr, length, refl, subst, suc, sym, true, zero, ℕ, ◌++◌, ◌+◌, ◌-◌, ◌<◌, ◌∙◌, ◌∷◌, ◌≡◌, ◌≢◌, ◌≤◌, both_ways, none-some, option_and_then_some, same_Some, slice_get_past, IsSome, slice_get, Item, Entry, Coming, pieces_in, Seen, Ask, Choice, is_allowed, most_blocks, Image, Answer, Cause, repeated_add, Later, does_more, next_parts, run_from, run_more, run_one, chooses, takes, Chooses, Fails, State, Wants, start, start_machine, repeated, after, does, effect, next, run, items_in, Line, Recorded, AreGiven, AreOfLines, Differs, Ended, EndsBy, Failed, HasReplayed, IsReplay, IsUnusable, Replay, Starved, Unanswered, Untaken, Unused, bounds_of, choice_by, BringsFirst, IsNoMismatch, IsRecordOf}
+use Rattle.replay.proofs.LineLemmas.{line_at, choice_is, same_answers}
+use Rattle.replay.proofs.SameLemmas.{Agree, IsAnswered, allowed_asked, answered, run_front, run_same}
+use Rattle.replay.proofs.ReplayLemmas.{wants_takes, wants_chooses}
 use Rattle.session_history.proofs.Refused.{none_refused}
 
 -- of so many steps there is the first
@@ -11,21 +13,31 @@ first_step step (suc count) x y some ran =
     let one_more : suc count ≡ 1 + count = omega arith in
     option_and_then_some (λ z. repeated step count z) (step x) y (sym (repeated_add step x 1 count) ∙ ap (λ (n : ℕ). repeated step n x) (sym one_more) ∙ ran) (λ z here rest. (z, here))
 
--- a replay is the beginning of the run that a record tells of
-pub begins : {image : Image} {items : List Item} {recording : Recorded} {entries : List Entry} {replay : Replay} → IsReplay image recording entries replay → BringsFirst (bounds_of recording) items entries
-    → run items recording.choices (start image) replay.steps ≡ Some replay.state
-begins {image = image} {recording = recording} {entries = entries} {replay = replay} is brings =
-    let front = items_in (bounds_of recording) entries in
-    let used = take replay.used recording.choices in
-    let ran : run (front ++ brings.more) (used ++ drop replay.used recording.choices) (start image) replay.steps ≡ Some replay.state =
-    run_more front brings.more used (drop replay.used recording.choices) (start image) replay.state replay.steps is.ran.ran in
-    let whole : run (front ++ brings.more) recording.choices (start image) replay.steps ≡ Some replay.state =
-    subst (λ (all : List Choice). run (front ++ brings.more) all (start image) replay.steps ≡ Some replay.state) (take-append-drop replay.used recording.choices) ran in
-    subst (λ (all : List Item). run all recording.choices (start image) replay.steps ≡ Some replay.state) (sym brings.first) whole
+-- no answer was used at the start
+pub none_used : (image : Image) (ones others : List Choice) → Agree (start image) ones others
+unfolding start start_machine
+none_used image ones others i low = absurd (omega (arith, low))
 
--- it used so many answers of malloc
-used_so_many : {image : Image} {recording : Recorded} {entries : List Entry} {replay : Replay} → IsReplay image recording entries replay → replay.state.machine.allocations ≡ replay.used
-used_so_many {recording = recording} {replay = replay} is = is.ran.used ∙ length-take-le replay.used recording.choices is.used
+-- A replay is the beginning of the run that a record tells of, and used the same answers of the allocator so far.
+pub record IsBeginning (image : Image) (items : List Item) (choices : List Choice) (replay : Replay) : Type 0 where
+  pub ran : run items choices (start image) replay.steps ≡ Some replay.state
+  pub agree : Agree replay.state replay.choices choices
+
+pub begins : {image : Image} {items : List Item} {choices : List Choice} {recording : Recorded} {entries : List Entry} {replay : Replay} {last : State} → IsReplay image recording entries replay → BringsFirst (bounds_of recording) items entries
+    → AreOfLines recording.lines choices → run items choices (start image) recording.steps ≡ Some last → IsBeginning image items choices replay
+begins {image = image} {items = items} {choices = choices} {recording = recording} {entries = entries} {replay = replay} {last = last} is brings told whole =
+    let front = items_in (bounds_of recording) entries in
+    let ran : run (front ++ brings.more) (replay.choices ++ []) (start image) replay.steps ≡ Some replay.state =
+    run_more front brings.more replay.choices [] (start image) replay.state replay.steps is.ran.ran in
+    let own : run (front ++ brings.more) replay.choices (start image) replay.steps ≡ Some replay.state =
+    subst (λ (all : List Choice). run (front ++ brings.more) all (start image) replay.steps ≡ Some replay.state) (append-nil replay.choices) ran in
+    let here : run items replay.choices (start image) replay.steps ≡ Some replay.state =
+    subst (λ (all : List Item). run all replay.choices (start image) replay.steps ≡ Some replay.state) (sym brings.first) own in
+    let low = is.steps in
+    let parts : recording.steps ≡ replay.steps + (recording.steps - replay.steps) = omega (arith, low) in
+    let there = run_front items choices (start image) replay.steps (recording.steps - replay.steps) (ap (λ (n : ℕ). run items choices (start image) n) (sym parts) ∙ whole) in
+    let same = run_same items recording.lines replay.choices choices (start image) replay.steps replay.state there.0 is.lines told (none_used image replay.choices choices) here there.1 in
+    record { ran = there.1 ∙ ap (λ (s : State). Some s) (sym same.0); agree = same.1 }
 
 -- at the record's end it stands where that run ended
 stands_alike : (items : List Item) (choices : List Choice) (first : State) {here last : State} {steps count : ℕ} → run items choices first steps ≡ Some here → run items choices first count ≡ Some last → steps ≡ count → here ≡ last
@@ -68,47 +80,27 @@ starved_not items choices here {later = later} wants none goes =
     wants_takes here.machine wants (slice_get items here.machine.taken) (slice_get choices here.machine.allocations) ∙ ap (takes here.machine) (slice_get_past items here.machine.taken none) in
     none-some later (ap (after here) (sym still) ∙ goes)
 
--- a block more is live
-length-insert_live : (new : ℕ × ℕ) (live : List (ℕ × ℕ)) → length (insert_live new live) ≡ length live + 1
-length-insert_live new [] = refl
-length-insert_live new (block ∷ blocks) = of (nat_lt new.0 block.0) (length-insert_live new blocks)
-  where
-    of : (b : Bool) → length (insert_live new blocks) ≡ length blocks + 1 → length (cond b (new ∷ (block ∷ blocks)) (block ∷ insert_live new blocks)) ≡ length (block ∷ blocks) + 1
-    of true more = omega arith
-    of false more = omega (arith, more)
+-- nor does one whose ask has no answer that can be used, where there was room for a block
+unusable_not : (here : State) (ask : Ask) (line : Line) (choice : Choice) → IsUnusable here.machine ask (Some line) → choice ≡ choice_by ask line → is_allowed here.machine.heap_start here.machine.heap_end here.machine.blocks ask choice ≡ true
+    → (choice.at ≢ 0 → length here.machine.blocks < most_blocks) → ⊥
+unusable_not here ask line choice (inl refused) is allowed room =
+    both_ways (is_allowed here.machine.heap_start here.machine.heap_end here.machine.blocks ask choice)
+    (ap (λ (c : Choice). is_allowed here.machine.heap_start here.machine.heap_end here.machine.blocks ask c) is ∙ refused) allowed
+unusable_not here ask line choice (inr full) is allowed room =
+    let low = room (λ null. full.0 (sym (ap (λ (c : Choice). c.at) is) ∙ null)) in
+    let many = full.1 in
+    omega (arith, low, many)
 
--- behind a malloc that was answered with a block one more is live
-one_more_live : (here : State) {later : State} (size : ℕ) (choice : Choice) → choice.at ≢ 0 → Some (record here { machine = allocated size choice here.machine }) ≡ Some later → length later.machine.blocks ≡ length here.machine.blocks + 1
-unfolding allocated
-one_more_live here {later = later} size choice some goes =
-    sym (ap (λ (s : State). length s.machine.blocks) (same_Some _ later goes))
-    ∙ ap (λ (b : Bool). length (cond b here.machine.blocks (insert_live (choice.at, size) here.machine.blocks))) (ne_eqb choice.at 0 some)
-    ∙ length-insert_live (choice.at, size) here.machine.blocks
-
--- nor does one whose malloc has no answer that can be used, where there is room behind it
-unusable_not : (here : State) {later : State} (size : ℕ) (choice : Option Choice) → IsUnusable here.machine size choice → length later.machine.blocks ≤ most_blocks → after here (chooses size here.machine choice) ≡ Some later → ⊥
-unusable_not here {later = later} size None unusable room goes = none-some later goes
-unusable_not here {later = later} size (Some choice) (inl refused) room goes =
-    none-some later (ap (λ (b : Bool). after here (cond b (Goes (allocated size choice here.machine)) (Chooses size))) (sym refused) ∙ goes)
-unusable_not here {later = later} size (Some choice) (inr full) room goes =
-    elim (cases_Bool (is_allowed here.machine.heap_start here.machine.heap_end here.machine.blocks size choice)) [
-      | inl may ↦
-          let went : Some (record here { machine = allocated size choice here.machine }) ≡ Some later =
-          ap (λ (b : Bool). after here (cond b (Goes (allocated size choice here.machine)) (Chooses size))) (sym may) ∙ goes in
-          absurd (omega (arith, full.1, room, one_more_live here size choice full.0 went))
-      | inr not_may ↦ absurd (none-some later (ap (λ (b : Bool). after here (cond b (Goes (allocated size choice here.machine)) (Chooses size))) (sym not_may) ∙ goes))
-    ]
-
-unanswered_not : (items : List Item) (choices : List Choice) (here : State) {later : State} {size used : ℕ} → does None None here.machine ≡ Chooses size → here.machine.allocations ≡ used → IsUnusable here.machine size (slice_get choices used)
-    → length later.machine.blocks ≤ most_blocks → after here (effect items choices here.machine) ≡ Some later → ⊥
-unanswered_not items choices here {size = size} {used = used} wants same unusable room goes =
-    let sizes : Chooses (register here.machine 10) ≡ Chooses size = sym (asked_size here.machine wants) ∙ wants in
-    let sized : register here.machine 10 ≡ size = cc in
-    let still : effect items choices here.machine ≡ chooses size here.machine (slice_get choices used) =
-    wants_chooses here.machine wants (slice_get items here.machine.taken) (slice_get choices here.machine.allocations)
-    ∙ ap (λ (n : ℕ). chooses n here.machine (slice_get choices here.machine.allocations)) sized
-    ∙ ap (λ (n : ℕ). chooses size here.machine (slice_get choices n)) same in
-    unusable_not here size (slice_get choices used) unusable room (ap (after here) (sym still) ∙ goes)
+unanswered_not : (items : List Item) (choices : List Choice) (lines : List Line) (here : State) {later : State} {ask : Ask} {used : ℕ} → does None None here.machine ≡ Chooses ask → here.machine.allocations ≡ used → AreOfLines lines choices
+    → IsUnusable here.machine ask (slice_get lines used) → ((choice : Choice) → slice_get choices here.machine.allocations ≡ Some choice → choice.at ≢ 0 → length here.machine.blocks < most_blocks)
+    → after here (effect items choices here.machine) ≡ Some later → ⊥
+unanswered_not items choices lines here {later = later} {ask = ask} {used = used} wants same told unusable room goes =
+    let found = slice_get choices here.machine.allocations in
+    let answer : IsAnswered ask here later found = answered ask here found (ap (after here) (sym (wants_chooses here.machine wants (slice_get items here.machine.taken) found)) ∙ goes) in
+    let line = line_at lines choices here.machine.allocations told answer.found_is in
+    let number : slice_get lines used ≡ Some line.0 = ap (slice_get lines) (sym same) ∙ line.1 in
+    let asked = allowed_asked here.machine.heap_start here.machine.heap_end here.machine.blocks ask answer.choice answer.allowed in
+    unusable_not here ask line.0 answer.choice (subst (IsUnusable here.machine ask) number unusable) (choice_is line.2 asked) answer.allowed (room answer.choice answer.found_is)
 
 -- no more items come than these, where the link has ended
 none_left : {items : List Item} (front : List Item) {more : List Item} {taken : ℕ} → items ≡ front ++ more → more ≡ [] → taken ≡ length front → length items ≤ taken
@@ -116,61 +108,65 @@ none_left {items = items} front first all count =
     omega (arith, ap length (first ∙ ap (λ (rest : List Item). front ++ rest) all ∙ append-nil front), count)
 
 -- so it doesn't differ
-differs_not : {image : Image} {items : List Item} {state : State} {recording : Recorded} {entries : List Entry} {replay : Replay} → IsReplay image recording entries replay → IsRecordOf image items state recording
+differs_not : {image : Image} {items : List Item} {choices : List Choice} {state : State} {recording : Recorded} {entries : List Entry} {replay : Replay} → IsReplay image recording entries replay → IsRecordOf image items choices state recording
     → BringsFirst (bounds_of recording) items entries → Differs recording entries replay → ⊥
-differs_not {image = image} {items = items} {state = state} {recording = recording} {entries = entries} {replay = replay} is of_run brings differs = by_case differs
+differs_not {image = image} {items = items} {choices = choices} {state = state} {recording = recording} {entries = entries} {replay = replay} is of_run brings differs = by_case differs
   where
-    here : run items recording.choices (start image) replay.steps ≡ Some replay.state
-    here = begins is brings
+    here : run items choices (start image) replay.steps ≡ Some replay.state
+    here = (begins is brings of_run.lines of_run.ran.ran).ran
 
-    on : replay.steps < recording.steps → GoesOn items recording.choices (start image) replay.state replay.steps
+    on : replay.steps < recording.steps → GoesOn items choices (start image) replay.state replay.steps
     on short = goes_on here of_run.ran.ran short
 
     ends : replay.steps ≡ recording.steps → replay.state ≡ state
-    ends same = stands_alike items recording.choices (start image) here of_run.ran.ran same
+    ends same = stands_alike items choices (start image) here of_run.ran.ran same
 
     by_case : Differs recording entries replay → ⊥
     by_case (Ended short ended) = ended_not replay.state.ended (on short).lives ended
-    by_case (Failed cause short lives fails) = failed_not items recording.choices replay.state fails (on short).goes
-    by_case (Unanswered size short lives wants unusable) =
-        let low : replay.steps + 1 ≤ recording.steps = omega (arith, short) in
-        unanswered_not items recording.choices replay.state wants (used_so_many is) unusable
-        (of_run.room (replay.steps + 1) (on short).later low (on short).ran) (on short).goes
+    by_case (Failed cause short lives fails) = failed_not items choices replay.state fails (on short).goes
+    by_case (Unanswered ask short lives wants unusable) =
+        unanswered_not items choices recording.lines replay.state wants is.ran.used of_run.lines unusable
+        (λ choice found some. of_run.room replay.steps replay.state ask choice short here wants found some) (on short).goes
     by_case (Starved waits ended) =
-        starved_not items recording.choices replay.state waits.asks
+        starved_not items choices replay.state waits.asks
         (none_left (items_in (bounds_of recording) entries) brings.first (brings.all ended) waits.taken) (on waits.shorter).goes
     by_case (Unused same few) =
-        let all : replay.used ≡ length recording.choices = sym (used_so_many is) ∙ ap (λ (s : State). s.machine.allocations) (ends same) ∙ of_run.ran.used in
-        omega (arith, all, few)
+        let used : length replay.choices ≡ length choices = sym is.ran.used ∙ ap (λ (s : State). s.machine.allocations) (ends same) ∙ of_run.ran.used in
+        let all = of_run.all in
+        omega (arith, used, all, few)
     by_case (Untaken same differ) = differ (ap (λ (s : State). s.machine.taken) (ends same) ∙ of_run.taken)
 
 -- the first law
-pub record_is_replayed : (image : Image) (items : List Item) (state : State) (recording : Recorded) (began now : Seen) (step before after : ℕ)
+pub record_is_replayed : (image : Image) (items : List Item) (choices : List Choice) (state : State) (recording : Recorded) (began now : Seen) (step before after : ℕ)
     (replayed : HasReplayed image recording began now (answer.Mismatch step) before after)
-    → IsRecordOf image items state recording → BringsFirst (bounds_of recording) items replayed.entries → ⊥
-record_is_replayed image items state recording began now step before after replayed of_run brings =
+    → IsRecordOf image items choices state recording → BringsFirst (bounds_of recording) items replayed.entries → ⊥
+record_is_replayed image items choices state recording began now step before after replayed of_run brings =
     differs_not replayed.is of_run brings replayed.ends.1
 
--- at its end it has given the sends of the recorded run
-pub finished_gives : {image : Image} {items : List Item} {state : State} {recording : Recorded} {entries : List Entry} {replay : Replay} (coming : Option Coming) → IsReplay image recording entries replay → IsRecordOf image items state recording
-    → BringsFirst (bounds_of recording) items entries → (end : Answer) → end ≡ answer.Finished → EndsBy image recording entries coming replay end → (replay.state ≡ state) × AreGiven state.sends (pieces_in entries)
-finished_gives {image = image} {items = items} {state = state} {recording = recording} {entries = entries} {replay = replay} coming is of_run brings end finished ends =
+-- at its end it has used the answers of the recorded run, and given its sends
+pub finished_gives : {image : Image} {items : List Item} {choices : List Choice} {state : State} {recording : Recorded} {entries : List Entry} {replay : Replay} (coming : Option Coming) → IsReplay image recording entries replay
+    → IsRecordOf image items choices state recording → BringsFirst (bounds_of recording) items entries → (end : Answer) → end ≡ answer.Finished → EndsBy image recording entries coming replay end
+    → (replay.state ≡ state) × (replay.choices ≡ choices) × AreGiven state.sends (pieces_in entries)
+finished_gives {image = image} {items = items} {choices = choices} {state = state} {recording = recording} {entries = entries} {replay = replay} coming is of_run brings end finished ends =
     let here = subst (EndsBy image recording entries coming replay) finished ends in
-    let same : replay.state ≡ state = stands_alike items recording.choices (start image) (begins is brings) of_run.ran.ran here.0 in
-    (same, subst (λ (s : State). AreGiven s.sends (pieces_in entries)) same here.3)
+    let begun = begins is brings of_run.lines of_run.ran.ran in
+    let same : replay.state ≡ state = stands_alike items choices (start image) begun.ran of_run.ran.ran here.0 in
+    let used = is.ran.used in
+    let chosen : replay.choices ≡ choices = same_answers replay.choices choices (here.1 ∙ sym of_run.all) (λ i low. begun.agree i (omega (arith, low, used))) in
+    (same, chosen, subst (λ (s : State). AreGiven s.sends (pieces_in entries)) same here.3)
 
 -- the second law
-pub replay_gives_sends : (image : Image) (items : List Item) (state : State) (recording : Recorded) (began now : Seen) (before after : ℕ)
+pub replay_gives_sends : (image : Image) (items : List Item) (choices : List Choice) (state : State) (recording : Recorded) (began now : Seen) (before after : ℕ)
     (replayed : HasReplayed image recording began now answer.Finished before after)
-    → IsRecordOf image items state recording → BringsFirst (bounds_of recording) items replayed.entries → (replayed.replay.state ≡ state) × AreGiven state.sends (pieces_in replayed.entries)
-replay_gives_sends image items state recording began now before after replayed of_run brings =
+    → IsRecordOf image items choices state recording → BringsFirst (bounds_of recording) items replayed.entries → (replayed.replay.state ≡ state) × (replayed.replay.choices ≡ choices) × AreGiven state.sends (pieces_in replayed.entries)
+replay_gives_sends image items choices state recording began now before after replayed of_run brings =
     finished_gives now.coming replayed.is of_run brings answer.Finished refl replayed.ends
 
 -- the third law
-pub only_faults : (image : Image) (items : List Item) (state : State) (recording : Recorded) (began now : Seen) (end : Answer) (before after : ℕ)
+pub only_faults : (image : Image) (items : List Item) (choices : List Choice) (state : State) (recording : Recorded) (began now : Seen) (end : Answer) (before after : ℕ)
     (replayed : HasReplayed image recording began now end before after)
-    → IsRecordOf image items state recording → BringsFirst (bounds_of recording) items replayed.entries → IsNoMismatch recording replayed.entries now.coming end
-only_faults image items state recording began now end before after replayed of_run brings = by_answer end replayed.ends
+    → IsRecordOf image items choices state recording → BringsFirst (bounds_of recording) items replayed.entries → IsNoMismatch recording replayed.entries now.coming end
+only_faults image items choices state recording began now end before after replayed of_run brings = by_answer end replayed.ends
   where
     by_answer : (end : Answer) → EndsBy image recording replayed.entries now.coming replayed.replay end → IsNoMismatch recording replayed.entries now.coming end
     by_answer answer.Finished ends = tt

@@ -1,30 +1,29 @@
--- What each instruction, each answer of malloc and each item makes of a replay.
+-- What each instruction, each answer of the allocator and each item makes of a replay.
 use Rattle.run_history.specs.Call.{received}
-use Rattle.replay.proofs.Terms.{List, None, Option, Some, [], ap, append-nil, arith, length, length-append, refl, subst, sym, take, true, ℕ, ◌++◌, ◌+◌, ◌<◌, ◌∙◌, ◌∷◌, ◌≡◌, slice_get_within, slice_get, Item, Send, Entry, Choice, is_allowed, Image, allocated_keeps, element_behind, next_after, received_keeps, run_chosen, run_join, run_more, run_one, Alone, Picks, Same, Shape, Takes, does_shape, allocated, chooses, takes, Chooses, Goes, Machine, Wants, register, start, start_machine, after, does, run, start_standing, taken_standing, chosen_standing, Standing, items_in, Recorded, IsReplay, Replay, bounds_of, replay_of, state_of}
+use Rattle.replay.proofs.Terms.{List, None, Option, Some, [], ap, append-nil, arith, length, length-append, refl, subst, sym, true, ℕ, ◌++◌, ◌+◌, ◌<◌, ◌∙◌, ◌∷◌, ◌≡◌, slice_get, Item, Send, Entry, Ask, Choice, is_allowed, Image, allocated_keeps, element_behind, next_after, received_keeps, run_chosen, run_join, run_more, run_one, Alone, Picks, Same, Shape, Takes, does_shape, allocated, chooses, takes, Chooses, Goes, Machine, Wants, start, start_machine, after, does, run, start_standing, taken_standing, chosen_standing, Standing, items_in, Line, Recorded, AreOfLines, IsOfLine, IsReplay, Replay, bounds_of, replay_of, state_of}
+use Rattle.replay.proofs.LineLemmas.{one_more_line}
 use Rattle.replay.proofs.RunLemmas.{Ran}
 use Rattle.session_history.proofs.Connected.{take_one}
 
 -- a guest at its start is a replay of no instruction
-pub replay_start : {image : Image} {recording : Recorded} {entries : List Entry} → IsReplay image recording entries (replay_of [] (start_standing image))
+pub replay_start : {image : Image} {recording : Recorded} {entries : List Entry} → IsReplay image recording entries (replay_of [] [] (start_standing image))
 unfolding start start_machine
-replay_start = record { ran = record { ran = refl; used = refl }; used = omega arith; steps = omega arith }
+replay_start = record { ran = record { ran = refl; used = refl }; lines = tt; steps = omega arith }
 
 -- one that goes on is one still
-pub replay_ran : {image : Image} {recording : Recorded} {entries : List Entry} {sends : List Send} {old new : Standing} (before after : List Send → List Send) → Ran recording.steps old new before after
-    → IsReplay image recording entries (replay_of (before sends) old) → IsReplay image recording entries (replay_of (after sends) new)
-replay_ran {image = image} {recording = recording} {entries = entries} {sends = sends} {old = old} {new = new} before after ran is =
+pub replay_ran : {image : Image} {recording : Recorded} {entries : List Entry} {choices : List Choice} {sends : List Send} {old new : Standing} (before after : List Send → List Send) → Ran recording.steps old new before after
+    → IsReplay image recording entries (replay_of choices (before sends) old) → IsReplay image recording entries (replay_of choices (after sends) new)
+replay_ran {image = image} {recording = recording} {entries = entries} {choices = choices} {sends = sends} {old = old} {new = new} before after ran is =
     let items = items_in (bounds_of recording) entries in
-    let choices = take old.guest.machine.allocations recording.choices in
     let joined : run items choices (start image) (old.steps + ran.count) ≡ Some (state_of (after sends) new) =
     run_join items choices (start image) (state_of (before sends) old) (state_of (after sends) new) old.steps ran.count is.ran.ran
     (run_more [] items [] choices (state_of (before sends) old) (state_of (after sends) new) ran.count (ran.ran sends)) in
     record {
       ran = record {
-        ran = subst (λ (n : ℕ). run items (take n recording.choices) (start image) new.steps ≡ Some (state_of (after sends) new)) (sym ran.allocations)
-            (subst (λ (n : ℕ). run items choices (start image) n ≡ Some (state_of (after sends) new)) (sym ran.steps) joined);
-        used = ran.allocations ∙ is.ran.used ∙ ap (λ (n : ℕ). length (take n recording.choices)) (sym ran.allocations);
+        ran = subst (λ (n : ℕ). run items choices (start image) n ≡ Some (state_of (after sends) new)) (sym ran.steps) joined;
+        used = ran.allocations ∙ is.ran.used;
       };
-      used = omega (arith, ran.allocations, is.used);
+      lines = is.lines;
       steps = ran.within is.steps;
     }
 
@@ -32,16 +31,15 @@ replay_ran {image = image} {recording = recording} {entries = entries} {sends = 
 pub replay_more : {image : Image} {recording : Recorded} {entries later : List Entry} (more : List Item) {replay : Replay} → items_in (bounds_of recording) later ≡ items_in (bounds_of recording) entries ++ more
     → IsReplay image recording entries replay → IsReplay image recording later replay
 replay_more {image = image} {recording = recording} {entries = entries} more {replay = replay} brings is =
-    let choices = take replay.used recording.choices in
-    let ran : run (items_in (bounds_of recording) entries ++ more) (choices ++ []) (start image) replay.steps ≡ Some replay.state =
-    run_more (items_in (bounds_of recording) entries) more choices [] (start image) replay.state replay.steps is.ran.ran in
+    let ran : run (items_in (bounds_of recording) entries ++ more) (replay.choices ++ []) (start image) replay.steps ≡ Some replay.state =
+    run_more (items_in (bounds_of recording) entries) more replay.choices [] (start image) replay.state replay.steps is.ran.ran in
     record {
       ran = record {
-        ran = subst (λ (items : List Item). run items choices (start image) replay.steps ≡ Some replay.state) (sym brings)
-            (subst (λ (all : List Choice). run (items_in (bounds_of recording) entries ++ more) all (start image) replay.steps ≡ Some replay.state) (append-nil choices) ran);
+        ran = subst (λ (items : List Item). run items replay.choices (start image) replay.steps ≡ Some replay.state) (sym brings)
+            (subst (λ (all : List Choice). run (items_in (bounds_of recording) entries ++ more) all (start image) replay.steps ≡ Some replay.state) (append-nil replay.choices) ran);
         used = is.ran.used;
       };
-      used = is.used;
+      lines = is.lines;
       steps = is.steps;
     }
 
@@ -57,65 +55,59 @@ wants_takes m wants item choice = of_shape (does_shape m)
     of_shape : Shape m (λ item choice. does item choice m) → does item choice m ≡ takes m item
     of_shape (Same e alone is) = absurd (subst (Alone m) (sym (is None None) ∙ wants) alone)
     of_shape (Takes may is) = is item choice
-    of_shape (Picks is) = let no : Chooses (register m 10) ≡ Wants = sym (is None None) ∙ wants in absurd (cc)
+    of_shape (Picks ask good is) = let no : Chooses ask ≡ Wants = sym (is None None) ∙ wants in absurd (cc)
 
--- an instruction that wants an answer of malloc does with it what malloc does
-pub wants_chooses : (m : Machine) {size : ℕ} → does None None m ≡ Chooses size → (item : Option Item) (choice : Option Choice) → does item choice m ≡ chooses (register m 10) m choice
-wants_chooses m {size = size} wants item choice = of_shape (does_shape m)
+-- an instruction that wants an answer of the allocator does with it what its ask does
+pub wants_chooses : (m : Machine) {ask : Ask} → does None None m ≡ Chooses ask → (item : Option Item) (choice : Option Choice) → does item choice m ≡ chooses ask m choice
+wants_chooses m {ask = ask} wants item choice = of_shape (does_shape m)
   where
-    of_shape : Shape m (λ item choice. does item choice m) → does item choice m ≡ chooses (register m 10) m choice
+    of_shape : Shape m (λ item choice. does item choice m) → does item choice m ≡ chooses ask m choice
     of_shape (Same e alone is) = absurd (subst (Alone m) (sym (is None None) ∙ wants) alone)
-    of_shape (Takes may is) = let no : Wants ≡ Chooses size = sym (is None None) ∙ wants in absurd (cc)
-    of_shape (Picks is) = is item choice
-
--- and its block has the size that stands in x10
-pub asked_size : (m : Machine) {size : ℕ} → does None None m ≡ Chooses size → does None None m ≡ Chooses (register m 10)
-asked_size m wants = wants_chooses m wants None None
+    of_shape (Takes may is) = let no : Wants ≡ Chooses ask = sym (is None None) ∙ wants in absurd (cc)
+    of_shape (Picks wanted good is) =
+        let asks : Chooses wanted ≡ Chooses ask = sym (is None None) ∙ wants in
+        let same : wanted ≡ ask = cc in
+        is item choice ∙ ap (λ (a : Ask). chooses a m choice) same
 
 -- a replay takes the item that is next
-pub replay_takes : {image : Image} {recording : Recorded} {entries : List Entry} {sends : List Send} (s : Standing) {item : Item} → s.ended ≡ None → s.steps < recording.steps → does None None s.guest.machine ≡ Wants
+pub replay_takes : {image : Image} {recording : Recorded} {entries : List Entry} {choices : List Choice} {sends : List Send} (s : Standing) {item : Item} → s.ended ≡ None → s.steps < recording.steps → does None None s.guest.machine ≡ Wants
     → slice_get (items_in (bounds_of recording) entries) s.guest.machine.taken ≡ Some item
-    → IsReplay image recording entries (replay_of sends s) → IsReplay image recording entries (replay_of sends (taken_standing item s))
-replay_takes {image = image} {recording = recording} {entries = entries} {sends = sends} s {item = item} lives low wants here is =
+    → IsReplay image recording entries (replay_of choices sends s) → IsReplay image recording entries (replay_of choices sends (taken_standing item s))
+replay_takes {image = image} {recording = recording} {entries = entries} {choices = choices} {sends = sends} s {item = item} lives low wants here is =
     let items = items_in (bounds_of recording) entries in
-    let choices = take s.guest.machine.allocations recording.choices in
     let keeps = received_keeps item s.guest.machine in
     let acts : does (slice_get items s.guest.machine.taken) (slice_get choices s.guest.machine.allocations) s.guest.machine ≡ Goes (received item s.guest.machine) =
     wants_takes s.guest.machine wants (slice_get items s.guest.machine.taken) (slice_get choices s.guest.machine.allocations) ∙ ap (takes s.guest.machine) here in
-    let one = run_one items choices (start image) (state_of sends s) (state_of sends (taken_standing item s)) s.steps is.ran.ran
-    (next_after items choices (state_of sends s) (Goes (received item s.guest.machine)) lives acts) in
     record {
       ran = record {
-        ran = subst (λ (n : ℕ). run items (take n recording.choices) (start image) (s.steps + 1) ≡ Some (state_of sends (taken_standing item s))) (sym keeps.allocations) one;
-        used = keeps.allocations ∙ is.ran.used ∙ ap (λ (n : ℕ). length (take n recording.choices)) (sym keeps.allocations);
+        ran = run_one items choices (start image) (state_of sends s) (state_of sends (taken_standing item s)) s.steps is.ran.ran
+            (next_after items choices (state_of sends s) (Goes (received item s.guest.machine)) lives acts);
+        used = keeps.allocations ∙ is.ran.used;
       };
-      used = omega (arith, keeps.allocations, is.used);
+      lines = is.lines;
       steps = omega (arith, low);
     }
 
--- a replay uses the answer of malloc that its record has next, where C allows it
-pub replay_chooses : {image : Image} {recording : Recorded} {entries : List Entry} {sends : List Send} (s : Standing) {size : ℕ} {choice : Choice} → s.ended ≡ None → s.steps < recording.steps
-    → does None None s.guest.machine ≡ Chooses size → slice_get recording.choices s.guest.machine.allocations ≡ Some choice
-    → is_allowed s.guest.machine.heap_start s.guest.machine.heap_end s.guest.machine.blocks (register s.guest.machine 10) choice ≡ true
-    → IsReplay image recording entries (replay_of sends s) → IsReplay image recording entries (replay_of sends (chosen_standing choice s))
-replay_chooses {image = image} {recording = recording} {entries = entries} {sends = sends} s {choice = choice} lives low wants here allowed is =
+-- a replay uses the answer that its record's next line tells of, where C allows it
+pub replay_chooses : {image : Image} {recording : Recorded} {entries : List Entry} {choices : List Choice} {sends : List Send} (s : Standing) {ask : Ask} {line : Line} {choice : Choice} → s.ended ≡ None → s.steps < recording.steps
+    → does None None s.guest.machine ≡ Chooses ask → slice_get recording.lines s.guest.machine.allocations ≡ Some line → IsOfLine line choice
+    → is_allowed s.guest.machine.heap_start s.guest.machine.heap_end s.guest.machine.blocks ask choice ≡ true
+    → IsReplay image recording entries (replay_of choices sends s) → IsReplay image recording entries (replay_of (choices ++ choice ∷ []) sends (chosen_standing choice s))
+replay_chooses {image = image} {recording = recording} {entries = entries} {choices = choices} {sends = sends} s {ask = ask} {line = line} {choice = choice} lives low wants here told allowed is =
     let items = items_in (bounds_of recording) entries in
     let n = s.guest.machine.allocations in
-    let front = take n recording.choices in
-    let later : Machine = allocated (register s.guest.machine 10) choice s.guest.machine in
-    let keeps = allocated_keeps (register s.guest.machine 10) choice s.guest.machine in
-    let longer : take later.allocations recording.choices ≡ front ++ choice ∷ [] = ap (λ (k : ℕ). take k recording.choices) keeps.allocations ∙ take_one recording.choices n choice here in
-    let acts : does (slice_get items s.guest.machine.taken) (slice_get (front ++ choice ∷ []) n) s.guest.machine ≡ Goes later =
-    wants_chooses s.guest.machine wants (slice_get items s.guest.machine.taken) (slice_get (front ++ choice ∷ []) n)
-    ∙ ap (chooses (register s.guest.machine 10) s.guest.machine) (element_behind front choice n (sym is.ran.used)) ∙ rw allowed refl in
-    let one = run_one items (front ++ choice ∷ []) (start image) (state_of sends s) (state_of sends (chosen_standing choice s)) s.steps
-    (run_chosen items front (choice ∷ []) (start image) (state_of sends s) s.steps is.ran.ran)
-    (next_after items (front ++ choice ∷ []) (state_of sends s) (Goes later) lives acts) in
+    let later : Machine = allocated choice s.guest.machine in
+    let keeps = allocated_keeps choice s.guest.machine in
+    let acts : does (slice_get items s.guest.machine.taken) (slice_get (choices ++ choice ∷ []) n) s.guest.machine ≡ Goes later =
+    wants_chooses s.guest.machine wants (slice_get items s.guest.machine.taken) (slice_get (choices ++ choice ∷ []) n)
+    ∙ ap (chooses ask s.guest.machine) (element_behind choices choice n (sym is.ran.used)) ∙ rw allowed refl in
     record {
       ran = record {
-        ran = subst (λ (all : List Choice). run items all (start image) (s.steps + 1) ≡ Some (state_of sends (chosen_standing choice s))) (sym longer) one;
-        used = keeps.allocations ∙ ap (λ (k : ℕ). k + 1) is.ran.used ∙ sym (length-append front (choice ∷ [])) ∙ ap length (sym longer);
+        ran = run_one items (choices ++ choice ∷ []) (start image) (state_of sends s) (state_of sends (chosen_standing choice s)) s.steps
+            (run_chosen items choices (choice ∷ []) (start image) (state_of sends s) s.steps is.ran.ran)
+            (next_after items (choices ++ choice ∷ []) (state_of sends s) (Goes later) lives acts);
+        used = keeps.allocations ∙ ap (λ (k : ℕ). k + 1) is.ran.used ∙ sym (length-append choices (choice ∷ []));
       };
-      used = omega (arith, keeps.allocations, slice_get_within recording.choices n choice here);
+      lines = one_more_line recording.lines choices is.lines (sym (ap (slice_get recording.lines) is.ran.used) ∙ here) told;
       steps = omega (arith, low);
     }

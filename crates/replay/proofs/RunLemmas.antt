@@ -4,7 +4,7 @@ use Rattle.guest_cpu.specs.declared.event.Question.TheVariants as question
 use Rattle.replay.proofs.Terms.{List, None, Option, Some, [], ap, arith, refl, subst, suc, sym, true, zero, ℕ, ◌++◌, ◌+◌, ◌<◌, ◌∙◌, ◌∷◌, ◌≡◌, ◌≤◌, none-some, option_and_then_some, same_Some, Err, Ok, Result, Send, is_bare, run_one, MaySend, Chooses, Fails, Machine, Wants, repeated, does, run, Question, recorded, RunsBy, Live, Standing, Turn, live_after, quiet_next, quietly, unless_event, state_of}
 use Rattle.replay.proofs.TurnLemmas.{IsStep, Means, IsWithin, turn_means}
 
--- A run goes on with these sends, and takes no item and no answer of malloc, to where it has those; no further than so many instructions.
+-- A run goes on with these sends, and takes no item and no answer of the allocator, to where it has those; no further than so many instructions.
 pub record Ran (until : ℕ) (old new : Standing) (before after : List Send → List Send) : Type 0 where
   pub count : ℕ
   pub ran : (sends : List Send) → run [] [] (state_of (before sends) old) count ≡ Some (state_of (after sends) new)
@@ -85,7 +85,7 @@ ComesTo until old question.Asks new = Ran until old new same_sends same_sends ×
 ComesTo until old (question.Emits conn bytes) new =
     Ran until old new same_sends (with_send (record { conn = conn; bytes = bytes; taken = old.guest.machine.taken })) × (new.ended ≡ None)
     × ((m : Machine) × (m.connections ≡ old.guest.machine.connections) × MaySend m conn bytes) × (old.steps < new.steps)
-ComesTo until old (question.Wants size) new = Ran until old new same_sends same_sends × (new.steps < until) × (new.ended ≡ None) × (does None None new.guest.machine ≡ Chooses size)
+ComesTo until old (question.Wants ask) new = Ran until old new same_sends same_sends × (new.steps < until) × (new.ended ≡ None) × (does None None new.guest.machine ≡ Chooses ask)
 ComesTo until old (question.Exits code) new = Ran until old new same_sends same_sends × (new.ended ≡ Some code)
 ComesTo until old (question.Failed cause) new = Ran until old new same_sends same_sends × (new.steps < until) × (new.ended ≡ None) × (does None None new.guest.machine ≡ Fails cause)
 
@@ -136,8 +136,8 @@ last_by {until = until} {first = first} new question.Reached ran lives means low
 last_by {until = until} {first = first} new question.Asks ran lives means low =
     subst (λ (s : Standing). ComesTo until first question.Asks s) (sym means.0) (ran, low, lives, means.1)
 last_by new (question.Emits conn bytes) ran lives means low = emits_last ran lives means low
-last_by {until = until} {first = first} new (question.Wants size) ran lives means low =
-    subst (λ (s : Standing). ComesTo until first (question.Wants size) s) (sym means.0) (ran, low, lives, means.1)
+last_by {until = until} {first = first} new (question.Wants ask) ran lives means low =
+    subst (λ (s : Standing). ComesTo until first (question.Wants ask) s) (sym means.0) (ran, low, lives, means.1)
 last_by new (question.Exits code) ran lives means low = exits_last ran means low
 last_by {until = until} {first = first} new (question.Failed cause) ran lives means low =
     subst (λ (s : Standing). ComesTo until first (question.Failed cause) s) (sym means.0) (ran, low, lives, means.1)

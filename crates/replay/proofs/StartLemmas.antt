@@ -1,7 +1,7 @@
 -- A replay at its start, and at its end.
 use Rattle.item_log.specs.Log as logs
 use Rattle.run_history.specs.declared.answer.Answer.TheVariants as answer
-use Rattle.replay.proofs.Terms.{List, [], ap, arith, drop, false, length, refl, subst, sym, true, ℕ, ◌+◌, ◌^◌, ◌≡◌, both_ways, length-replicate, Err, Send, tells_nothing, IsFresh, Phases, Seen, items_from, items_of, Log, Image, Answer, no_connections_may, no_connections, start_machine, start_standing, Standing, MayBegin, Bounds, heeded, heeded_behind, items_in, Recorded, Player, BreaksOff, IsLastSend, HasReplayedBy, LinkAnswers, bounds_of, AreOpen, AreOpenThen, IsBetween, IsEnd, LinkTurns, Stage, has, replay_of, stage_of}
+use Rattle.replay.proofs.Terms.{List, [], ap, arith, drop, false, length, refl, subst, sym, true, ℕ, ◌+◌, ◌^◌, ◌≡◌, both_ways, length-replicate, Err, Send, tells_nothing, IsFresh, Phases, Seen, Choice, items_from, items_of, Log, Image, Answer, no_connections_may, no_connections, start_machine, start_standing, Standing, MayBegin, Bounds, heeded, heeded_behind, items_in, Recorded, Player, BreaksOff, IsLastSend, HasFilledBy, HasReplayedBy, LinkAnswers, bounds_of, AreOpen, AreOpenThen, IsBetween, IsEnd, LinkTurns, Stage, has, replay_of, stage_of}
 use Rattle.replay.specs.Giving as giving
 use Rattle.replay.specs.Making.{IsMade}
 use Rattle.replay.proofs.ReplayLemmas.{replay_start}
@@ -25,7 +25,7 @@ all_places = length-replicate 4096 false
 
 -- the stage of a player that was just made
 abbrev start_stage : Image → Log → Stage
-start_stage image log = record { live = start_standing image; log = log; events = 0; gone = no_connections }
+start_stage image log = record { live = start_standing image; log = log; events = 0; gone = no_connections; choices = [] }
 
 starts : {image : Image} {recording : Recorded} {seen : Seen} {log : Log} → IsFresh seen.phases → logs.Shows recording.frame [] log → log ≡ logs.empty_log recording.frame (2 ^ 20)
     → IsBetween image recording seen.told seen (start_stage image log)
@@ -57,7 +57,7 @@ starts {recording = recording} {seen = seen} fresh shows is = record {
 
 pub starts_between : {image : Image} {recording : Recorded} {seen : Seen} {player : Player} → IsFresh seen.phases → IsMade image recording.frame player → IsBetween image recording seen.told seen (stage_of player)
 starts_between {image = image} {recording = recording} {seen = seen} {player = player} fresh made =
-    let same : start_stage image player.log ≡ stage_of player = λ i. record { live = (sym made.live) i; log = player.log; events = (sym made.events) i; gone = (sym made.gone) i } in
+    let same : start_stage image player.log ≡ stage_of player = λ i. record { live = (sym made.live) i; log = player.log; events = (sym made.events) i; gone = (sym made.gone) i; choices = (sym made.choices) i } in
     subst (IsBetween image recording seen.told seen) same
     (starts fresh made.shows made.log)
 
@@ -66,11 +66,11 @@ pub starts_at : (image : Image) (player : Player) → player.cpu.slots.live ≡ 
 starts_at image player is = ap (λ (s : Standing). s.steps) is
 
 -- memory ran out for a player
-pub replayed_none : {image : Image} {recording : Recorded} {seen : Seen} (Last : List Send → Type 0) {steps : ℕ} → MayBegin seen → HasReplayedBy image recording seen seen Last answer.Memory steps steps
+abbrev replayed_none : {image : Image} {recording : Recorded} {seen : Seen} (Last : List Send → Type 0) {steps : ℕ} → MayBegin seen → HasReplayedBy image recording seen seen Last answer.Memory steps steps
 replayed_none {image = image} {seen = seen} Last may = record {
   replayed = record {
     entries = [];
-    replay = replay_of [] (start_standing image);
+    replay = replay_of [] [] (start_standing image);
     tells = tells_nothing _;
     asked = asked_none;
     is = replay_start;
@@ -82,14 +82,17 @@ replayed_none {image = image} {seen = seen} Last may = record {
   last = λ no. absurd (both_ways seen.gives no may.gives);
 }
 
+pub filled_none : {image : Image} {recording : Recorded} {seen : Seen} {choices : List Choice} (Last : List Send → Type 0) {steps : ℕ} → MayBegin seen → choices ≡ [] → HasFilledBy image recording seen seen Last answer.Memory choices steps steps
+filled_none Last may none = record { by = replayed_none Last may; choices_are = none }
+
 -- A replay has ended. Where giving broke off it was in one call, behind which the link had gone on so far.
-pub replayed_by : {K : Type 0} (seen : K → Seen) (Went : K → K → Type 0) (Gave : K → K → ℕ → List ℕ → Type 0) (began mid later : K) {image : Image} {recording : Recorded} {stage : Stage} {end : Answer} {before after : ℕ}
+abbrev replayed_by : {K : Type 0} (seen : K → Seen) (Went : K → K → Type 0) (Gave : K → K → ℕ → List ℕ → Type 0) (began mid later : K) {image : Image} {recording : Recorded} {stage : Stage} {end : Answer} {before after : ℕ}
     → Went began mid → (seen mid).gives ≡ true → after ≡ before + stage.live.steps → IsEnd image recording (seen began).told (seen later) (IsLastSend (seen began).told (seen mid).told (Gave mid later)) stage end
     → HasReplayedBy image recording (seen began) (seen later) (BreaksOff seen Went Gave began later) end before after
 replayed_by seen Went Gave began mid later {stage = stage} went still counted is = record {
   replayed = record {
     entries = is.entries;
-    replay = replay_of is.sends stage.live;
+    replay = replay_of stage.choices is.sends stage.live;
     tells = is.tells;
     asked = is.asked;
     is = is.is;
@@ -100,6 +103,11 @@ replayed_by seen Went Gave began mid later {stage = stage} went still counted is
   given = is.given;
   last = λ no. record { mid = mid; went = went; gives_still = still; last = is.last no };
 }
+
+pub filled_by : {K : Type 0} (seen : K → Seen) (Went : K → K → Type 0) (Gave : K → K → ℕ → List ℕ → Type 0) (began mid later : K) {image : Image} {recording : Recorded} {stage : Stage} {end : Answer} {choices : List Choice} {before after : ℕ}
+    → Went began mid → (seen mid).gives ≡ true → after ≡ before + stage.live.steps → IsEnd image recording (seen began).told (seen later) (IsLastSend (seen began).told (seen mid).told (Gave mid later)) stage end → choices ≡ stage.choices
+    → HasFilledBy image recording (seen began) (seen later) (BreaksOff seen Went Gave began later) end choices before after
+filled_by seen Went Gave began mid later went still counted is all = record { by = replayed_by seen Went Gave began mid later went still counted is; choices_are = all }
 
 -- what the link shows then, by the turn that ended it
 pub answers_link : {before now : Seen} {end : Answer} → LinkTurns before now (Err end) → LinkAnswers before now end

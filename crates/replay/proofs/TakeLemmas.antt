@@ -32,7 +32,7 @@ module _ {image : Image} {recording : Recorded} {began : Told} {seen : Seen} {st
           base = record {
             tells = base.tells;
             asked = base.asked;
-            is = subst (λ (s : Standing). IsReplay image recording waiting.playing.entries (replay_of waiting.playing.sends s)) (sym left)
+            is = subst (λ (s : Standing). IsReplay image recording waiting.playing.entries (replay_of stage.choices waiting.playing.sends s)) (sym left)
                 (replay_takes stage.live waiting.lives waiting.shorter waiting.asks here base.is);
             items = base.items;
             goes_on = base.goes_on;

@@ -2,11 +2,10 @@
 use Rattle.rv_isa.specs.declared.instr.Instr.{Instr}
 use Rattle.block_book.proofs.Rooms.{bare-filter}
 use Rattle.run_history.specs.Machine.{Ends}
-use Rattle.run_history.specs.Touching.{instruction_at}
 use Rattle.guest_cpu.specs.declared.event.Question.TheVariants as question
-use Rattle.replay.proofs.Terms.{Bool, List, None, Option, Some, [], cond, eqb, false, leb, not, refl, subst, true, ℕ, ◌++◌, ◌+◌, ◌<◌, ◌∷◌, ◌≡◌, ◌≤◌, cond_both, leb-false, leb-true, same_Some, Send, Block, Heap, is_bare, is_live_at, without_block, alone_is, next_after, Alone, Keeps, MaySend, Chooses, Effect, Emits, Fails, Goes, Wants, does, next, Free, Malloc, Nothing, Request, request_of, Question, heap_after, recorded, recorded_of, recorded_turn, released, Standing, Turn, turn_to, state_of}
+use Rattle.replay.proofs.Terms.{Bool, List, None, Option, Some, [], cond, eqb, false, leb, not, refl, subst, true, ℕ, ◌++◌, ◌+◌, ◌<◌, ◌∷◌, ◌≡◌, ◌≤◌, cond_both, leb-false, leb-true, same_Some, Send, Block, Heap, is_bare, is_live_at, without_block, alone_is, next_after, Alone, Keeps, MaySend, Chooses, Effect, Emits, Fails, Goes, Wants, does, next, Allocate, Free, Nothing, Request, request_of, instruction_at, Question, heap_after, recorded, recorded_of, recorded_turn, released, Standing, Turn, turn_to, state_of}
 
--- one more instruction of a run, which takes no item and no answer of malloc
+-- one more instruction of a run, which takes no item and no answer of the allocator
 pub record IsStep (old new : Standing) : Type 0 where
   pub goes : (sends : List Send) → next [] [] (state_of sends old) ≡ Some (state_of sends new)
   pub keeps : Keeps old.guest.machine new.guest.machine 1
@@ -23,7 +22,7 @@ Means old (Some (question.Emits conn bytes)) new =
     ((sends : List Send) → next [] [] (state_of sends old) ≡ Some (state_of (sends ++ record { conn = conn; bytes = bytes; taken = old.guest.machine.taken } ∷ []) new))
     × Keeps old.guest.machine new.guest.machine 1 × MaySend old.guest.machine conn bytes × (new.steps ≡ old.steps + 1) × (new.ended ≡ old.ended)
     × (is_bare old.guest.heap ≡ true → is_bare new.guest.heap ≡ true)
-Means old (Some (question.Wants size)) new = (new ≡ old) × (does None None old.guest.machine ≡ Chooses size)
+Means old (Some (question.Wants ask)) new = (new ≡ old) × (does None None old.guest.machine ≡ Chooses ask)
 Means old (Some (question.Exits code)) new =
     ((sends : List Send) → next [] [] (state_of sends old) ≡ Some (state_of sends new)) × (new.guest ≡ old.guest) × (new.steps ≡ old.steps + 1) × (new.ended ≡ Some code)
 Means old (Some (question.Failed cause)) new = (new ≡ old) × (does None None old.guest.machine ≡ Fails cause)
@@ -36,7 +35,7 @@ released_bare heap place bare =
     (λ _. bare)
 
 after_bare : (request : Request) (heap : Heap) → is_bare heap ≡ true → is_bare (heap_after request heap) ≡ true
-after_bare (Malloc size) heap bare = bare
+after_bare (Allocate ask) heap bare = bare
 after_bare (Free place) heap bare = released_bare heap place bare
 after_bare Nothing heap bare = bare
 
@@ -45,17 +44,17 @@ turn_by : (old : Standing) (found : Option Instr) (heap : Heap) (e : Effect) →
     → Means old (recorded_of found heap old e).event (recorded_of found heap old e).standing
 turn_by old found heap (Goes m) lives bare acts = record {
   goes = λ sends. next_after [] [] (state_of sends old) (Goes m) lives acts;
-  keeps = alone_is old.guest.machine (Goes m) acts (record { no_item = λ h. cc; no_choice = λ size h. cc });
+  keeps = alone_is old.guest.machine (Goes m) acts (record { no_item = λ h. cc; no_choice = λ ask h. cc });
   steps = refl;
   ended = refl;
   bare = bare;
 }
 turn_by old found heap (Emits conn bytes m) lives bare acts =
-    let alone : Alone old.guest.machine (Emits conn bytes m) = alone_is old.guest.machine (Emits conn bytes m) acts (record { no_item = λ h. cc; no_choice = λ size h. cc }) in
+    let alone : Alone old.guest.machine (Emits conn bytes m) = alone_is old.guest.machine (Emits conn bytes m) acts (record { no_item = λ h. cc; no_choice = λ ask h. cc }) in
     (λ sends. next_after [] [] (state_of sends old) (Emits conn bytes m) lives acts, alone.0, alone.1, refl, refl, bare)
 turn_by old found heap (Ends code) lives bare acts = (λ sends. next_after [] [] (state_of sends old) (Ends code) lives acts, refl, refl, refl)
 turn_by old found heap Wants lives bare acts = (refl, acts)
-turn_by old found heap (Chooses size) lives bare acts = (refl, acts)
+turn_by old found heap (Chooses ask) lives bare acts = (refl, acts)
 turn_by old found heap (Fails cause) lives bare acts = (refl, acts)
 
 -- a turn happens before a record's end, unless it is the end
@@ -68,7 +67,7 @@ within_by found heap old (Goes m) low = low
 within_by found heap old (Emits conn bytes m) low = low
 within_by found heap old (Ends code) low = low
 within_by found heap old Wants low = low
-within_by found heap old (Chooses size) low = low
+within_by found heap old (Chooses ask) low = low
 within_by found heap old (Fails cause) low = low
 
 pub turn_means : (until : ℕ) (old : Standing) {t : Turn Question} → old.ended ≡ None → recorded until old ≡ Some t → Means old t.event t.standing × IsWithin until old.steps t.event

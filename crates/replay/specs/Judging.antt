@@ -7,6 +7,6 @@ use Rattle.replay.specs.Terms.{Answer, Standing, Recorded}
 abbrev pub judged : Recorded → Standing → Answer
 judged recorded s =
     if s.steps == recorded.steps
-    then if s.guest.machine.allocations == length recorded.choices
+    then if s.guest.machine.allocations == length recorded.lines
     then if s.guest.machine.taken == recorded.taken
     then answer.Finished else answer.Mismatch s.steps else answer.Mismatch s.steps else answer.Mismatch s.steps

@@ -1,22 +1,26 @@
 -- What holds of each replay of a record that a run left, over the items that the run was given.
-use Rattle.std.specs.Prelude.{◌≡◌, ℕ, ◌≤◌, List, [], ◌++◌, length, Option, Some, IfSome}
+use Rattle.std.specs.Prelude.{◌≡◌, ◌≢◌, ◌⊎◌, ℕ, ◌<◌, List, [], ◌++◌, length, map, slice_get, Option, None, Some, IfSome}
 use Rattle.run_history.specs.declared.answer.Answer.TheVariants as answer
-use Rattle.replay.specs.Terms.{Item, Prefix, Entry, LinkEvent, Coming, HasEnded, Refuses, events_in, pieces_in, Seen, Choice, most_blocks, Image, Answer, State, start, Run, run, IsAccount, Session, journal_of, AreHeeded, Bounds, items_in, Rules, Recorded}
+use Rattle.replay.specs.Terms.{Item, Prefix, Entry, LinkEvent, Coming, HasEnded, Refuses, events_in, pieces_in, Seen, Ask, Choice, most_blocks, Image, Answer, Chooses, State, start, Run, does, run, IsAccount, Session, journal_of, AreHeeded, Bounds, items_in, Rules, Line, Recorded, line_of}
 use Rattle.replay.specs.Giving.{AreGiven}
-use Rattle.replay.specs.Replaying.{bounds_of, HasReplayed}
+use Rattle.replay.specs.Replaying.{AreOfLines, bounds_of, HasReplayed}
 
--- at no time of a run more blocks are live than may be
+-- wherever a run was answered with a block, fewer blocks were live than may be
 abbrev pub HasRoom : Image → List Item → List Choice → ℕ → Type 0
-HasRoom image items choices steps = (earlier : ℕ) (state : State) → earlier ≤ steps → run items choices (start image) earlier ≡ Some state → length state.machine.blocks ≤ most_blocks
+HasRoom image items choices steps =
+    (earlier : ℕ) (state : State) (ask : Ask) (choice : Choice) → earlier < steps → run items choices (start image) earlier ≡ Some state → does None None state.machine ≡ Chooses ask →
+    slice_get choices state.machine.allocations ≡ Some choice → choice.at ≢ 0 → length state.machine.blocks < most_blocks
 
--- a record tells of the run of an image on these items, which ends in this state
-pub record IsRecordOf (image : Image) (items : List Item) (state : State) (recorded : Recorded) : Type 0 where
-  -- all answers of malloc that the run used stand in the record, and its number of instructions
-  pub ran : Run image items recorded.choices recorded.steps state
+-- a record tells of the run of an image on these items, which used these answers of the allocator and ends in this state
+pub record IsRecordOf (image : Image) (items : List Item) (choices : List Choice) (state : State) (recorded : Recorded) : Type 0 where
+  -- the record has a line of each answer that the run used, and its number of instructions
+  pub lines : AreOfLines recorded.lines choices
+  pub all : length choices ≡ length recorded.lines
+  pub ran : Run image items choices recorded.steps state
   -- so does the number of items that it took
   pub taken : state.machine.taken ≡ recorded.taken
-  -- at no time of it more blocks are live than may be
-  pub room : HasRoom image items recorded.choices recorded.steps
+  -- wherever it was answered with a block, fewer blocks were live than may be
+  pub room : HasRoom image items choices recorded.steps
 
 -- the events of a journal bring the first of these items
 pub record BringsFirst (bounds : Bounds) (items : List Item) (entries : List Entry) : Type 0 where
@@ -29,16 +33,16 @@ pub record BringsFirst (bounds : Bounds) (items : List Item) (entries : List Ent
 -- No replay of such a record says that the run doesn't go on as recorded.
 abbrev pub RecordIsReplayed : Type 0
 RecordIsReplayed =
-    (image : Image) (items : List Item) (state : State) (recorded : Recorded) (began now : Seen) (step before after : ℕ)
+    (image : Image) (items : List Item) (choices : List Choice) (state : State) (recorded : Recorded) (began now : Seen) (step before after : ℕ)
     (replayed : HasReplayed image recorded began now (answer.Mismatch step) before after) →
-    IsRecordOf image items state recorded → BringsFirst (bounds_of recorded) items replayed.entries → ⊥
+    IsRecordOf image items choices state recorded → BringsFirst (bounds_of recorded) items replayed.entries → ⊥
 
--- At Finished it stands where the recorded run ended, so its pieces are the sends of that run.
+-- At Finished it stands where the recorded run ended, and used its answers of the allocator. So its pieces are the sends of that run.
 abbrev pub ReplayGivesSends : Type 0
 ReplayGivesSends =
-    (image : Image) (items : List Item) (state : State) (recorded : Recorded) (began now : Seen) (before after : ℕ)
+    (image : Image) (items : List Item) (choices : List Choice) (state : State) (recorded : Recorded) (began now : Seen) (before after : ℕ)
     (replayed : HasReplayed image recorded began now answer.Finished before after) →
-    IsRecordOf image items state recorded → BringsFirst (bounds_of recorded) items replayed.entries → (replayed.replay.state ≡ state) × AreGiven state.sends (pieces_in replayed.entries)
+    IsRecordOf image items choices state recorded → BringsFirst (bounds_of recorded) items replayed.entries → (replayed.replay.state ≡ state) × (replayed.replay.choices ≡ choices) × AreGiven state.sends (pieces_in replayed.entries)
 
 -- An answer that says nothing against the record: all was as recorded; or there was a fault of reading or writing, or want of memory; or the
 -- input was refused, by its grammar or by what any session may have.
@@ -56,15 +60,23 @@ IsNoMismatch recorded entries coming _ = ⊥
 -- A replay of such a record has no other answer.
 abbrev pub OnlyFaults : Type 0
 OnlyFaults =
-    (image : Image) (items : List Item) (state : State) (recorded : Recorded) (began now : Seen) (end : Answer) (before after : ℕ)
+    (image : Image) (items : List Item) (choices : List Choice) (state : State) (recorded : Recorded) (began now : Seen) (end : Answer) (before after : ℕ)
     (replayed : HasReplayed image recorded began now end before after) →
-    IsRecordOf image items state recorded → BringsFirst (bounds_of recorded) items replayed.entries → IsNoMismatch recorded replayed.entries now.coming end
+    IsRecordOf image items choices state recorded → BringsFirst (bounds_of recorded) items replayed.entries → IsNoMismatch recorded replayed.entries now.coming end
 
--- What a session knows of its run stands in a record: how pieces are cut into messages, the answers of malloc, how many instructions were
--- executed, and how many items were taken.
+-- an answer's line in version 1, which doesn't say what was asked
+abbrev pub bare_line : Choice → Line
+bare_line choice = record { ask = None; at = choice.at; zeroed = choice.zeroed }
+
+-- lines are those of these answers, in version 2 or in version 1
+abbrev pub AreLinesOf : List Line → List Choice → Type 0
+AreLinesOf lines choices = (lines ≡ map line_of choices) ⊎ (lines ≡ map bare_line choices)
+
+-- What a session knows of its run stands in a record: how pieces are cut into messages, the answers of the allocator, how many instructions
+-- were executed, and how many items were taken.
 pub record HasSession (rules : Rules) (session : Session) (recorded : Recorded) : Type 0 where
   pub frame : recorded.frame ≡ rules.bounds.framing
-  pub choices : recorded.choices ≡ session.survivor.now.choices
+  pub lines : AreLinesOf recorded.lines session.survivor.now.choices
   pub steps : recorded.steps ≡ session.survivor.now.steps
   pub taken : recorded.taken ≡ session.survivor.now.state.machine.taken
 
@@ -72,7 +84,7 @@ pub record HasSession (rules : Rules) (session : Session) (recorded : Recorded) 
 abbrev pub SessionLeavesRecord : Type 0
 SessionLeavesRecord =
     (rules : Rules) (image : Image) (session : Session) (recorded : Recorded) → IsAccount rules image session → HasSession rules session recorded →
-    IsRecordOf image (items_in rules.bounds (journal_of session)) session.survivor.now.state recorded
+    IsRecordOf image (items_in rules.bounds (journal_of session)) session.survivor.now.choices session.survivor.now.state recorded
 
 -- Two journals had one stream of events, a session's and a replay's: each took the first ones of it, and the replay's link ends only behind
 -- the last one.
@@ -84,15 +96,15 @@ pub record HadOneStream (events : List LinkEvent) (session replay : List Entry) 
 -- Then what the replay took brings the first of the items that the session received: it asks for no event behind those of the recorded run.
 abbrev pub OneStreamBrings : Type 0
 OneStreamBrings =
-    (image : Image) (bounds : Bounds) (journal : List Entry) (events : List LinkEvent) (state : State) (recorded : Recorded) (began now : Seen) (end : Answer) (before after : ℕ)
+    (image : Image) (bounds : Bounds) (journal : List Entry) (events : List LinkEvent) (choices : List Choice) (state : State) (recorded : Recorded) (began now : Seen) (end : Answer) (before after : ℕ)
     (replayed : HasReplayed image recorded began now end before after) →
-    recorded.frame ≡ bounds.framing → IsRecordOf image (items_in bounds journal) state recorded → HadOneStream events journal replayed.entries → BringsFirst (bounds_of recorded) (items_in bounds journal) replayed.entries
+    recorded.frame ≡ bounds.framing → IsRecordOf image (items_in bounds journal) choices state recorded → HadOneStream events journal replayed.entries → BringsFirst (bounds_of recorded) (items_in bounds journal) replayed.entries
 
 -- So a session's record is replayed over the session's stream: no answer says that the run doesn't go on as recorded, and at Finished the
--- replay has given the sends of the session's run.
+-- replay has used the session's answers of the allocator and given the sends of its run.
 abbrev pub SessionIsReplayed : Type 0
 SessionIsReplayed =
     (rules : Rules) (image : Image) (session : Session) (events : List LinkEvent) (recorded : Recorded) (began now : Seen) (end : Answer) (before after : ℕ)
     (replayed : HasReplayed image recorded began now end before after) →
     IsAccount rules image session → HasSession rules session recorded → HadOneStream events (journal_of session) replayed.entries →
-    IsNoMismatch recorded replayed.entries now.coming end × (end ≡ answer.Finished → AreGiven session.survivor.now.state.sends (pieces_in replayed.entries))
+    IsNoMismatch recorded replayed.entries now.coming end × (end ≡ answer.Finished → (replayed.replay.choices ≡ session.survivor.now.choices) × AreGiven session.survivor.now.state.sends (pieces_in replayed.entries))

@@ -4,10 +4,11 @@ use Rattle.item_log.specs.Log as logs
 use Rattle.replay.specs.Terms.{Framing, empty_log, Image, no_connections, start_standing}
 use Rattle.replay.specs.declared.player.Player.{Player}
 
--- its guest stands at the start, and no event came
+-- its guest stands at the start, no event came, and no answer of the allocator was used
 pub record IsMade (image : Image) (framing : Framing) (player : Player) : Type 0 where
   pub live : player.cpu.slots.live ≡ start_standing image
   pub log : player.log ≡ empty_log framing (2 ^ 20)
   pub shows : logs.Shows framing [] player.log
   pub events : player.events ≡ 0
   pub gone : player.gone ≡ no_connections
+  pub choices : player.choices.items ≡ []

@@ -2,7 +2,7 @@
 use Rattle.std.specs.Prelude.{◌≡◌, ℕ, ◌+◌, ◌<◌, ◌≤◌, ◌^◌, Bool, true, false, List, [], ◌∷◌, ◌++◌, length, drop, None, Result, Ok, Err, slice_get, unwrap_or, IfOk, IsErrOf, IsSome}
 use Rattle.rx_io.specs.Faults.{Rose}
 use Rattle.run_history.specs.declared.answer.Answer.TheVariants as answer
-use Rattle.replay.specs.Terms.{Item, Send, Entry, Counts, HasEnded, Open, Phases, Tells, Told, events_in, pieces_in, Seen, is_bare, Log, Image, Answer, connections_after, Chooses, State, Wants, register, does, Standing, items_in, received, KeepsItems, KeepsPhases, Recorded}
+use Rattle.replay.specs.Terms.{Item, Send, Entry, Counts, HasEnded, Open, Phases, Tells, Told, events_in, pieces_in, Seen, Ask, Choice, is_bare, Log, Image, Answer, connections_after, Chooses, State, Wants, does, Standing, items_in, received, KeepsItems, KeepsPhases, Recorded}
 use Rattle.replay.specs.declared.player.Player.{Player}
 use Rattle.replay.specs.Giving.{found_gone, AreGiven}
 use Rattle.replay.specs.Replaying.{Replay, IsReplay, AreAsked, bounds_of, EndsBy, IsAsking, LeavesLink}
@@ -11,19 +11,21 @@ use Rattle.replay.specs.Replaying.{Replay, IsReplay, AreAsked, bounds_of, EndsBy
 abbrev pub state_of : List Send → Standing → State
 state_of sends s = record { machine = s.guest.machine; sends = sends; ended = s.ended }
 
--- the replay that such a guest is
-abbrev pub replay_of : List Send → Standing → Replay
-replay_of sends s = record { steps = s.steps; used = s.guest.machine.allocations; state = state_of sends s }
+-- the replay that such a guest is, which used these answers of the allocator
+abbrev pub replay_of : List Choice → List Send → Standing → Replay
+replay_of choices sends s = record { steps = s.steps; choices = choices; state = state_of sends s }
 
--- what of a player changes: where its guest stands, its log, how many events came, and the connections that were found gone
+-- what of a player changes: where its guest stands, its log, how many events came, the connections that were found gone, and the answers of
+-- the allocator that were used
 pub record Stage : Type 0 where
   pub live : Standing
   pub log : Log
   pub events : ℕ
   pub gone : List Bool
+  pub choices : List Choice
 
 abbrev pub stage_of : Player → Stage
-stage_of player = record { live = player.cpu.slots.live; log = player.log; events = player.events; gone = player.gone }
+stage_of player = record { live = player.cpu.slots.live; log = player.log; events = player.events; gone = player.gone; choices = player.choices.items }
 
 -- a set has a connection
 abbrev pub has : List Bool → ℕ → Bool
@@ -47,7 +49,7 @@ AreOpenThen phases (item ∷ items) connections = StayOpen phases items (connect
 pub record IsBase (image : Image) (recorded : Recorded) (began : Told) (seen : Seen) (entries : List Entry) (sends : List Send) (stage : Stage) : Type 0 where
   pub tells : Tells began seen.told entries
   pub asked : AreAsked image recorded entries
-  pub is : IsReplay image recorded entries (replay_of sends stage.live)
+  pub is : IsReplay image recorded entries (replay_of stage.choices sends stage.live)
   pub items : KeepsItems (bounds_of recorded) entries stage.log
   pub goes_on : HasEnded entries → ⊥
   pub first : stage.log.first ≡ 0
@@ -79,11 +81,11 @@ pub record IsWaiting (image : Image) (recorded : Recorded) (began : Told) (seen 
   pub shorter : stage.live.steps < recorded.steps
   pub asks : does None None stage.live.guest.machine ≡ Wants
 
--- where it wants an answer of malloc
-pub record IsWanting (image : Image) (recorded : Recorded) (began : Told) (seen : Seen) (stage : Stage) : Type 0 where
+-- where it wants an answer of the allocator to an ask
+pub record IsWanting (image : Image) (recorded : Recorded) (began : Told) (seen : Seen) (ask : Ask) (stage : Stage) : Type 0 where
   pub between : IsBetween image recorded began seen stage
   pub shorter : stage.live.steps < recorded.steps
-  pub wants : does None None stage.live.guest.machine ≡ Chooses (register stage.live.guest.machine 10)
+  pub wants : does None None stage.live.guest.machine ≡ Chooses ask
 
 -- where it has just sent bytes to a connection
 pub record IsSending (image : Image) (recorded : Recorded) (began : Told) (seen : Seen) (conn : ℕ) (bytes : List ℕ) (stage : Stage) : Type 0 where
@@ -104,9 +106,9 @@ pub record IsEnd (image : Image) (recorded : Recorded) (began : Told) (seen : Se
   pub sends : List Send
   pub tells : Tells began seen.told entries
   pub asked : AreAsked image recorded entries
-  pub is : IsReplay image recorded entries (replay_of sends stage.live)
-  pub ends : EndsBy image recorded entries seen.coming (replay_of sends stage.live) end
-  pub failed : seen.takes ≡ false → IsAsking image recorded entries (replay_of sends stage.live)
+  pub is : IsReplay image recorded entries (replay_of stage.choices sends stage.live)
+  pub ends : EndsBy image recorded entries seen.coming (replay_of stage.choices sends stage.live) end
+  pub failed : seen.takes ≡ false → IsAsking image recorded entries (replay_of stage.choices sends stage.live)
   pub given : seen.gives ≡ true → AreGiven sends (pieces_in entries)
   pub last : seen.gives ≡ false → Last sends
 
@@ -116,9 +118,9 @@ pub record IsWholeEnd (image : Image) (recorded : Recorded) (began : Told) (seen
   pub sends : List Send
   pub tells : Tells began seen.told entries
   pub asked : AreAsked image recorded entries
-  pub is : IsReplay image recorded entries (replay_of sends stage.live)
-  pub ends : EndsBy image recorded entries seen.coming (replay_of sends stage.live) end
-  pub failed : seen.takes ≡ false → IsAsking image recorded entries (replay_of sends stage.live)
+  pub is : IsReplay image recorded entries (replay_of stage.choices sends stage.live)
+  pub ends : EndsBy image recorded entries seen.coming (replay_of stage.choices sends stage.live) end
+  pub failed : seen.takes ≡ false → IsAsking image recorded entries (replay_of stage.choices sends stage.live)
   pub given : AreGiven sends (pieces_in entries)
 
 -- it goes on, or has ended

@@ -1,26 +1,43 @@
 -- What a replay of a record is: the run that the record tells of, over the events of a link, and its sends given again.
-use Rattle.std.specs.Prelude.{◌≡◌, ◌≢◌, ℕ, ◌+◌, ◌<◌, ◌≤◌, ◌^◌, List, ◌∷◌, ◌++◌, length, take, slice_get, false, None, Some, Option, IsSome, IfSome, ◌⊎◌, true}
+use Rattle.std.specs.Prelude.{◌≡◌, ◌≢◌, ℕ, ◌+◌, ◌<◌, ◌≤◌, ◌^◌, List, [], ◌∷◌, ◌++◌, length, slice_get, unwrap_or, false, None, Some, Option, IsSome, IfSome, ◌⊎◌, true}
 use Rattle.links.specs.declared.journal.Entry.TheVariants as entry
 use Rattle.links.specs.declared.journal.LinkEvent.TheVariants as event
 use Rattle.run_history.specs.declared.answer.Answer.TheVariants as answer
 use Rattle.session_history.specs.Heeding as unheeded
-use Rattle.replay.specs.Terms.{Send, Entry, LinkEvent, Comes, Coming, HasEnded, Refuses, Tells, events_in, pieces_in, Seen, Choice, is_allowed, most_blocks, Image, Answer, Cause, Chooses, Fails, Machine, State, Wants, Run, does, HasAnswerCause, IsLastRefused, IsLastTooLong, Bounds, heeded, items_in, received, Recorded}
+use Rattle.replay.specs.Terms.{Send, Entry, LinkEvent, Coming, HasEnded, IsNext, Refuses, Tells, events_in, pieces_in, Seen, Ask, Choice, is_allowed, most_blocks, Image, Answer, Cause, Chooses, Fails, Machine, State, Wants, Run, does, HasAnswerCause, IsLastRefused, IsLastTooLong, Bounds, heeded, items_in, received, Line, Recorded}
 use Rattle.replay.specs.Giving.{AreGiven, AreGivenInPart}
 
 -- what a record allows a link: its own framing, and the most items and events that any session may have
 abbrev pub bounds_of : Recorded → Bounds
 bounds_of recorded = record { framing = recorded.frame; max_items = 2 ^ 20; max_events = 2 ^ 32 }
 
--- a replay so far: how many instructions were executed, how many of the record's answers of malloc they used, where the run stands
+-- an answer has this ask, where one is known
+abbrev pub HasAsk : Option Ask → Choice → Type 0
+HasAsk None choice = Unit {0}
+HasAsk (Some ask) choice = choice.ask ≡ ask
+
+-- an answer of the allocator is the one that a line tells of: its address, its mark and, where the line has it, its ask
+pub record IsOfLine (line : Line) (choice : Choice) : Type 0 where
+  pub asked : HasAsk line.ask choice
+  pub address : choice.at ≡ line.at
+  pub mark : choice.zeroed ≡ line.zeroed
+
+-- answers are those that the first of these lines tell of, one each
+abbrev pub AreOfLines : List Line → List Choice → Type 0
+AreOfLines lines [] = Unit {0}
+AreOfLines [] (choice ∷ choices) = ⊥
+AreOfLines (line ∷ lines) (choice ∷ choices) = IsOfLine line choice × AreOfLines lines choices
+
+-- a replay so far: how many instructions were executed, the answers of the allocator that they used, where the run stands
 pub record Replay : Type 0 where
   pub steps : ℕ
-  pub used : ℕ
+  pub choices : List Choice
   pub state : State
 
--- it is a run of the image on the items received, with the first answers of the record, and no longer than the record's
+-- it is a run of the image on the items received, with the answers of the record's first lines, and no longer than the record's
 pub record IsReplay (image : Image) (recorded : Recorded) (entries : List Entry) (replay : Replay) : Type 0 where
-  pub ran : Run image (items_in (bounds_of recorded) entries) (take replay.used recorded.choices) replay.steps replay.state
-  pub used : replay.used ≤ length recorded.choices
+  pub ran : Run image (items_in (bounds_of recorded) entries) replay.choices replay.steps replay.state
+  pub lines : AreOfLines recorded.lines replay.choices
   pub steps : replay.steps ≤ recorded.steps
 
 -- A replay waits for the item that is received next: it is shorter than the record's run, it lives and asks for an item, and has taken all that
@@ -49,31 +66,36 @@ pub record WasAsked (image : Image) (recorded : Recorded) (before : List Entry) 
 abbrev pub AreAsked : Image → Recorded → List Entry → Type 0
 AreAsked image recorded entries = (before after : List Entry) (event : LinkEvent) → entries ≡ before ++ entry.Took event ∷ after → WasAsked image recorded before
 
--- the answer of malloc that a record has next can't be used: C doesn't allow it, or it is a block, and as many stand as may
-abbrev pub IsUnusable : Machine → ℕ → Option Choice → Type 0
-IsUnusable m size None = Unit {0}
-IsUnusable m size (Some choice) =
-    (is_allowed m.heap_start m.heap_end m.blocks size choice ≡ false) ⊎ ((choice.at ≢ 0) × (most_blocks ≤ length m.blocks))
+-- the answer that a line tells of, where this was asked: it has the line's own ask, if there is one
+abbrev pub choice_by : Ask → Line → Choice
+choice_by ask line = record { ask = unwrap_or line.ask ask; at = line.at; zeroed = line.zeroed }
 
--- Why a run isn't the recorded one. Before the record's end it has ended itself; or it fails; or it wants an answer of malloc, and the
--- record has none, or none that can be used; or it asks for an item, and the link has ended. Or at the record's end not all answers
--- were used, or not as many items taken.
+-- An ask has no answer in a record: no line is left; or the next one tells of an answer to another ask, or of one that C doesn't allow; or it is a
+-- block, and as many stand as may.
+abbrev pub IsUnusable : Machine → Ask → Option Line → Type 0
+IsUnusable m ask None = Unit {0}
+IsUnusable m ask (Some line) =
+    (is_allowed m.heap_start m.heap_end m.blocks ask (choice_by ask line) ≡ false) ⊎ ((line.at ≢ 0) × (most_blocks ≤ length m.blocks))
+
+-- Why a run isn't the recorded one. Before the record's end it has ended itself; or it fails; or it wants an answer of the allocator, and the
+-- record has none, or none that can be used; or it asks for an item, and the link has ended. Or at the record's end lines are left
+-- over, or not as many items were taken.
 pub data Differs (recorded : Recorded) (entries : List Entry) (replay : Replay) : Type 0 where
   Ended : replay.steps < recorded.steps → IsSome replay.state.ended → Differs recorded entries replay
   Failed : (cause : Cause) → replay.steps < recorded.steps → replay.state.ended ≡ None → does None None replay.state.machine ≡ Fails cause → Differs recorded entries replay
-  Unanswered : (size : ℕ) → replay.steps < recorded.steps → replay.state.ended ≡ None → does None None replay.state.machine ≡ Chooses size
-      → IsUnusable replay.state.machine size (slice_get recorded.choices replay.used) → Differs recorded entries replay
+  Unanswered : (ask : Ask) → replay.steps < recorded.steps → replay.state.ended ≡ None → does None None replay.state.machine ≡ Chooses ask
+      → IsUnusable replay.state.machine ask (slice_get recorded.lines (length replay.choices)) → Differs recorded entries replay
   Starved : WaitsForItem recorded entries replay → HasEnded entries → Differs recorded entries replay
-  Unused : replay.steps ≡ recorded.steps → replay.used < length recorded.choices → Differs recorded entries replay
+  Unused : replay.steps ≡ recorded.steps → length replay.choices < length recorded.lines → Differs recorded entries replay
   Untaken : replay.steps ≡ recorded.steps → replay.state.machine.taken ≢ recorded.taken → Differs recorded entries replay
 
 -- What stands behind each answer. Everywhere but at a fault of writing and want of memory all sends are given. At Mismatch the end of the link is
 -- what comes there, where the link has ended. Where an event is refused, the run waits still for the item for which that was asked.
 abbrev pub EndsBy : Image → Recorded → List Entry → Option Coming → Replay → Answer → Type 0
 EndsBy image recorded entries coming replay answer.Finished =
-    (replay.steps ≡ recorded.steps) × (replay.used ≡ length recorded.choices) × (replay.state.machine.taken ≡ recorded.taken) × AreGiven replay.state.sends (pieces_in entries)
+    (replay.steps ≡ recorded.steps) × (length replay.choices ≡ length recorded.lines) × (replay.state.machine.taken ≡ recorded.taken) × AreGiven replay.state.sends (pieces_in entries)
 EndsBy image recorded entries coming replay (answer.Mismatch step) =
-    (step ≡ replay.steps) × Differs recorded entries replay × AreGiven replay.state.sends (pieces_in entries) × (HasEnded entries → IfSome coming (λ next. next ≡ Comes event.Ends))
+    (step ≡ replay.steps) × Differs recorded entries replay × AreGiven replay.state.sends (pieces_in entries) × (HasEnded entries → IfSome coming (λ next. IsNext next event.Ends))
 EndsBy image recorded entries coming replay (answer.InputRefused kind offset) = IsAsking image recorded entries replay × IfSome coming (λ next. next ≡ Refuses kind offset)
 EndsBy image recorded entries coming replay (answer.MessageTooLong conn) = WaitsForItem recorded entries replay × IsLastTooLong (bounds_of recorded) entries conn × AreGiven replay.state.sends (pieces_in entries)
 EndsBy image recorded entries coming replay answer.LimitItems = WaitsForItem recorded entries replay × IsLastRefused (bounds_of recorded) entries unheeded.LimitItems × AreGiven replay.state.sends (pieces_in entries)
@@ -100,6 +122,11 @@ pub record HasReplayedBy (image : Image) (recorded : Recorded) (began now : Seen
   pub replayed : HasReplayed image recorded began now end before after
   pub given : now.gives ≡ true → AreGiven replayed.replay.state.sends (pieces_in replayed.entries)
   pub last : now.gives ≡ false → Last replayed.replay.state.sends
+
+-- The same, and these are the answers of the allocator that its run used.
+pub record HasFilledBy (image : Image) (recorded : Recorded) (began now : Seen) (Last : List Send → Type 0) (end : Answer) (choices : List Choice) (before after : ℕ) : Type 0 where
+  pub by : HasReplayedBy image recorded began now Last end before after
+  pub choices_are : choices ≡ by.replayed.replay.choices
 
 -- Which calls of its link have failed where a replay has ended: none, but at a refusal and at a fault of reading the last take, at a fault of
 -- writing the last give, and at want of memory one of both at most. A link that told what its grammar has next tells its refusal too.

@@ -1,6 +1,7 @@
 //! A record is replayed: the run that it tells of is executed again over the same events, and its sends are given again.
 //!
-//! It has no budget, no environment of malloc, no access rule and no recovery: the record gives each answer of malloc.
+//! It has no budget, no environment, no access rule and no recovery: the record has a line for each answer of the allocator.
+//! A line of version 2 says what was asked, and the call has to ask the same. One of version 1 doesn't, and the call says it.
 //! An event is taken only where the run asks for an item, so a replay takes no more than it needs.
 //! A record that was changed may be answered Finished: it then tells of a run of that program over these events.
 //! A record whose last instruction is an exit is answered Finished, never Exited.
@@ -16,4 +17,4 @@ mod playing;
 mod replaying;
 
 pub use giver::Giver;
-pub use replaying::{replay, replay_by};
+pub use replaying::{Filled, fill_by, replay, replay_by};

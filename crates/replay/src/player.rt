@@ -3,6 +3,7 @@ ghost use Rattle.std.specs.Prelude.{◌≡◌, IfOk};
 ghost use Rattle.run_history.specs.declared.answer.Answer.TheVariants as answer;
 ghost use Rattle.replay.specs.Making.{IsMade};
 
+use block_book::{Choice, Choices};
 use call_gate::ConnSet;
 use elf_image::Image;
 use guest_cpu::Cpu;
@@ -17,7 +18,8 @@ const PAGE: u32 = 4096;
 // The most items that a session may receive.
 const MAX_ITEMS: u64 = 1 << 20;
 
-/// Who replays a record: the guest, the items received, how many events came, and the connections that were found gone.
+/// Who replays a record: the guest, the items received, how many events came, the connections that were found gone, and the answers of
+/// the allocator that were used.
 #[derive(Drop)]
 pub struct Player {
     pub alloc: Global,
@@ -25,6 +27,7 @@ pub struct Player {
     pub log: ItemLog,
     pub events: u64,
     pub gone: ConnSet,
+    pub choices: Vec<Choice>,
 }
 
 impl Player {
@@ -39,6 +42,7 @@ impl Player {
             log: ItemLog::make(alloc, framing, MAX_ITEMS)?,
             events: 0,
             gone: ConnSet::make(alloc)?,
+            choices: Vec::new(alloc),
         })
     }
 
@@ -49,5 +53,20 @@ impl Player {
         Answer::Mismatch {
             step: self.cpu.marks().steps,
         }
+    }
+
+    /// The answers of the allocator that were used.
+    pub fn into_choices(self) -> Choices
+        ensures { result ≡ self.choices.items }
+    {
+        let Player {
+            alloc: _,
+            cpu: _,
+            log: _,
+            events: _,
+            gone: _,
+            choices,
+        } = self;
+        Choices::from_vec(choices)
     }
 }

@@ -3,28 +3,40 @@ ghost use Rattle.std.specs.Prelude.{◌≡◌, ◌-◌, ◌<◌, ◌^◌, true, 
 ghost use Rattle.links.specs.Links.{Told};
 ghost use Rattle.links.specs.Seen.{Seen};
 ghost use Rattle.block_book.specs.Heap.{is_bare};
-ghost use Rattle.run_history.specs.Machine.{Chooses, register};
+ghost use Rattle.run_history.specs.Machine.{Chooses};
 ghost use Rattle.run_history.specs.Run.{does};
 ghost use Rattle.elf_image.specs.declared.image.Image.{Image};
 ghost use Rattle.replay.specs.Giving.{IsLastSend};
+ghost use Rattle.replay.specs.Replaying.{choice_by};
 ghost use Rattle.replay.specs.Playing.{stage_of, IsBetween, IsWaiting, IsWanting, StandsBetween, StandsWaiting, TurnsBy, GoesOnBy, HasNoFault, LinkTurns, LinkHears, CountsSteps};
 ghost use Rattle.replay.specs.Judging.{judged};
 
 use crate::giver::Giver;
 use crate::player::Player;
-use block_book::Choice;
+use block_book::{Ask, Choice};
 use guest_cpu::Question;
 use links::Link;
 use run_history::Answer;
 use rx_io::Steps;
-use schedule_file::Recorded;
+use schedule_file::{Line, Recorded};
 use std::sync::ledger::Ledger;
 
-// The record's answer of malloc of a number, if there is one.
-fn choice_at(recorded: &Recorded, number: u64) -> Option<Choice>
-    ensures { result ≡ slice_get recorded.now.choices number }
+// The record's line of a number, if there is one.
+fn line_at(recorded: &Recorded, number: u64) -> Option<Line>
+    ensures { result ≡ slice_get recorded.now.lines number }
 {
-    recorded.choices.as_slice().get(number as usize).copied()
+    recorded.lines.as_slice().get(number as usize).copied()
+}
+
+// The answer that a line tells of, where this is asked.
+fn choice_by(ask: Ask, line: Line) -> Choice
+    ensures { result ≡ choice_by ask line }
+{
+    Choice {
+        ask: line.ask.unwrap_or(ask),
+        at: line.at,
+        zeroed: line.zeroed,
+    }
 }
 
 impl Player {
@@ -48,7 +60,7 @@ impl Player {
             Ok(Question::Reached) => Err(self.judge(recorded)),
             Ok(Question::Asks) => self.ask(recorded, link, steps),
             Ok(Question::Emits(conn, bytes)) => self.send(giver, link, conn, &bytes),
-            Ok(Question::Wants(_)) => self.choose(recorded, steps),
+            Ok(Question::Wants(ask)) => self.choose(recorded, ask, steps),
             Ok(Question::Exits(_)) => Err(self.judge(recorded)),
             Ok(Question::Failed(_)) => Err(self.mismatch()),
             Err(_) => Err(Answer::Memory),
@@ -78,22 +90,32 @@ impl Player {
         Ok(())
     }
 
-    // The guest wants an answer of malloc: the record's next one is used, if there is one and it can be.
-    fn choose<L: Ledger>(&mut self, recorded: &Recorded, steps: &mut Steps<L>) -> Result<(), Answer>
-        requires wants { does None None self.old.cpu.slots.live.guest.machine ≡ Chooses (register self.old.cpu.slots.live.guest.machine 10) }
+    // The guest wants an answer to an ask: that of the record's next line is used, if there is one and it can be.
+    fn choose<L: Ledger>(
+        &mut self,
+        recorded: &Recorded,
+        ask: Ask,
+        steps: &mut Steps<L>,
+    ) -> Result<(), Answer>
+        requires wants { does None None self.old.cpu.slots.live.guest.machine ≡ Chooses ask }
         requires bare { is_bare self.old.cpu.slots.live.guest.heap ≡ true }
         requires room { self.old.cpu.slots.live.steps < 2 ^ 64 - 1 }
-        ensures turns { (image : Image) (began : Told) (seen : Seen) → seen.takes ≡ true → IsWanting image recorded.now began seen (stage_of self.old)
+        ensures turns { (image : Image) (began : Told) (seen : Seen) → seen.takes ≡ true → IsWanting image recorded.now began seen ask (stage_of self.old)
             → GoesOnBy image recorded.now began seen (stage_of self.new) result }
         ensures steps { CountsSteps steps.old steps.new self.old.cpu.slots.live.steps self.new.cpu.slots.live.steps result }
         ensures no_fault { HasNoFault result }
     {
         self.cpu.sound();
         let number = self.cpu.marks().choices;
-        let Some(choice) = choice_at(recorded, number) else {
+        let Some(line) = line_at(recorded, number) else {
             return Err(self.mismatch());
         };
-        if !self.cpu.use_choice(choice, steps) {
+        let choice = choice_by(ask, line);
+        if let Err(_) = self.choices.push(choice) {
+            return Err(Answer::Memory);
+        }
+        if !self.cpu.use_choice(ask, choice, steps) {
+            let _ = self.choices.pop();
             return Err(self.mismatch());
         }
         Ok(())
@@ -104,7 +126,7 @@ impl Player {
         ensures { result ≡ judged recorded.now self.now.cpu.slots.live }
     {
         let marks = self.cpu.marks();
-        let used = recorded.choices.as_slice().len() as u64;
+        let used = recorded.lines.as_slice().len() as u64;
         if marks.steps != recorded.steps || marks.choices != used || marks.taken != recorded.taken {
             return self.mismatch();
         }

@@ -2,10 +2,11 @@
 ghost use Rattle.std.specs.Prelude.{◌≡◌, ◌*◌, ◌<◌, ◌^◌};
 ghost use Rattle.replay.specs.Giving.{BreaksOff, WasHanded};
 ghost use Rattle.session_history.specs.Answering.{MayBegin};
-ghost use Rattle.replay.specs.Replaying.{HasReplayedBy, LinkAnswers};
+ghost use Rattle.replay.specs.Replaying.{HasFilledBy, HasReplayedBy, LinkAnswers};
 
 use crate::giver::{AnyGiver, Giver};
 use crate::player::Player;
+use block_book::Choices;
 use elf_image::Image;
 use links::Link;
 use run_history::Answer;
@@ -20,8 +21,9 @@ use std::sync::ledger::Ledger;
 /// All sends are given where the link gives still at the end. Where it gives no more, the last send is the piece that it was handed last, and
 /// all sends before it are given.
 ///
-/// `Finished` exactly where the run went as recorded to the record's end, and used all of the record's answers of malloc and as many
-/// items; `Mismatch` with the number of instructions after which it doesn't go on as recorded.
+/// `Finished` exactly where the run went as recorded to the record's end, and used all of the record's lines and as many items;
+/// `Mismatch` with the number of instructions after which it doesn't go on as recorded. A call that is answered otherwise than its line
+/// says is such a place: one for which no line is left, or whose line has another ask, or an answer that C doesn't allow.
 pub fn replay<K: Link, L: Ledger>(
     alloc: Global,
     image: &Image,
@@ -55,13 +57,48 @@ pub fn replay_by<K: Link, G: Giver<K>, L: Ledger>(
     ensures link { LinkAnswers (K.seen link.old) (K.seen link.new) result }
     ensures went { K.Went link.old link.new }
 {
+    fill_by(alloc, image, recorded, giver, link, steps).answer
+}
+
+/// What a replay comes to: its answer, and the answers of the allocator that its run used, each with what was asked.
+#[derive(Debug, Drop)]
+pub struct Filled {
+    pub answer: Answer,
+    pub choices: Choices,
+}
+
+/// The same, and the answers of the allocator that the run used. So what a record doesn't say of them is filled in: what was asked.
+/// They take room of their own.
+pub fn fill_by<K: Link, G: Giver<K>, L: Ledger>(
+    alloc: Global,
+    image: &Image,
+    recorded: &Recorded,
+    giver: &G,
+    link: &mut K,
+    steps: &mut Steps<L>,
+) -> Filled
+    requires window { image.now.window ≡ recorded.now.window * 1048576 }
+    requires short { recorded.now.steps < 2 ^ 63 }
+    requires link { MayBegin (K.seen link.old) }
+    ensures filled { HasFilledBy image.now recorded.now (K.seen link.old) (K.seen link.new) (BreaksOff K.seen K.Went G.Gave link.old link.new) result.answer result.choices steps.old steps.new }
+    ensures link { LinkAnswers (K.seen link.old) (K.seen link.new) result.answer }
+    ensures went { K.Went link.old link.new }
+{
     let mut player = match Player::make(alloc, image, recorded.frame) {
         Ok(player) => player,
-        Err(AllocError) => return Answer::Memory,
+        Err(AllocError) => {
+            return Filled {
+                answer: Answer::Memory,
+                choices: Choices::from_vec(Vec::new(alloc)),
+            };
+        }
     };
     'turns: loop {
         if let Err(answer) = player.turn(recorded, giver, link, steps) {
-            return answer;
+            return Filled {
+                answer,
+                choices: player.into_choices(),
+            };
         }
     }
 }

@@ -1,5 +1,6 @@
 // What replays give, and how they end. The counts of instructions and the journals are worked by hand from the texts of the programs.
 use crate::replayed::{Played, Told, assembled, expect_replay};
+use block_book::Ask;
 use example_guests::source_of;
 use run_history::Answer;
 use std::alloc::Global;
@@ -60,6 +61,7 @@ fn a_run_goes_as_recorded(rt: HostRuntime) -> Result<(), Fail> {
     for (steps, taken, answer, journal) in cases {
         let told = Told {
             choices: &[],
+            asks: &[],
             steps,
             taken,
         };
@@ -102,6 +104,7 @@ fn events_come_where_they_are_asked_for(rt: HostRuntime) -> Result<(), Fail> {
         let played = Played { events, ..HI };
         let told = Told {
             choices: &[],
+            asks: &[],
             steps,
             taken,
         };
@@ -115,6 +118,7 @@ fn links_fail_and_connections_are_gone(rt: HostRuntime) -> Result<(), Fail> {
     let image = assembled(rt.alloc(), ECHO)?;
     let told = Told {
         choices: &[],
+        asks: &[],
         steps: 33,
         taken: 3,
     };
@@ -145,7 +149,7 @@ fn links_fail_and_connections_are_gone(rt: HostRuntime) -> Result<(), Fail> {
 }
 
 #[test]
-fn answers_of_malloc_are_the_recorded_ones(rt: HostRuntime) -> Result<(), Fail> {
+fn answers_are_the_recorded_ones(rt: HostRuntime) -> Result<(), Fail> {
     let image = assembled(rt.alloc(), ASKS_ONCE)?;
     // The answers and how many instructions the record has, and the answer..
     let cases: [(&[(u32, bool)], u64, Answer); 9] = [
@@ -162,7 +166,66 @@ fn answers_of_malloc_are_the_recorded_ones(rt: HostRuntime) -> Result<(), Fail> 
     for (choices, steps, answer) in cases {
         let told = Told {
             choices,
+            asks: &[],
             steps,
+            taken: 0,
+        };
+        expect_replay(&rt, rt.alloc(), &image, &HI, &told, answer, "")?;
+    }
+    Ok(())
+}
+
+// Asks for 3 elements of 8 bytes, and for 40 bytes in place of that block.
+const ASKS_AGAIN: &str = r#"
+    addi a0, zero, 3
+    addi a1, zero, 8
+    addi a7, zero, 7            # calloc
+    ecall
+    addi a1, zero, 40
+    addi a7, zero, 8            # realloc
+    ecall
+    addi a7, zero, 5            # exit
+    ecall
+"#;
+
+#[test]
+fn each_call_asks_what_its_line_says(rt: HostRuntime) -> Result<(), Fail> {
+    let image = assembled(rt.alloc(), ASKS_AGAIN)?;
+    let elements = Ask::Calloc { count: 3, size: 8 };
+    let again = Ask::Realloc {
+        old: 0x12000,
+        size: 40,
+    };
+    let choices: &[(u32, bool)] = &[(0x12000, true), (0x12020, false)];
+    // What stands in the two lines, and the answer.
+    let cases: [(&[Ask], Answer); 5] = [
+        (&[elements, again], Answer::Finished),
+        // A record of version 1 takes what is asked.
+        (&[], Answer::Finished),
+        (
+            &[Ask::Calloc { count: 8, size: 3 }, again],
+            Answer::Mismatch { step: 3 },
+        ),
+        (
+            &[Ask::Malloc { size: 24 }, again],
+            Answer::Mismatch { step: 3 },
+        ),
+        (
+            &[
+                elements,
+                Ask::Realloc {
+                    old: 0x12000,
+                    size: 41,
+                },
+            ],
+            Answer::Mismatch { step: 6 },
+        ),
+    ];
+    for (asks, answer) in cases {
+        let told = Told {
+            choices,
+            asks,
+            steps: 9,
             taken: 0,
         };
         expect_replay(&rt, rt.alloc(), &image, &HI, &told, answer, "")?;
@@ -181,6 +244,7 @@ fn expect_row(rt: &impl Abort, alloc: Global, row: Row<'_>) -> Result<(), Fail> 
     let played = Played { events, ..HI };
     let told = Told {
         choices,
+        asks: &[],
         steps,
         taken,
     };
@@ -254,6 +318,7 @@ fn a_run_that_fails_is_no_recorded_one(rt: HostRuntime) -> Result<(), Fail> {
     for (steps, answer) in cases {
         let told = Told {
             choices: &[],
+            asks: &[],
             steps,
             taken: 0,
         };

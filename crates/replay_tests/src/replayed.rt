@@ -3,7 +3,7 @@ ghost use Rattle.std.specs.Prelude.{◌≡◌, ◌*◌, ◌<◌, ◌^◌};
 ghost use Rattle.links.specs.MemoryLinks.{seen_in};
 ghost use Rattle.session_history.specs.Answering.{MayBegin};
 
-use block_book::{Choice, Choices};
+use block_book::Ask;
 use elf_image::Image;
 use links::MemoryLink;
 use msg_frame::Framing;
@@ -11,7 +11,7 @@ use replay::replay;
 use run_history::Answer;
 use rv_asm::assemble;
 use rx_io::Steps;
-use schedule_file::Recorded;
+use schedule_file::{Line, Lines, Recorded};
 use std::alloc::Global;
 use std::marker::Brand;
 use std::process::Abort;
@@ -31,10 +31,12 @@ pub struct Played<'a> {
     pub gones: &'a [(u64, usize)],
 }
 
-// What a record says of its run: each answer of malloc, and how many instructions and items.
+// What a record says of its run: each answer of the allocator, what was asked, and how many instructions and items. With no ask it is of
+// version 1.
 #[derive(Clone, Copy)]
 pub struct Told<'a> {
     pub choices: &'a [(u32, bool)],
+    pub asks: &'a [Ask],
     pub steps: u64,
     pub taken: u64,
 }
@@ -46,17 +48,19 @@ pub fn assembled(alloc: Global, text: &str) -> Result<Image, Fail> {
 
 // A record of lines, in a window of 1 MiB.
 fn recorded_of(alloc: Global, told: &Told<'_>) -> Result<Recorded, Fail> {
-    let mut choices = Vec::new(alloc);
-    for (at, zeroed) in told.choices {
-        choices.push(Choice {
+    let mut lines = Vec::new(alloc);
+    for (number, (at, zeroed)) in told.choices.iter().enumerate() {
+        lines.push(Line {
+            ask: told.asks.get(number).copied(),
             at: *at,
             zeroed: *zeroed,
         })?;
     }
     Ok(Recorded {
+        version: if told.asks.is_empty() { 1 } else { 2 },
         window: 1,
         frame: Framing::Line,
-        choices: Choices::from_vec(choices),
+        lines: Lines::from_vec(lines),
         steps: told.steps,
         taken: told.taken,
     })

@@ -1,5 +1,5 @@
 -- The live blocks of a machine are those of the layout of its heap, and stay so along a served run.
-use Rattle.run_history.proofs.Terms.{Bool, List, None, Option, Some, arith, cond, eqb, false, inl, inr, ltb, not, refl, true, ℕ, ◌≡◌, cases_Bool, cond_both, ℤ, Item, Choice, BranchOp, Instr, Auipc, Branch, Ebreak, Ecall, Fence, Jal, Jalr, Load, Lui, Op, OpImm, Store, displaced, is_taken, row, Area, execute, permitted, read, AssertFailed, BadAccess, BadCall, BadJump, Chooses, Effect, Emits, Ends, Fails, Goes, Machine, Wants, next_pc, register, branch, goes_on, jumps, answered, call, free, may_send, received, recv, send, takes, does, executed, instruction, word_at, instruction_at, Free, Malloc, Nothing, Request, request_of}
+use Rattle.run_history.proofs.Terms.{Bool, List, None, Option, Some, arith, cond, eqb, false, inl, inr, ltb, not, refl, subst, sym, true, ℕ, ◌≡◌, cases_Bool, cond_both, eqb-true, ℤ, Item, Calloc, Malloc, Realloc, Choice, BranchOp, Instr, Auipc, Branch, Ebreak, Ecall, Fence, Jal, Jalr, Load, Lui, Op, OpImm, Store, displaced, is_taken, row, Area, execute, permitted, read, AssertFailed, BadAccess, BadCall, BadJump, Chooses, Effect, Emits, Ends, Fails, Goes, Machine, Wants, next_pc, register, branch, goes_on, jumps, answered, call, free, may_send, received, recv, send, takes, does, executed, instruction, word_at, instruction_at, Allocate, Free, Nothing, call_request, request_of}
 
 -- the live blocks and the ends of the heap are as they were
 pub record SameHeap (m new : Machine) : Type 0 where
@@ -7,13 +7,13 @@ pub record SameHeap (m new : Machine) : Type 0 where
   pub start : new.heap_start ≡ m.heap_start
   pub end : new.heap_end ≡ m.heap_end
 
--- an effect leaves them so, and wants no answer of malloc
+-- an effect leaves them so, and wants no answer of the allocator
 abbrev pub LeavesHeap : Machine → Effect → Type 0
 LeavesHeap m (Goes new) = SameHeap m new
 LeavesHeap m (Emits conn bytes new) = SameHeap m new
 LeavesHeap m (Ends code) = Unit {0}
 LeavesHeap m Wants = Unit {0}
-LeavesHeap m (Chooses size) = ⊥
+LeavesHeap m (Chooses ask) = ⊥
 LeavesHeap m (Fails cause) = Unit {0}
 
 goes_leaves : (pc : ℕ) (registers : List ℕ) (memory : List Area) (m : Machine) → LeavesHeap m (goes_on pc registers memory m)
@@ -56,26 +56,33 @@ recv_leaves : (item : Option Item) (m : Machine) → LeavesHeap m (recv item m)
 recv_leaves item m =
     cond_both _ (takes m item) (Fails BadAccess) (LeavesHeap m) (λ _. takes_leaves item m) (λ _. tt)
 
--- a call other than malloc and free
-call_leaves : (m : Machine) (number : ℕ) (item : Option Item) (choice : Option Choice) → eqb number 3 ≡ false → eqb number 4 ≡ false → LeavesHeap m (call number item choice m)
-call_leaves m number item choice no_malloc no_free =
-    rw (no_malloc, no_free)
+-- a call that asks nothing of the allocator
+call_leaves : (m : Machine) (number : ℕ) (item : Option Item) (choice : Option Choice) → eqb number 3 ≡ false → eqb number 4 ≡ false → eqb number 7 ≡ false → eqb number 8 ≡ false → LeavesHeap m (call number item choice m)
+call_leaves m number item choice no_malloc no_free no_calloc no_realloc =
+    rw (no_malloc, no_free, no_calloc, no_realloc)
     (cond_both (eqb number 1) (recv item m) _ (LeavesHeap m) (λ _. recv_leaves item m) (λ _.
     cond_both (eqb number 2) (send m) _ (LeavesHeap m) (λ _. send_leaves m) (λ _.
     cond_both (eqb number 5) (Ends (register m 10)) _ (LeavesHeap m) (λ _. tt) (λ _.
     cond_both (eqb number 6) (Fails (AssertFailed (register m 10))) (Fails BadCall) (LeavesHeap m) (λ _. tt) (λ _. tt)))))
 
--- what the registers ask of the allocator at a call
-abbrev asks : Machine → Request
-asks m = cond (eqb (register m 17) 3) (Malloc (register m 10)) (cond (eqb (register m 17) 4) (Free (register m 10)) Nothing)
+-- a call of a number asks nothing of the allocator
+record IsNothing (number : ℕ) : Type 0 where
+  no_malloc : eqb number 3 ≡ false
+  no_free : eqb number 4 ≡ false
+  no_calloc : eqb number 7 ≡ false
+  no_realloc : eqb number 8 ≡ false
 
-nothing_number : (m : Machine) → asks m ≡ Nothing → (eqb (register m 17) 3 ≡ false) × (eqb (register m 17) 4 ≡ false)
-nothing_number m h = of_tests (eqb (register m 17) 3) (eqb (register m 17) 4) h
+nothing_number : (m : Machine) (number : ℕ) → call_request number m ≡ Nothing → IsNothing number
+nothing_number m number h = of_tests (eqb number 3) (eqb number 4) (eqb number 7) (eqb number 8) refl refl refl refl h
   where
-    of_tests : (first second : Bool) → cond first (Malloc (register m 10)) (cond second (Free (register m 10)) Nothing) ≡ Nothing → (first ≡ false) × (second ≡ false)
-    of_tests true second e = cc
-    of_tests false true e = cc
-    of_tests false false e = (refl, refl)
+    of_tests : (first second third fourth : Bool) → eqb number 3 ≡ first → eqb number 4 ≡ second → eqb number 7 ≡ third → eqb number 8 ≡ fourth
+        → cond first (Allocate (Malloc (register m 10))) (cond second (Free (register m 10)) (cond third (Allocate (Calloc (register m 10) (register m 11))) (cond fourth (Allocate (Realloc (register m 10) (register m 11))) Nothing))) ≡ Nothing
+        → IsNothing number
+    of_tests true second third fourth a b c d e = absurd (cc e)
+    of_tests false true third fourth a b c d e = absurd (cc e)
+    of_tests false false true fourth a b c d e = absurd (cc e)
+    of_tests false false false true a b c d e = absurd (cc e)
+    of_tests false false false false a b c d e = record { no_malloc = a; no_free = b; no_calloc = c; no_realloc = d }
 
 -- an instruction that asks nothing of the allocator leaves the heap as it is
 instruction_leaves : (instr : Instr) (m : Machine) (item : Option Item) (choice : Option Choice) → request_of (Some instr) m ≡ Nothing → LeavesHeap m (instruction instr item choice m)
@@ -90,7 +97,7 @@ instruction_leaves (Store operation rs1 rs2 imm) m item choice h = may_leaves _ 
 instruction_leaves (OpImm operation rd rs1 imm) m item choice h = goes_leaves _ _ _ m
 instruction_leaves (Op operation rd rs1 rs2) m item choice h = goes_leaves _ _ _ m
 instruction_leaves (Fence word) m item choice h = goes_leaves _ _ _ m
-instruction_leaves Ecall m item choice h = let n = nothing_number m h in call_leaves m (register m 17) item choice n.0 n.1
+instruction_leaves Ecall m item choice h = let n = nothing_number m (register m 17) h in call_leaves m (register m 17) item choice n.no_malloc n.no_free n.no_calloc n.no_realloc
 instruction_leaves Ebreak m item choice h = tt
 
 pub does_leaves : (m : Machine) (item : Option Item) (choice : Option Choice) → request_of (instruction_at m) m ≡ Nothing → LeavesHeap m (does item choice m)
@@ -105,29 +112,24 @@ does_leaves m item choice h =
     of_row None e = tt
     of_row (Some instr) e = instruction_leaves instr m item choice e
 
--- an instruction that frees
-call_frees : (m : Machine) (at : ℕ) → asks m ≡ Free at → (item : Option Item) (choice : Option Choice) → instruction Ecall item choice m ≡ free m
-unfolding instruction
-call_frees m at h item choice =
-    elim (cases_Bool (eqb (register m 17) 3)) [
-      | inl is ↦ absurd (never (rw is at h))
-      | inr not_malloc ↦ elim (cases_Bool (eqb (register m 17) 4)) [
-        | inl is ↦
-            let first : eqb (register m 17) 1 ≡ false = grind arith in
-            let second : eqb (register m 17) 2 ≡ false = grind arith in
-            rw (first, second, not_malloc, is) refl
-        | inr not_free ↦ absurd (nothing (rw (not_malloc, not_free) at h))
-      ]
+-- a call that frees
+pub call_frees : (m : Machine) (number at : ℕ) → call_request number m ≡ Free at → (item : Option Item) (choice : Option Choice) → call number item choice m ≡ free m
+call_frees m number at h item choice =
+    elim (cases_Bool (eqb number 4)) [
+      | inl is ↦ subst (λ n. call n item choice m ≡ free m) (sym (eqb-true number 4 is)) refl
+      | inr no_free ↦ absurd (of_tests (eqb number 3) (eqb number 7) (eqb number 8) (rw no_free at h))
     ]
   where
-    never : Malloc (register m 10) ≡ Free at → ⊥
-    never e = cc
+    of_tests : (first third fourth : Bool)
+        → cond first (Allocate (Malloc (register m 10))) (cond third (Allocate (Calloc (register m 10) (register m 11))) (cond fourth (Allocate (Realloc (register m 10) (register m 11))) Nothing)) ≡ Free at → ⊥
+    of_tests true third fourth e = cc
+    of_tests false true fourth e = cc
+    of_tests false false true e = cc
+    of_tests false false false e = cc
 
-    nothing : Nothing ≡ Free at → ⊥
-    nothing e = cc
-
+-- an instruction that frees
 pub frees : (m : Machine) (at : ℕ) → request_of (instruction_at m) m ≡ Free at → (item : Option Item) (choice : Option Choice) → does item choice m ≡ free m
-unfolding does instruction_at
+unfolding does instruction_at instruction
 frees m at h item choice =
     elim (cases_Bool (permitted execute m.memory m.pc 4)) [
       | inl may ↦ rw may (of_row (row (word_at m)) (rw may at h))
@@ -139,32 +141,23 @@ frees m at h item choice =
 
     of_row : (found : Option Instr) → request_of found m ≡ Free at → executed found item choice m ≡ free m
     of_row None e = absurd (never e)
-    of_row (Some Ecall) e = call_frees m at e item choice
+    of_row (Some Ecall) e = call_frees m (register m 17) at e item choice
     of_row (Some _) e = absurd (never e)
 
--- what a request asks for is what register 10 has
-pub requested_size : (m : Machine) (size : ℕ) → request_of (instruction_at m) m ≡ Malloc size → size ≡ register m 10
-requested_size m size h = of_found (instruction_at m) h
-  where
-    of_tests : (first second : Bool) → cond first (Malloc (register m 10)) (cond second (Free (register m 10)) Nothing) ≡ Malloc size → size ≡ register m 10
-    of_tests true second e = cc
-    of_tests false true e = cc
-    of_tests false false e = cc
-
-    of_found : (found : Option Instr) → request_of found m ≡ Malloc size → size ≡ register m 10
-    of_found None e = cc
-    of_found (Some Ecall) e = of_tests (eqb (register m 17) 3) (eqb (register m 17) 4) e
-    of_found (Some _) e = cc
-
+-- what a free frees is at the address in register 10
 pub requested_address : (m : Machine) (at : ℕ) → request_of (instruction_at m) m ≡ Free at → at ≡ register m 10
 requested_address m at h = of_found (instruction_at m) h
   where
-    of_tests : (first second : Bool) → cond first (Malloc (register m 10)) (cond second (Free (register m 10)) Nothing) ≡ Free at → at ≡ register m 10
-    of_tests true second e = cc
-    of_tests false true e = cc
-    of_tests false false e = cc
+    of_tests : (first second third fourth : Bool)
+        → cond first (Allocate (Malloc (register m 10))) (cond second (Free (register m 10)) (cond third (Allocate (Calloc (register m 10) (register m 11))) (cond fourth (Allocate (Realloc (register m 10) (register m 11))) Nothing))) ≡ Free at
+        → at ≡ register m 10
+    of_tests true second third fourth e = absurd (cc e)
+    of_tests false true third fourth e = cc
+    of_tests false false true fourth e = absurd (cc e)
+    of_tests false false false true e = absurd (cc e)
+    of_tests false false false false e = absurd (cc e)
 
     of_found : (found : Option Instr) → request_of found m ≡ Free at → at ≡ register m 10
     of_found None e = cc
-    of_found (Some Ecall) e = of_tests (eqb (register m 17) 3) (eqb (register m 17) 4) e
+    of_found (Some Ecall) e = of_tests (eqb (register m 17) 3) (eqb (register m 17) 4) (eqb (register m 17) 7) (eqb (register m 17) 8) e
     of_found (Some _) e = cc

@@ -8,7 +8,7 @@ use Rattle.rv_isa.specs.declared.instr.ImmOp.TheVariants.{Addi, Srai}
 use Rattle.rv_isa.specs.declared.instr.RegOp.TheVariants.{Add, Div}
 use Rattle.elf_image.specs.declared.segment.Segment.{Segment}
 use Rattle.elf_image.specs.Layout.{heap_floor, IsPlaced, overlap, no_load, bad_entry, too_large, layout_refusal}
-use Rattle.run_history.proofs.Terms.{Bool, List, None, Option, Some, [], false, length, lit<, lit≤, map, refl, true, ℕ, ◌++◌, ◌∷◌, ◌≡◌, flat_map, negsuc, option_and_then, pos, Item, sent_to, Choice, is_allowed, is_clear, Delay, Pad, Plain, Branch, Ecall, Jal, Load, Lui, Op, OpImm, Store, displaced, extended, indirect_target, is_less_signed, quotient_signed, shifted_right_signed, word_sum, base_op, branch_op, branch_row, imm_op, imm_row, load_op, load_row, op_row, reg_op, row, store_op, store_row, system_row, funct3, funct7, imm_b, imm_i, imm_j, imm_s, imm_u, little_bytes, little_number, opcode, rd, rs1, rs2, Image, base, heap_end, heap_start, memory_of, stack_top, written, zeros, Area, byte_at, bytes_at, execute, permitted, put_bytes, read, write, AssertFailed, BadAccess, BadCall, BadJump, Hang, Chooses, Emits, Ends, Fails, Goes, Machine, State, register, start_machine, with_register, auipc, branch, ebreak, fence, jal, jalr, load, op, op_imm, store, allocated, answered, call, freed, received, send, does, instruction, next, run, Guest, Limits, Override, env_at, serves}
+use Rattle.run_history.proofs.Terms.{Bool, List, None, Option, Some, [], false, length, lit<, lit≤, map, refl, replicate, true, ℕ, ◌++◌, ◌∷◌, ◌≡◌, flat_map, negsuc, option_and_then, pos, Item, sent_to, Calloc, Malloc, Realloc, Choice, is_allowed, is_block, is_clear, Delay, Pad, Plain, Branch, Ecall, Jal, Load, Lui, Op, OpImm, Store, displaced, extended, indirect_target, is_less_signed, quotient_signed, shifted_right_signed, word_sum, base_op, branch_op, branch_row, imm_op, imm_row, load_op, load_row, op_row, reg_op, row, store_op, store_row, system_row, funct3, funct7, imm_b, imm_i, imm_j, imm_s, imm_u, little_bytes, little_number, opcode, rd, rs1, rs2, Image, base, heap_end, heap_start, memory_of, stack_top, written, zeros, Area, byte_at, bytes_at, execute, permitted, put_bytes, read, write, AssertFailed, BadAccess, BadCall, BadFree, BadJump, Hang, Chooses, Emits, Ends, Fails, Goes, Machine, State, register, start_machine, with_register, auipc, branch, ebreak, fence, jal, jalr, load, op, op_imm, store, allocated, answered, call, freed, received, send, set_bytes, does, instruction, next, run, Guest, Limits, Override, env_at, serves}
 
 -- A program that sends back each message. Its words, as an assembler gives them:
 abbrev pub echo : List ℕ
@@ -503,8 +503,8 @@ send_some = refl
 pub no_such_call : call 0 None None waiting ≡ Fails BadCall
 no_such_call = refl
 
-pub no_seventh_call : call 7 None None waiting ≡ Fails BadCall
-no_seventh_call = refl
+pub no_ninth_call : call 9 None None waiting ≡ Fails BadCall
+no_ninth_call = refl
 
 pub end_with_code : call 5 None None (sending 7 0 0) ≡ Ends 7
 end_with_code = refl
@@ -517,37 +517,121 @@ abbrev pub asking : Machine
 asking = record (sending 20 0 0) { blocks = (0x1010, 16) ∷ [] }
 
 abbrev pub choosing : ℕ → Bool → Option Choice
-choosing at zeroed = Some (record { at = at; zeroed = zeroed })
+choosing at zeroed = Some (record { ask = Malloc 20; at = at; zeroed = zeroed })
 
-pub malloc_unanswered : call 3 None None asking ≡ Chooses 20
+pub malloc_unanswered : call 3 None None asking ≡ Chooses (Malloc 20)
 malloc_unanswered = refl
 
 pub malloc_null : call 3 None (choosing 0 false) asking ≡ Goes (record asking { pc = 16; registers = with_register 10 0 asking.registers; allocations = 1; since = 1 })
-unfolding is_allowed is_clear allocated
+unfolding is_allowed is_block is_clear allocated set_bytes
 malloc_null = refl
 
 -- behind the live block, and in the first bytes of the heap, into which 20 bytes don't fit
 pub malloc_behind : call 3 None (choosing 0x1020 false) asking ≡
     Goes (record asking { pc = 16; registers = with_register 10 0x1020 asking.registers; blocks = (0x1010, 16) ∷ (0x1020, 20) ∷ []; allocations = 1; since = 1 })
-unfolding is_allowed is_clear allocated
+unfolding is_allowed is_block is_clear allocated set_bytes
 malloc_behind = refl
 
-pub malloc_overlaps : call 3 None (choosing 0x1000 false) asking ≡ Chooses 20
-unfolding is_allowed is_clear
+pub malloc_overlaps : call 3 None (choosing 0x1000 false) asking ≡ Chooses (Malloc 20)
+unfolding is_allowed is_block is_clear
 malloc_overlaps = refl
 
 -- no multiple of 16; past the end of the heap; null that is zeroed
-pub malloc_unaligned : call 3 None (choosing 0x1028 false) asking ≡ Chooses 20
-unfolding is_allowed is_clear
+pub malloc_unaligned : call 3 None (choosing 0x1028 false) asking ≡ Chooses (Malloc 20)
+unfolding is_allowed is_block is_clear
 malloc_unaligned = refl
 
-pub malloc_past_the_end : call 3 None (choosing 0x1ff0 false) asking ≡ Chooses 20
-unfolding is_allowed is_clear
+pub malloc_past_the_end : call 3 None (choosing 0x1ff0 false) asking ≡ Chooses (Malloc 20)
+unfolding is_allowed is_block is_clear
 malloc_past_the_end = refl
 
-pub malloc_zeroed_null : call 3 None (choosing 0 true) asking ≡ Chooses 20
-unfolding is_allowed is_clear
+pub malloc_zeroed_null : call 3 None (choosing 0 true) asking ≡ Chooses (Malloc 20)
+unfolding is_allowed is_block is_clear
 malloc_zeroed_null = refl
+
+-- a calloc of 3 elements of 4 bytes, and a heap of 64 bytes that are 1, in which a block of 4 is live at 0x1010
+abbrev heap_bytes : ℕ → ℕ → List ℕ → List ℕ → List Area
+heap_bytes before behind old new = record { start = 0x1000; flags = 6; bytes = replicate 16 1 ++ old ++ replicate before 1 ++ new ++ replicate behind 1 } ∷ []
+
+abbrev pub asking_again : ℕ → ℕ → Machine
+asking_again first second = record asking {
+  registers = with_register 10 first (with_register 11 second asking.registers);
+  memory = heap_bytes 28 0 (1 ∷ 2 ∷ 3 ∷ 4 ∷ []) (replicate 16 1);
+  heap_end = 0x1040;
+  blocks = (0x1010, 4) ∷ [];
+}
+
+-- the machine once such a call was answered
+abbrev pub answered_again : ℕ → ℕ → ℕ → List Area → List (ℕ × ℕ) → Machine
+answered_again first second at memory blocks =
+    record (asking_again first second) { pc = 16; registers = with_register 10 at (asking_again first second).registers; memory = memory; blocks = blocks; allocations = 1; since = 1 }
+
+pub calloc_unanswered : call 7 None None (asking_again 3 4) ≡ Chooses (Calloc 3 4)
+calloc_unanswered = refl
+
+pub calloc_zeroes : call 7 None (Some (record { ask = Calloc 3 4; at = 0x1020; zeroed = true })) (asking_again 3 4) ≡
+    Goes (answered_again 3 4 0x1020 (heap_bytes 12 20 (1 ∷ 2 ∷ 3 ∷ 4 ∷ []) (replicate 12 0)) ((0x1010, 4) ∷ (0x1020, 12) ∷ []))
+unfolding is_allowed is_block is_clear allocated set_bytes
+calloc_zeroes = refl
+
+pub calloc_unzeroed : call 7 None (Some (record { ask = Calloc 3 4; at = 0x1020; zeroed = false })) (asking_again 3 4) ≡ Chooses (Calloc 3 4)
+unfolding is_allowed is_block is_clear
+calloc_unzeroed = refl
+
+-- an answer whose numbers stand the other way round, and one to a malloc of as many bytes
+pub calloc_swapped : call 7 None (Some (record { ask = Calloc 4 3; at = 0x1020; zeroed = true })) (asking_again 3 4) ≡ Chooses (Calloc 3 4)
+unfolding is_allowed
+calloc_swapped = refl
+
+pub calloc_as_malloc : call 7 None (Some (record { ask = Malloc 12; at = 0x1020; zeroed = true })) (asking_again 3 4) ≡ Chooses (Calloc 3 4)
+unfolding is_allowed
+calloc_as_malloc = refl
+
+-- a product that is 0 in 32 bits
+pub calloc_too_many : call 7 None (Some (record { ask = Calloc 65536 65536; at = 0x1020; zeroed = true })) (asking_again 65536 65536) ≡ Chooses (Calloc 65536 65536)
+unfolding is_allowed is_block
+calloc_too_many = refl
+
+-- the block of 4 bytes becomes one of 6: its bytes are moved, and the two behind them stay; or are 0, where the answer is zeroed
+pub realloc_grows : call 8 None (Some (record { ask = Realloc 0x1010 6; at = 0x1020; zeroed = false })) (asking_again 0x1010 6) ≡
+    Goes (answered_again 0x1010 6 0x1020 (heap_bytes 12 26 (1 ∷ 2 ∷ 3 ∷ 4 ∷ []) (1 ∷ 2 ∷ 3 ∷ 4 ∷ 1 ∷ 1 ∷ [])) ((0x1020, 6) ∷ []))
+unfolding is_allowed is_block is_clear allocated set_bytes
+realloc_grows = refl
+
+pub realloc_zeroes : call 8 None (Some (record { ask = Realloc 0x1010 6; at = 0x1020; zeroed = true })) (asking_again 0x1010 6) ≡
+    Goes (answered_again 0x1010 6 0x1020 (heap_bytes 12 26 (1 ∷ 2 ∷ 3 ∷ 4 ∷ []) (1 ∷ 2 ∷ 3 ∷ 4 ∷ 0 ∷ 0 ∷ [])) ((0x1020, 6) ∷ []))
+unfolding is_allowed is_block is_clear allocated set_bytes
+realloc_zeroes = refl
+
+-- one of 2; one of none
+pub realloc_shrinks : call 8 None (Some (record { ask = Realloc 0x1010 2; at = 0x1020; zeroed = false })) (asking_again 0x1010 2) ≡
+    Goes (answered_again 0x1010 2 0x1020 (heap_bytes 12 30 (1 ∷ 2 ∷ 3 ∷ 4 ∷ []) (1 ∷ 2 ∷ [])) ((0x1020, 2) ∷ []))
+unfolding is_allowed is_block is_clear allocated set_bytes
+realloc_shrinks = refl
+
+pub realloc_to_none : call 8 None (Some (record { ask = Realloc 0x1010 0; at = 0x1020; zeroed = false })) (asking_again 0x1010 0) ≡
+    Goes (answered_again 0x1010 0 0x1020 (heap_bytes 28 0 (1 ∷ 2 ∷ 3 ∷ 4 ∷ []) (replicate 16 1)) ((0x1020, 0) ∷ []))
+unfolding is_allowed is_block is_clear allocated set_bytes
+realloc_to_none = refl
+
+-- the old block stands while the new one is placed, and stays where the answer is null
+pub realloc_in_place : call 8 None (Some (record { ask = Realloc 0x1010 2; at = 0x1010; zeroed = false })) (asking_again 0x1010 2) ≡ Chooses (Realloc 0x1010 2)
+unfolding is_allowed is_block is_clear
+realloc_in_place = refl
+
+pub realloc_null : call 8 None (Some (record { ask = Realloc 0x1010 6; at = 0; zeroed = false })) (asking_again 0x1010 6) ≡
+    Goes (answered_again 0x1010 6 0 (heap_bytes 28 0 (1 ∷ 2 ∷ 3 ∷ 4 ∷ []) (replicate 16 1)) ((0x1010, 4) ∷ []))
+unfolding is_allowed allocated set_bytes
+realloc_null = refl
+
+-- of null it is as malloc; of what isn't live it is bad, answered or not
+pub realloc_of_null : call 8 None (Some (record { ask = Realloc 0 6; at = 0x1020; zeroed = false })) (asking_again 0 6) ≡
+    Goes (answered_again 0 6 0x1020 (heap_bytes 28 0 (1 ∷ 2 ∷ 3 ∷ 4 ∷ []) (replicate 16 1)) ((0x1010, 4) ∷ (0x1020, 6) ∷ []))
+unfolding is_allowed is_block is_clear allocated set_bytes
+realloc_of_null = refl
+
+pub realloc_of_none : call 8 None None (asking_again 0x1018 6) ≡ Fails BadFree
+realloc_of_none = refl
 
 -- free of a live block, and of an address at which none is live
 pub free_live : call 4 None None (record asking { registers = with_register 10 0x1010 asking.registers }) ≡

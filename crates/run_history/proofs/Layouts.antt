@@ -1,9 +1,9 @@
--- Along a served run the live blocks of the machine are those of the layout of its heap, so each malloc is answered.
-use Rattle.alloc_env.proofs.Mallocs.{malloc-serves}
+-- Along a served run the live blocks of the machine are those of the layout of its heap, so each ask is answered.
+use Rattle.alloc_env.proofs.Mallocs.{ask-serves}
 use Rattle.alloc_env.proofs.Frees.{free-follows}
-use Rattle.run_history.proofs.Terms.{Bool, List, Some, ap, cond, false, refl, subst, sym, true, ℕ, ◌∙◌, ◌≡◌, none-some, same_Some, slice_get, Item, Choice, is_allowed, live_blocks, without_live, Heap, IsHeap, Env, live_with, served_malloc, Chooses, Effect, Emits, Ends, Fails, Goes, Machine, State, Wants, register, allocated, chooses, free, freed, after, does, instruction_at, Free, Grant, IsLaidOut, Limits, Malloc, Nothing, Path, Request, grant, granted, guest_of, request_of}
-use Rattle.run_history.proofs.Serves.{ServesTo, mallocs, map_some}
-use Rattle.run_history.proofs.Blocks.{SameHeap, LeavesHeap, does_leaves, frees, requested_size, requested_address}
+use Rattle.run_history.proofs.Terms.{Bool, List, Some, ap, cond, false, refl, subst, sym, true, ℕ, ◌∙◌, ◌≡◌, none-some, same_Some, slice_get, Item, Ask, Choice, live_blocks, live_with, without_live, Heap, IsHeap, Env, Served, Chooses, Effect, Emits, Ends, Fails, Goes, Machine, State, Wants, register, allocated, allocation, free, freed, after, does, instruction_at, Allocate, Free, Grant, IsLaidOut, Limits, Nothing, Path, Request, grant, granted, guest_of, request_of}
+use Rattle.run_history.proofs.Serves.{ServesTo, allocates, chosen_after, map_some}
+use Rattle.run_history.proofs.Blocks.{SameHeap, LeavesHeap, does_leaves, frees, requested_address}
 
 -- where nothing was asked of the allocator, the machine's heap is as it was
 left_after : (s t : State) (e : Effect) → LeavesHeap s.machine e → after s e ≡ Some t → SameHeap s.machine t.machine
@@ -11,7 +11,7 @@ left_after s t (Goes new) leaves h = let same = ap (λ (v : State). v.machine) (
 left_after s t (Emits conn bytes new) leaves h = let same = ap (λ (v : State). v.machine) (same_Some _ t h) in rw (← same) leaves
 left_after s t (Ends code) leaves h = let same = ap (λ (v : State). v.machine) (same_Some _ t h) in rw (← same) (record { blocks = refl; start = refl; end = refl })
 left_after s t Wants leaves h = absurd (none-some t h)
-left_after s t (Chooses size) leaves h = absurd leaves
+left_after s t (Chooses ask) leaves h = absurd leaves
 left_after s t (Fails cause) leaves h = absurd (none-some t h)
 
 -- a machine with this heap is laid out so
@@ -19,18 +19,13 @@ laid : (m : Machine) (heap : Heap) (live : List (ℕ × ℕ)) → IsHeap heap �
     → IsLaidOut (record { machine = m; heap = heap })
 laid m heap live sound start end blocks is = record { sound = sound; start = start; end = end; live = blocks ∙ sym is }
 
--- where malloc was answered, the block is live
-allocated_after : (s t : State) (size : ℕ) (choice : Choice) → after s (chooses size s.machine (Some choice)) ≡ Some t
-    → (t.machine.blocks ≡ live_with choice size s.machine.blocks) × (t.machine.heap_start ≡ s.machine.heap_start) × (t.machine.heap_end ≡ s.machine.heap_end)
+-- where an ask was answered, the block is live, and the one that it replaces isn't any more
+allocated_after : (s t : State) (ask : Ask) (choice : Choice) → after s (allocation ask (Some choice) s.machine) ≡ Some t
+    → (t.machine.blocks ≡ live_with choice s.machine.blocks) × (t.machine.heap_start ≡ s.machine.heap_start) × (t.machine.heap_end ≡ s.machine.heap_end)
 unfolding allocated
-allocated_after s t size choice h = of_test (is_allowed s.machine.heap_start s.machine.heap_end s.machine.blocks size choice) h
-  where
-    of_test : (b : Bool) → after s (cond b (Goes (allocated size choice s.machine)) (Chooses size)) ≡ Some t
-        → (t.machine.blocks ≡ live_with choice size s.machine.blocks) × (t.machine.heap_start ≡ s.machine.heap_start) × (t.machine.heap_end ≡ s.machine.heap_end)
-    of_test true e =
-        let same = ap (λ (v : State). v.machine) (same_Some _ t e) in
-        (sym (ap (λ (m : Machine). m.blocks) same), sym (ap (λ (m : Machine). m.heap_start) same), sym (ap (λ (m : Machine). m.heap_end) same))
-    of_test false e = absurd (none-some t e)
+allocated_after s t ask choice h =
+    let same = chosen_after s t ask choice h in
+    (ap (λ (m : Machine). m.blocks) same, ap (λ (m : Machine). m.heap_start) same, ap (λ (m : Machine). m.heap_end) same)
 
 -- where a block was freed, it isn't live any more
 freed_after : (s t : State) → after s (free s.machine) ≡ Some t
@@ -57,20 +52,19 @@ laid_out_next limits items env path to out parts = of_request (request_of (instr
         let kept = left_after path.state to.state _ (does_leaves path.state.machine (slice_get items path.state.machine.taken) parts.given.chosen asked) parts.goes in
         with_heap path.heap (sym (ap (λ (g : Grant). g.heap) same))
         (laid to.state.machine path.heap path.state.machine.blocks out.sound (kept.start ∙ out.start) (kept.end ∙ out.end) kept.blocks (sym out.live))
-    of_request (Malloc size) asked given =
-        let same = same_Some _ parts.given given in
-        let served = served_malloc env path.heap size in
-        let law = malloc-serves env path.heap size out.sound in
-        let chosen : parts.given.chosen ≡ Some served.choice = sym (ap (λ (g : Grant). g.chosen) same) in
-        let goes : after path.state (chooses (register path.state.machine 10) path.state.machine (Some served.choice)) ≡ Some to.state =
-        ap (after path.state) (sym (mallocs path.state.machine size asked (slice_get items path.state.machine.taken) (Some served.choice)))
+    of_request (Allocate ask) asked given =
+        let found = map_some _ _ parts.given given in
+        let served : Served = found.0 in
+        let law = ask-serves env path.heap ask served out.sound found.1 in
+        let chosen : parts.given.chosen ≡ Some served.choice = sym (ap (λ (g : Grant). g.chosen) found.2) in
+        let goes : after path.state (allocation ask (Some served.choice) path.state.machine) ≡ Some to.state =
+        ap (after path.state) (sym (allocates path.state.machine ask asked (slice_get items path.state.machine.taken) (Some served.choice)))
         ∙ ap (λ c. after path.state (does (slice_get items path.state.machine.taken) c path.state.machine)) (sym chosen)
         ∙ parts.goes in
-        let kept = allocated_after path.state to.state (register path.state.machine 10) served.choice goes in
-        let sized : register path.state.machine 10 ≡ size = sym (requested_size path.state.machine size asked) in
-        with_heap served.heap (sym (ap (λ (g : Grant). g.heap) same))
-        (laid to.state.machine served.heap (live_with served.choice size (live_blocks path.heap.blocks)) law.sound (kept.1 ∙ out.start ∙ sym law.start) (kept.2 ∙ out.end ∙ sym law.end)
-        (kept.0 ∙ ap (λ n. live_with served.choice n path.state.machine.blocks) sized ∙ ap (live_with served.choice size) out.live) law.live)
+        let kept = allocated_after path.state to.state ask served.choice goes in
+        with_heap served.heap (sym (ap (λ (g : Grant). g.heap) found.2))
+        (laid to.state.machine served.heap (live_with served.choice (live_blocks path.heap.blocks)) law.sound (kept.1 ∙ out.start ∙ sym law.start) (kept.2 ∙ out.end ∙ sym law.end)
+        (kept.0 ∙ ap (live_with served.choice) out.live) law.live)
     of_request (Free at) asked given =
         let found = map_some _ _ parts.given given in
         let law = free-follows env path.heap found.0 at out.sound found.1 in

@@ -31,7 +31,7 @@ after_sends s t (Goes m) h = let e = ap (λ (v : State). v.sends) (same_Some _ t
 after_sends s t (Emits conn bytes m) h = let e = ap (λ (v : State). v.sends) (same_Some _ t h) in (_, e)
 after_sends s t (Ends code) h = let e = ap (λ (v : State). v.sends) (same_Some _ t h) in rw (← e) (prefix_same s.sends)
 after_sends s t Wants h = absurd (none-some t h)
-after_sends s t (Chooses size) h = absurd (none-some t h)
+after_sends s t (Chooses ask) h = absurd (none-some t h)
 after_sends s t (Fails cause) h = absurd (none-some t h)
 
 -- one instruction only adds to the sends

@@ -1,8 +1,8 @@
--- Laws of runs: they compose, they don't depend on items and answers of malloc behind those that they take, and what a
+-- Laws of runs: they compose, they don't depend on items and answers of the allocator behind those that they take, and what a
 -- machine does by itself is what a run does.
-use Rattle.run_history.proofs.Terms.{List, None, Option, Some, [], ap, arith, length, refl, suc, sym, zero, ℕ, ◌++◌, ◌+◌, ◌∙◌, ◌∷◌, ◌≡◌, ◌≢◌, get_or_push, length_push, none-some, slice_get-get_or, slice_get_past, slice_get, Item, Choice, Chooses, Effect, Emits, Ends, Fails, Goes, Machine, State, Wants, register, with_register, allocated, chooses, connections_after, received, takes, after, does, effect, next, run}
+use Rattle.run_history.proofs.Terms.{Bool, List, None, Option, Some, [], ap, arith, cond, eqb, false, length, length-append, refl, replicate, suc, sym, true, zero, ℕ, ◌++◌, ◌+◌, ◌-◌, ◌∙◌, ◌∷◌, ◌≡◌, ◌≢◌, ◌≤◌, get_or_push, length-replicate, length_push, none-some, slice_get-get_or, slice_get_past, slice_get, Item, Ask, Choice, bytes_asked, replaced, read, Chooses, Effect, Emits, Ends, Fails, Goes, Machine, State, Wants, register, with_register, allocated, chooses, connections_after, kept_bytes, kept_count, received, set_bytes, set_count, takes, after, does, effect, next, run}
 use Rattle.run_history.proofs.Repeats.{repeated_from, repeated_join, repeated_one, repeated_as}
-use Rattle.run_history.proofs.Shapes.{MaySend, Alone, Shape, Same, Takes, Picks, does_shape, length-with_register}
+use Rattle.run_history.proofs.Shapes.{MaySend, Alone, Shape, Same, Takes, Picks, does_shape, length-bytes_at, length-with_register}
 
 -- an element keeps its number when others come behind
 pub slice_get_longer : {X : Type 0} (xs ys : List X) (i : ℕ) (x : X) → slice_get xs i ≡ Some x → slice_get (xs ++ ys) i ≡ Some x
@@ -18,10 +18,10 @@ element_behind xs x n e = slice_get-get_or (xs ++ x ∷ []) n x (omega (arith, l
 pub element_none : {X : Type 0} (xs : List X) (n : ℕ) → length xs ≡ n → slice_get xs n ≡ None
 element_none xs n e = slice_get_past xs n (omega arith)
 
--- an effect wants neither an item nor an answer of malloc
+-- an effect wants neither an item nor an answer of the allocator
 pub record IsSettled (e : Effect) : Type 0 where
   pub no_item : e ≢ Wants
-  pub no_choice : (size : ℕ) → e ≢ Chooses size
+  pub no_choice : (ask : Ask) → e ≢ Chooses ask
 
 -- what is there, or nothing
 pub data Extends {X : Type 0} : Option X → Option X → Type 0 where
@@ -39,12 +39,12 @@ takes_more : (m : Machine) (item other : Option Item) (e : Effect) → Extends i
 takes_more m _ _ e (Later o) was settled = absurd (settled.no_item (sym was))
 takes_more m _ _ e (Kept item) was settled = was
 
--- what malloc does with an answer it does however many come behind
-chooses_more : (size : ℕ) (m : Machine) (choice other : Option Choice) (e : Effect) → Extends choice other → chooses size m choice ≡ e → IsSettled e → chooses size m other ≡ e
-chooses_more size m _ _ e (Later o) was settled = absurd (settled.no_choice size (sym was))
-chooses_more size m _ _ e (Kept choice) was settled = was
+-- what an ask does with an answer it does however many come behind
+chooses_more : (ask : Ask) (m : Machine) (choice other : Option Choice) (e : Effect) → Extends choice other → chooses ask m choice ≡ e → IsSettled e → chooses ask m other ≡ e
+chooses_more ask m _ _ e (Later o) was settled = absurd (settled.no_choice ask (sym was))
+chooses_more ask m _ _ e (Kept choice) was settled = was
 
--- a settled effect stays as it is when the next item, or the next answer of malloc, comes
+-- a settled effect stays as it is when the next item, or the next answer of the allocator, comes
 pub does_more : (m : Machine) (item other : Option Item) (choice choice' : Option Choice) (e : Effect) → Extends item other → Extends choice choice'
     → does item choice m ≡ e → IsSettled e → does other choice' m ≡ e
 does_more m item other choice choice' e items choices was settled = of_shape (does_shape m)
@@ -52,7 +52,7 @@ does_more m item other choice choice' e items choices was settled = of_shape (do
     of_shape : Shape m (λ item choice. does item choice m) → does other choice' m ≡ e
     of_shape (Same same _ is) = is other choice' ∙ sym (is item choice) ∙ was
     of_shape (Takes may is) = is other choice' ∙ takes_more m item other e items (sym (is item choice) ∙ was) settled
-    of_shape (Picks is) = is other choice' ∙ chooses_more (register m 10) m choice choice' e choices (sym (is item choice) ∙ was) settled
+    of_shape (Picks ask good is) = is other choice' ∙ chooses_more ask m choice choice' e choices (sym (is item choice) ∙ was) settled
 
 -- so does one of lists, as others come behind
 pub effect_longer : (items more : List Item) (choices others : List Choice) (m : Machine) (e : Effect) → effect items choices m ≡ e → IsSettled e → effect (items ++ more) (choices ++ others) m ≡ e
@@ -66,11 +66,11 @@ next_after items choices s e lives does = rw (lives, does) refl
 
 -- an effect after which something comes is settled
 pub settled_after : (s t : State) (e : Effect) → after s e ≡ Some t → IsSettled e
-settled_after s t (Goes m) h = record { no_item = (λ e. cc); no_choice = (λ size e. cc) }
-settled_after s t (Emits conn bytes m) h = record { no_item = (λ e. cc); no_choice = (λ size e. cc) }
-settled_after s t (Ends code) h = record { no_item = (λ e. cc); no_choice = (λ size e. cc) }
+settled_after s t (Goes m) h = record { no_item = (λ e. cc); no_choice = (λ ask e. cc) }
+settled_after s t (Emits conn bytes m) h = record { no_item = (λ e. cc); no_choice = (λ ask e. cc) }
+settled_after s t (Ends code) h = record { no_item = (λ e. cc); no_choice = (λ ask e. cc) }
 settled_after s t Wants h = absurd (none-some t h)
-settled_after s t (Chooses size) h = absurd (none-some t h)
+settled_after s t (Chooses ask) h = absurd (none-some t h)
 settled_after s t (Fails cause) h = absurd (none-some t h)
 
 -- a state after which something comes hasn't ended, and this is what comes after its effect
@@ -84,7 +84,7 @@ next_parts items choices s t goes =
     not_ended None is = is
     not_ended (Some code) is = absurd (none-some t (rw is at goes))
 
--- one instruction is unchanged by more items and answers of malloc behind
+-- one instruction is unchanged by more items and answers of the allocator behind
 pub next_more : (items more : List Item) (choices others : List Choice) (s t : State) → next items choices s ≡ Some t → next (items ++ more) (choices ++ others) s ≡ Some t
 next_more items more choices others s t goes =
     let parts = next_parts items choices s t goes in
@@ -92,7 +92,7 @@ next_more items more choices others s t goes =
     let longer = effect_longer items more choices others s.machine (effect items choices s.machine) refl settled in
     next_after (items ++ more) (choices ++ others) s (effect items choices s.machine) parts.0 longer ∙ parts.1
 
--- a run is unchanged by more items and answers of malloc behind
+-- a run is unchanged by more items and answers of the allocator behind
 pub run_more : (items more : List Item) (choices others : List Choice) (s t : State) (n : ℕ) → run items choices s n ≡ Some t → run (items ++ more) (choices ++ others) s n ≡ Some t
 run_more items more choices others s t n ran =
     repeated_as (next items choices) (next (items ++ more) (choices ++ others)) (λ x y goes. next_more items more choices others x y goes) n s t ran
@@ -109,26 +109,26 @@ run_join items choices s t u n m first second = repeated_join (next items choice
 pub run_one : (items : List Item) (choices : List Choice) (s t u : State) (n : ℕ) → run items choices s n ≡ Some t → next items choices t ≡ Some u → run items choices s (n + 1) ≡ Some u
 run_one items choices s t u n first second = repeated_one (next items choices) s t u n first second
 
--- what is known of an effect that needs neither an item nor an answer of malloc
+-- what is known of an effect that needs neither an item nor an answer of the allocator
 pub alone_is : (m : Machine) (e : Effect) → does None None m ≡ e → IsSettled e → Alone m e
 alone_is m e acts settled = of_shape (does_shape m)
   where
     of_shape : Shape m (λ item choice. does item choice m) → Alone m e
     of_shape (Same same alone is) = rw (sym acts ∙ is None None) alone
     of_shape (Takes may is) = absurd (settled.no_item (sym acts ∙ is None None))
-    of_shape (Picks is) = absurd (settled.no_choice (register m 10) (sym acts ∙ is None None))
+    of_shape (Picks ask good is) = absurd (settled.no_choice ask (sym acts ∙ is None None))
 
 -- a send sends some bytes, not too many, to a connection that may be sent to
 pub emits_may : (m new : Machine) (conn : ℕ) (bytes : List ℕ) → does None None m ≡ Emits conn bytes new → MaySend m conn bytes
 emits_may m new conn bytes acts =
-    (alone_is m (Emits conn bytes new) acts (record { no_item = (λ e. cc); no_choice = (λ size e. cc) })).1
+    (alone_is m (Emits conn bytes new) acts (record { no_item = (λ e. cc); no_choice = (λ ask e. cc) })).1
 
 -- what is there extends itself
 pub extends_same : {X : Type 0} (o : Option X) → Extends o o
 extends_same None = Later None
 extends_same (Some x) = Kept x
 
--- one instruction is unchanged by more answers of malloc behind
+-- one instruction is unchanged by more answers of the allocator behind
 pub next_chosen : (items : List Item) (choices others : List Choice) (s t : State) → next items choices s ≡ Some t → next items (choices ++ others) s ≡ Some t
 next_chosen items choices others s t goes =
     let parts = next_parts items choices s t goes in
@@ -136,7 +136,7 @@ next_chosen items choices others s t goes =
     let longer = does_more s.machine _ _ _ _ (effect items choices s.machine) (extends_same (slice_get items s.machine.taken)) (extends_longer choices others s.machine.allocations) refl settled in
     next_after items (choices ++ others) s (effect items choices s.machine) parts.0 longer ∙ parts.1
 
--- a run is unchanged by more answers of malloc behind
+-- a run is unchanged by more answers of the allocator behind
 pub run_chosen : (items : List Item) (choices others : List Choice) (s t : State) (n : ℕ) → run items choices s n ≡ Some t → run items (choices ++ others) s n ≡ Some t
 run_chosen items choices others s t n ran =
     repeated_as (next items choices) (next items (choices ++ others)) (λ x y goes. next_chosen items choices others x y goes) n s t ran
@@ -170,7 +170,7 @@ received_keeps item m =
           ∙ length-with_register 12 item.kind m.registers;
     }
 
--- what a malloc that was answered changes, and what it keeps
+-- what an ask that was answered changes, and what it keeps
 pub record Allocates (m new : Machine) : Type 0 where
   pub heap_start : new.heap_start ≡ m.heap_start
   pub heap_end : new.heap_end ≡ m.heap_end
@@ -180,9 +180,9 @@ pub record Allocates (m new : Machine) : Type 0 where
   pub since : new.since ≡ m.since + 1
   pub registers : length new.registers ≡ length m.registers
 
-pub allocated_keeps : (size : ℕ) (choice : Choice) (m : Machine) → Allocates m (allocated size choice m)
+pub allocated_keeps : (choice : Choice) (m : Machine) → Allocates m (allocated choice m)
 unfolding allocated
-allocated_keeps size choice m =
+allocated_keeps choice m =
     record {
       heap_start = refl;
       heap_end = refl;
@@ -192,3 +192,32 @@ allocated_keeps size choice m =
       since = refl;
       registers = length-with_register 10 choice.at m.registers;
     }
+
+-- as many bytes of a new block are set as are counted
+pub length-set_bytes : (m : Machine) (choice : Choice) → length (set_bytes m choice) ≡ set_count m.blocks choice
+unfolding set_bytes
+length-set_bytes m choice = of_null (eqb choice.at 0)
+  where
+    size : ℕ
+    size = bytes_asked choice.ask
+
+    kept : ℕ
+    kept = kept_count m.blocks size (replaced choice.ask)
+
+    length-kept : (over : Option ℕ) → length (kept_bytes m size over) ≡ kept_count m.blocks size over
+    length-kept None = refl
+    length-kept (Some old) = length-bytes_at read m.memory old (kept_count m.blocks size (Some old))
+
+    few : (over : Option ℕ) → kept_count m.blocks size over ≤ size
+    few None = omega arith
+    few (Some old) = omega (arith)
+
+    of_zeroed : (zeroed : Bool) → length (kept_bytes m size (replaced choice.ask) ++ cond zeroed (replicate (size - kept) 0) []) ≡ cond zeroed size kept
+    of_zeroed true =
+        length-append (kept_bytes m size (replaced choice.ask)) (replicate (size - kept) 0)
+        ∙ (let a = length-kept (replaced choice.ask) in let b = length-replicate {A = ℕ} (size - kept) 0 in let c = few (replaced choice.ask) in omega (arith, a, b, c))
+    of_zeroed false = length-append (kept_bytes m size (replaced choice.ask)) [] ∙ (let a = length-kept (replaced choice.ask) in omega (arith, a))
+
+    of_null : (null : Bool) → length (cond null [] (kept_bytes m size (replaced choice.ask) ++ cond choice.zeroed (replicate (size - kept) 0) [])) ≡ cond null 0 (cond choice.zeroed size kept)
+    of_null true = refl
+    of_null false = of_zeroed choice.zeroed

@@ -1,5 +1,5 @@
--- A served run is a run: its mallocs took the choices of the environments, each in its turn.
-use Rattle.run_history.proofs.Terms.{Bool, List, None, Option, Some, [], add-zero, ap, append-nil, append_assoc, arith, cond, eqb, false, inl, inr, leb, length, length-append, refl, subst, suc, sym, true, zero, ℕ, ◌++◌, ◌+◌, ◌<◌, ◌∙◌, ◌∷◌, ◌≡◌, cases_Bool, leb-false, none-some, option_and_then_some, same_Some, is_some, option_and_then, option_map, slice_get, Item, Choice, is_allowed, Env, Instr, Ecall, row, Image, execute, permitted, BadAccess, Hang, Chooses, Effect, Emits, Ends, Fails, Goes, Machine, State, Wants, register, start, start_machine, allocated, chooses, malloc, takes, Run, after, does, executed, instruction, next, run, word_at, instruction_at, touched, Free, Grant, Guest, Limits, Malloc, Nothing, Override, Path, Request, does_with, env_at, grant, granted, guest_of, is_refused, listed, longer, origin, planned_next, request_of, serve, served_next, serves}
+-- A served run is a run: its asks took the choices of the environments, each in its turn.
+use Rattle.run_history.proofs.Terms.{Bool, List, None, Option, Some, [], add-zero, ap, append-nil, append_assoc, arith, cond, eqb, false, inl, inr, leb, length, length-append, refl, subst, suc, sym, true, zero, ℕ, ◌++◌, ◌+◌, ◌<◌, ◌∙◌, ◌∷◌, ◌≡◌, cases_Bool, eqb-true, leb-false, none-some, option_and_then_some, same_Some, is_some, option_and_then, option_map, slice_get, Item, Ask, Calloc, Malloc, Realloc, Choice, is_allowed, is_defined, Env, Instr, Ecall, row, Image, execute, permitted, BadAccess, BadFree, Hang, Chooses, Effect, Emits, Ends, Fails, Goes, Machine, State, Wants, register, start, start_machine, allocated, allocation, call, chooses, takes, Run, after, does, executed, instruction, next, run, word_at, instruction_at, touched, Allocate, Free, Grant, Guest, Limits, Nothing, Override, Path, Request, call_request, does_with, env_at, grant, granted, guest_of, is_refused, listed, longer, origin, planned_next, request_of, serve, served_next, serves}
 use Rattle.run_history.proofs.Repeats.{repeated_as}
 use Rattle.run_history.proofs.Shapes.{Shape, Same, Takes, Picks, does_shape, Alone}
 use Rattle.run_history.proofs.Runs.{IsSettled, Extends, extends_longer, settled_after, does_more, extends_same, next_after, run_chosen, element_behind, element_none, allocated_keeps, received_keeps}
@@ -9,14 +9,14 @@ pub map_some : {A B : Type 0} (f : A → B) (o : Option A) (y : B) → option_ma
 map_some f None y e = absurd (none-some y e)
 map_some f (Some x) y e = (x, refl, same_Some (f x) y e)
 
--- an answer to malloc that is there was asked for by a malloc
+-- an answer of the allocator that is there was asked for
 pub data Asked (env : Env) (guest : Guest) (given : Grant) : Type 0 where
-  Chosen : (size : ℕ) (choice : Choice) → request_of (instruction_at guest.machine) guest.machine ≡ Malloc size → given.chosen ≡ Some choice → Asked env guest given
+  Chosen : (ask : Ask) (choice : Choice) → request_of (instruction_at guest.machine) guest.machine ≡ Allocate ask → given.chosen ≡ Some choice → Asked env guest given
   Unchosen : given.chosen ≡ None → Asked env guest given
 
 asked_of : (env : Env) (guest : Guest) (given : Grant) (request : Request) → request_of (instruction_at guest.machine) guest.machine ≡ request → granted env guest.heap request ≡ Some given → Asked env guest given
-asked_of env guest given (Malloc size) is h =
-    let e = ap (λ (g : Grant). g.chosen) (same_Some _ given h) in Chosen size _ is (sym e)
+asked_of env guest given (Allocate ask) is h =
+    let p = map_some _ _ given h in Chosen ask _ is (ap (λ (g : Grant). g.chosen) (sym p.2))
 asked_of env guest given (Free at) is h =
     let p = map_some _ _ given h in Unchosen (ap (λ (g : Grant). g.chosen) (sym p.2))
 asked_of env guest given Nothing is h =
@@ -26,40 +26,55 @@ pub asked : (env : Env) (guest : Guest) (given : Grant) → grant env guest ≡ 
 unfolding grant
 asked env guest given h = asked_of env guest given (request_of (instruction_at guest.machine) guest.machine) refl h
 
--- an instruction that asks for a block is a malloc
-call_mallocs : (m : Machine) (size : ℕ) → cond (eqb (register m 17) 3) (Malloc (register m 10)) (cond (eqb (register m 17) 4) (Free (register m 10)) Nothing) ≡ Malloc size
-    → (item : Option Item) (choice : Option Choice) → instruction Ecall item choice m ≡ malloc choice m
-unfolding instruction
-call_mallocs m size h item choice =
-    elim (cases_Bool (eqb (register m 17) 3)) [
-      | inl is ↦
-          let first : eqb (register m 17) 1 ≡ false = grind arith in
-          let second : eqb (register m 17) 2 ≡ false = grind arith in
-          rw (first, second, is) refl
-      | inr not_it ↦ absurd (other (eqb (register m 17) 4) (rw not_it at h))
+-- a call that asks for a block
+pub call_allocates : (m : Machine) (number : ℕ) (ask : Ask) → call_request number m ≡ Allocate ask → (item : Option Item) (choice : Option Choice) → call number item choice m ≡ allocation ask choice m
+call_allocates m number ask h item choice =
+    elim (cases_Bool (eqb number 3)) [
+      | inl is ↦ numbered 3 is (λ e. same (Malloc (register m 10)) e)
+      | inr no_malloc ↦ elim (cases_Bool (eqb number 4)) [
+        | inl is ↦ numbered 4 is (λ e. absurd (frees e))
+        | inr no_free ↦ elim (cases_Bool (eqb number 7)) [
+          | inl is ↦ numbered 7 is (λ e. same (Calloc (register m 10) (register m 11)) e)
+          | inr no_calloc ↦ elim (cases_Bool (eqb number 8)) [
+            | inl is ↦ numbered 8 is (λ e. same (Realloc (register m 10) (register m 11)) e)
+            | inr no_realloc ↦ absurd (never (rw (no_malloc, no_free, no_calloc, no_realloc) at h))
+          ]
+        ]
+      ]
     ]
   where
-    other : (b : _) → cond b (Free (register m 10)) Nothing ≡ Malloc size → ⊥
-    other true e = cc
-    other false e = cc
+    frees : Free (register m 10) ≡ Allocate ask → ⊥
+    frees e = cc
 
-pub mallocs : (m : Machine) (size : ℕ) → request_of (instruction_at m) m ≡ Malloc size → (item : Option Item) (choice : Option Choice) → does item choice m ≡ malloc choice m
-unfolding does instruction_at
-mallocs m size h item choice =
+    never : Nothing ≡ Allocate ask → ⊥
+    never e = cc
+
+    same : (other : Ask) → Allocate other ≡ Allocate ask → allocation other choice m ≡ allocation ask choice m
+    same other e = let is : other ≡ ask = cc in ap (λ a. allocation a choice m) is
+
+    numbered : (known : ℕ) → eqb number known ≡ true → (call_request known m ≡ Allocate ask → call known item choice m ≡ allocation ask choice m) → call number item choice m ≡ allocation ask choice m
+    numbered known is at_known =
+        let e = eqb-true number known is in
+        subst (λ n. call n item choice m ≡ allocation ask choice m) (sym e) (at_known (subst (λ n. call_request n m ≡ Allocate ask) e h))
+
+-- an instruction that asks for a block
+pub allocates : (m : Machine) (ask : Ask) → request_of (instruction_at m) m ≡ Allocate ask → (item : Option Item) (choice : Option Choice) → does item choice m ≡ allocation ask choice m
+unfolding does instruction_at instruction
+allocates m ask h item choice =
     elim (cases_Bool (permitted execute m.memory m.pc 4)) [
       | inl may ↦ rw may (of_row (row (word_at m)) (rw may at h))
       | inr not_may ↦ absurd (never (rw not_may at h))
     ]
   where
-    never : Nothing ≡ Malloc size → ⊥
+    never : Nothing ≡ Allocate ask → ⊥
     never e = cc
 
-    of_row : (found : Option Instr) → request_of found m ≡ Malloc size → executed found item choice m ≡ malloc choice m
+    of_row : (found : Option Instr) → request_of found m ≡ Allocate ask → executed found item choice m ≡ allocation ask choice m
     of_row None e = absurd (never e)
-    of_row (Some Ecall) e = call_mallocs m size e item choice
+    of_row (Some Ecall) e = call_allocates m (register m 17) ask e item choice
     of_row (Some _) e = absurd (never e)
 
--- an instruction without an answer of malloc uses none
+-- an instruction without an answer of the allocator uses none
 pub unchosen_after : (s t : State) (item : Option Item) → after s (does item None s.machine) ≡ Some t → t.machine.allocations ≡ s.machine.allocations
 unchosen_after s t item goes = of_shape (does_shape s.machine)
   where
@@ -68,7 +83,7 @@ unchosen_after s t item goes = of_shape (does_shape s.machine)
     of_alone (Emits conn bytes new) alone h = let same = ap (λ (v : State). v.machine) (same_Some _ t h) in rw (← same) alone.0.allocations
     of_alone (Ends code) alone h = let same = ap (λ (v : State). v.machine) (same_Some _ t h) in rw (← same) refl
     of_alone Wants alone h = absurd alone
-    of_alone (Chooses size) alone h = absurd alone
+    of_alone (Chooses ask) alone h = absurd alone
     of_alone (Fails cause) alone h = absurd (none-some t h)
 
     of_next : (found : Option Item) → after s (takes s.machine found) ≡ Some t → t.machine.allocations ≡ s.machine.allocations
@@ -78,15 +93,19 @@ unchosen_after s t item goes = of_shape (does_shape s.machine)
     of_shape : Shape s.machine (λ item choice. does item choice s.machine) → t.machine.allocations ≡ s.machine.allocations
     of_shape (Same e alone is) = of_alone e alone (ap (after s) (sym (is item None)) ∙ goes)
     of_shape (Takes may is) = of_next item (ap (after s) (sym (is item None)) ∙ goes)
-    of_shape (Picks is) = absurd (none-some t (ap (after s) (sym (is item None)) ∙ goes))
+    of_shape (Picks ask good is) = absurd (none-some t (ap (after s) (sym (is item None)) ∙ goes))
 
--- a malloc with an answer uses it
-pub chosen_after : (s t : State) (size : ℕ) (choice : Choice) → after s (chooses size s.machine (Some choice)) ≡ Some t → t.machine.allocations ≡ s.machine.allocations + 1
-chosen_after s t size choice goes = of_test (is_allowed s.machine.heap_start s.machine.heap_end s.machine.blocks size choice) goes
+-- an ask with an answer uses it
+pub chosen_after : (s t : State) (ask : Ask) (choice : Choice) → after s (allocation ask (Some choice) s.machine) ≡ Some t → t.machine ≡ allocated choice s.machine
+chosen_after s t ask choice goes = of_defined (is_defined s.machine.blocks ask) goes
   where
-    of_test : (b : Bool) → after s (cond b (Goes (allocated size choice s.machine)) (Chooses size)) ≡ Some t → t.machine.allocations ≡ s.machine.allocations + 1
-    of_test true h = let same = ap (λ (v : State). v.machine) (same_Some _ t h) in rw (← same) (allocated_keeps size choice s.machine).allocations
+    of_test : (b : Bool) → after s (cond b (Goes (allocated choice s.machine)) (Chooses ask)) ≡ Some t → t.machine ≡ allocated choice s.machine
+    of_test true h = sym (ap (λ (v : State). v.machine) (same_Some _ t h))
     of_test false h = absurd (none-some t h)
+
+    of_defined : (b : Bool) → after s (cond b (chooses ask s.machine (Some choice)) (Fails BadFree)) ≡ Some t → t.machine ≡ allocated choice s.machine
+    of_defined true h = of_test (is_allowed s.machine.heap_start s.machine.heap_end s.machine.blocks ask choice) h
+    of_defined false h = absurd (none-some t h)
 
 -- behind an effect after which nothing comes, the other one stands
 passes : (s t : State) (b : Bool) (e other : Effect) → after s e ≡ None → after s (cond b e other) ≡ Some t → (b ≡ false) × (after s other ≡ Some t)
@@ -139,11 +158,11 @@ choice_here : (choices : List Choice) (chosen : Option Choice) (n : ℕ) → len
 choice_here choices None n e = rw append-nil (element_none choices n e)
 choice_here choices (Some choice) n e = element_behind choices choice n e
 
--- a run used all of its answers of malloc
+-- a run used all of its answers of the allocator
 abbrev pub IsUsed : Path → Type 0
 IsUsed path = path.state.machine.allocations ≡ length path.choices
 
--- an instruction of a served run is one of a run that has its answers of malloc
+-- an instruction of a served run is one of a run that has its answers of the allocator
 pub serves_next : (limits : Limits) (items : List Item) (env : Env) (path to : Path) → IsUsed path → ServesTo limits items env path to → next items to.choices path.state ≡ Some to.state
 serves_next limits items env path to used parts =
     let here : slice_get to.choices path.state.machine.allocations ≡ parts.given.chosen =
@@ -155,12 +174,12 @@ pub serves_used : (limits : Limits) (items : List Item) (env : Env) (path to : P
 serves_used limits items env path to used parts = of_asked (asked env (guest_of path) parts.given parts.granted_by)
   where
     of_asked : Asked env (guest_of path) parts.given → IsUsed to
-    of_asked (Chosen size choice is chosen) =
-        let goes : after path.state (chooses (register path.state.machine 10) path.state.machine (Some choice)) ≡ Some to.state =
-        ap (after path.state) (sym (mallocs path.state.machine size is (slice_get items path.state.machine.taken) (Some choice)))
+    of_asked (Chosen ask choice is chosen) =
+        let goes : after path.state (allocation ask (Some choice) path.state.machine) ≡ Some to.state =
+        ap (after path.state) (sym (allocates path.state.machine ask is (slice_get items path.state.machine.taken) (Some choice)))
         ∙ ap (λ c. after path.state (does (slice_get items path.state.machine.taken) c path.state.machine)) (sym chosen)
         ∙ parts.goes in
-        let more = chosen_after path.state to.state (register path.state.machine 10) choice goes in
+        let more = ap (λ (m : Machine). m.allocations) (chosen_after path.state to.state ask choice goes) ∙ (allocated_keeps choice path.state.machine).allocations in
         let count : length to.choices ≡ length path.choices + 1 = ap length parts.choices ∙ ap (λ c. length (path.choices ++ listed c)) chosen ∙ length-append path.choices (choice ∷ []) in
         more ∙ omega (arith, used, count)
     of_asked (Unchosen chosen) =
@@ -170,7 +189,7 @@ serves_used limits items env path to used parts = of_asked (asked env (guest_of 
         let count : length to.choices ≡ length path.choices = ap length parts.choices ∙ ap (λ c. length (path.choices ++ listed c)) chosen ∙ ap length (append-nil path.choices) in
         same ∙ used ∙ sym count
 
--- the second run is the first with so many more instructions, which used more answers of malloc
+-- the second run is the first with so many more instructions, which used more answers of the allocator
 pub record Follows (items : List Item) (first second : Path) (more : ℕ) : Type 0 where
   pub others : List Choice
   pub chose : second.choices ≡ first.choices ++ others
@@ -206,7 +225,7 @@ served_follows limits items plan first second (suc n) used ran =
       used = serves_used limits items env mid second earlier.used parts;
     })
 
--- a run from the start of which all answers of malloc are those of its environments
+-- a run from the start of which all answers of the allocator are those of its environments
 pub served_is_run : (limits : Limits) (image : Image) (items : List Item) (plan : List Override) (path : Path) (n : ℕ) → serve limits items plan (origin image) n ≡ Some path → Run image items path.choices n path.state
 unfolding start start_machine
 served_is_run limits image items plan path n ran =

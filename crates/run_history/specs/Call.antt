@@ -1,6 +1,6 @@
 -- One guest call: an ECALL, with its number in x17. A call that answers goes on behind the ECALL.
-use Rattle.std.specs.Prelude.{ℕ, ◌+◌, Bool, true, false, not, List, length, take, replicate, Option, Some, None, slice_get, slice_set, unwrap_or, nat_lt, if◌then◌else◌, ◌==◌}
-use Rattle.run_history.specs.Terms.{Item, Choice, insert_live, is_allowed, without_live, bytes_at, permitted, put_bytes, read, write, AssertFailed, BadAccess, BadCall}
+use Rattle.std.specs.Prelude.{ℕ, ◌+◌, ◌-◌, Bool, true, false, not, List, [], ◌++◌, length, min, take, replicate, Option, Some, None, slice_get, slice_set, unwrap_or, nat_lt, if◌then◌else◌, ◌==◌}
+use Rattle.run_history.specs.Terms.{Item, Ask, Calloc, Malloc, Realloc, Choice, bytes_asked, is_allowed, is_defined, live_with, replaced, size_at, without_live, bytes_at, permitted, put_bytes, read, write, AssertFailed, BadAccess, BadCall, BadFree}
 use Rattle.run_history.specs.Machine.{Machine, register, with_register, next_pc, Effect, Goes, Emits, Ends, Wants, Chooses, Fails}
 
 -- the connections that may be sent to, once an item was taken: an open (kind 1) adds its own, a close (3) removes it
@@ -49,27 +49,51 @@ send m =
     if register m 12 == 0 then Goes (answered 0 m) else
     Emits (register m 10) (bytes_at read m.memory (register m 11) (register m 12)) (answered 0 m)
 
--- The machine once malloc answered for a block of so many bytes: x10 is the block's address, or 0. Where the block's
--- bytes are zeroed they are 0; else they are as they were.
-unfoldable pub allocated : ℕ → Choice → Machine → Machine
-allocated size choice m = record m {
+-- how many bytes a new block of a size gets from the one that it replaces: as many as both have
+abbrev pub kept_count : List (ℕ × ℕ) → ℕ → Option ℕ → ℕ
+kept_count live size None = 0
+kept_count live size (Some old) = min (unwrap_or (size_at old live) 0) size
+
+-- those bytes, as they are before
+abbrev pub kept_bytes : Machine → ℕ → Option ℕ → List ℕ
+kept_bytes m size None = []
+kept_bytes m size (Some old) = bytes_at read m.memory old (kept_count m.blocks size (Some old))
+
+-- how many of a new block's bytes are set, from the first on: those that it gets, and where it is zeroed all others to 0
+abbrev pub set_count : List (ℕ × ℕ) → Choice → ℕ
+set_count live choice =
+    if choice.at == 0 then 0 else
+    if choice.zeroed then bytes_asked choice.ask else
+    kept_count live (bytes_asked choice.ask) (replaced choice.ask)
+
+-- what they are set to
+unfoldable pub set_bytes : Machine → Choice → List ℕ
+set_bytes m choice =
+    let size = bytes_asked choice.ask in
+    let zeros = if choice.zeroed then replicate (size - kept_count m.blocks size (replaced choice.ask)) 0 else [] in
+    if choice.at == 0 then [] else kept_bytes m size (replaced choice.ask) ++ zeros
+
+-- The machine once the allocator answered: x10 is the block's address, or 0. Where it isn't 0 the block is live, its first bytes are those of
+-- the one that it replaces, which isn't live any more, and where it is zeroed its others are 0; else they are as they were.
+unfoldable pub allocated : Choice → Machine → Machine
+allocated choice m = record m {
   pc = next_pc m;
   registers = with_register 10 choice.at m.registers;
-  memory = if choice.zeroed then put_bytes m.memory choice.at (replicate size 0) else m.memory;
-  blocks = if choice.at == 0 then m.blocks else insert_live (choice.at, size) m.blocks;
+  memory = put_bytes m.memory choice.at (set_bytes m choice);
+  blocks = live_with choice m.blocks;
   allocations = m.allocations + 1;
   since = m.since + 1;
 }
 
--- what malloc does with the answer that is next, if it is there and C allows it
-abbrev pub chooses : ℕ → Machine → Option Choice → Effect
-chooses size m None = Chooses size
-chooses size m (Some choice) =
-    if is_allowed m.heap_start m.heap_end m.blocks size choice then Goes (allocated size choice m) else Chooses size
+-- what an ask does with the answer that is next, if it is there and C allows it
+abbrev pub chooses : Ask → Machine → Option Choice → Effect
+chooses ask m None = Chooses ask
+chooses ask m (Some choice) =
+    if is_allowed m.heap_start m.heap_end m.blocks ask choice then Goes (allocated choice m) else Chooses ask
 
--- call 3, malloc: x10 the block's size
-abbrev pub malloc : Option Choice → Machine → Effect
-malloc choice m = chooses (register m 10) m choice
+-- what a call that asks the allocator does: one to replace what is no live block is bad, before it is answered
+abbrev pub allocation : Ask → Option Choice → Machine → Effect
+allocation ask choice m = if is_defined m.blocks ask then chooses ask m choice else Fails BadFree
 
 -- the machine once a block was freed: a live one at this address isn't live any more
 unfoldable pub freed : ℕ → Machine → Machine
@@ -79,13 +103,16 @@ freed at m = record m { pc = next_pc m; blocks = without_live at m.blocks; since
 abbrev pub free : Machine → Effect
 free m = Goes (freed (register m 10) m)
 
--- the call of a number: 1 recv, 2 send, 3 malloc, 4 free, 5 exit, 6 a failed assertion
+-- The call of a number: 1 recv, 2 send, 3 malloc of x10 bytes, 4 free, 5 exit, 6 a failed assertion, 7 calloc of x10 elements of x11 bytes,
+-- 8 realloc of the block at x10 to x11 bytes.
 abbrev pub call : ℕ → Option Item → Option Choice → Machine → Effect
 call number item choice m =
     if number == 1 then recv item m else
     if number == 2 then send m else
-    if number == 3 then malloc choice m else
+    if number == 3 then allocation (Malloc (register m 10)) choice m else
     if number == 4 then free m else
     if number == 5 then Ends (register m 10) else
     if number == 6 then Fails (AssertFailed (register m 10)) else
+    if number == 7 then allocation (Calloc (register m 10) (register m 11)) choice m else
+    if number == 8 then allocation (Realloc (register m 10) (register m 11)) choice m else
     Fails BadCall

@@ -11,7 +11,7 @@ RunsCompose =
     (items : List Item) (choices : List Choice) (s t : State) (n m : ℕ) →
     run items choices s n ≡ Some t → run items choices s (n + m) ≡ run items choices t m
 
--- a run stays as it is when more items and answers of malloc come behind those it was made with
+-- a run stays as it is when more items and answers of the allocator come behind those it was made with
 abbrev pub RunsStay : Type 0
 RunsStay =
     (items more : List Item) (choices others : List Choice) (s t : State) (n : ℕ) →
@@ -23,7 +23,7 @@ OutputsGrow =
     (items : List Item) (choices : List Choice) (s t u : State) (n m conn : ℕ) →
     run items choices s n ≡ Some t → run items choices s (n + m) ≡ Some u → Prefix (output t conn) (output u conn)
 
--- a served run is a run, of which each answer of malloc is one that C allows, and which used all of them
+-- a served run is a run, of which each answer of the allocator is one that C allows, and which used all of them
 abbrev pub ServedRuns : Type 0
 ServedRuns =
     (limits : Limits) (image : Image) (items : List Item) (plan : List Override) (path : Path) (n : ℕ) →

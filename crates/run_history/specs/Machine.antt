@@ -1,6 +1,6 @@
 -- The machine's state.
 use Rattle.std.specs.Prelude.{ℕ, ◌+◌, ◌%◌, ◌^◌, Bool, false, List, [], Option, None, replicate, slice_index, slice_set, if◌then◌else◌, ◌==◌}
-use Rattle.run_history.specs.Terms.{Send, Image, heap_end, heap_start, memory_of, stack_top, Area, Cause}
+use Rattle.run_history.specs.Terms.{Send, Ask, Image, heap_end, heap_start, memory_of, stack_top, Area, Cause}
 
 -- what an instruction reads and changes
 pub record Machine : Type 0 where
@@ -8,7 +8,7 @@ pub record Machine : Type 0 where
   -- 32 of them
   pub registers : List ℕ
   pub memory : List Area
-  -- the ends of the heap, in which malloc may answer a block; they never change
+  -- the ends of the heap, in which the allocator may answer a block; they never change
   pub heap_start : ℕ
   pub heap_end : ℕ
   -- the live blocks, each an address and a size, in order of address
@@ -63,11 +63,11 @@ unfoldable pub start : Image → State
 start image = record { machine = start_machine image; sends = []; ended = None }
 
 -- What one instruction does: it goes on, sends bytes to a connection, ends the program with a code, wants an item
--- that isn't there, wants an answer of malloc for a block of so many bytes, or fails and changes nothing.
+-- that isn't there, wants an answer of the allocator to an ask, or fails and changes nothing.
 pub data Effect : Type 0 where
   Goes : Machine → Effect
   Emits : ℕ → List ℕ → Machine → Effect
   Ends : ℕ → Effect
   Wants : Effect
-  Chooses : ℕ → Effect
+  Chooses : Ask → Effect
   Fails : Cause → Effect

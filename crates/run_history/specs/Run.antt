@@ -1,4 +1,4 @@
--- Whole runs: the iteration of one instruction. Items and answers of malloc are taken by their number, so a longer list
+-- Whole runs: the iteration of one instruction. Items and answers of the allocator are taken by their number, so a longer list
 -- of them keeps every run that there is.
 use Rattle.std.specs.Prelude.{◌≡◌, ℕ, List, [], ◌∷◌, ◌++◌, length, Option, Some, None, is_some, slice_get, if◌then◌else◌}
 use Rattle.run_history.specs.Terms.{Item, sent_to, Choice, Instr, Auipc, Branch, Ebreak, Ecall, Fence, Jal, Jalr, Load, Lui, Op, OpImm, Store, row, little_number, Image, bytes_at, execute, permitted, BadAccess, BadInstruction}
@@ -7,7 +7,7 @@ use Rattle.run_history.specs.Instruction.{lui, auipc, jal, jalr, branch, load, s
 use Rattle.run_history.specs.Call.{call}
 use Rattle.run_history.specs.Repeating.{repeated}
 
--- what an instruction does, with the item and the answer of malloc that are next
+-- what an instruction does, with the item and the answer of the allocator that are next
 unfoldable pub instruction : Instr → Option Item → Option Choice → Machine → Effect
 instruction (Lui rd imm) item choice m = lui rd imm m
 instruction (Auipc rd imm) item choice m = auipc rd imm m
@@ -31,7 +31,7 @@ abbrev pub executed : Option Instr → Option Item → Option Choice → Machine
 executed None item choice m = Fails BadInstruction
 executed (Some instr) item choice m = instruction instr item choice m
 
--- what the machine does next, with the item and the answer of malloc that are next
+-- what the machine does next, with the item and the answer of the allocator that are next
 unfoldable pub does : Option Item → Option Choice → Machine → Effect
 does item choice m = if permitted execute m.memory m.pc 4 then executed (row (word_at m)) item choice m else Fails BadAccess
 
@@ -45,7 +45,7 @@ after s (Goes m) = Some (record s { machine = m })
 after s (Emits conn bytes m) = Some (record s { machine = m; sends = s.sends ++ record { conn = conn; bytes = bytes; taken = s.machine.taken } ∷ [] })
 after s (Ends code) = Some (record s { ended = Some code })
 after s Wants = None
-after s (Chooses size) = None
+after s (Chooses ask) = None
 after s (Fails cause) = None
 
 -- the state after one more instruction; a program that has ended itself has none
@@ -56,7 +56,7 @@ next items choices s = if is_some s.ended then None else after s (effect items c
 abbrev pub run : List Item → List Choice → State → ℕ → Option State
 run items choices s steps = repeated (next items choices) steps s
 
--- the run of an image with these items and all of these answers of malloc, so many instructions long
+-- the run of an image with these items and all of these answers of the allocator, so many instructions long
 pub record Run (image : Image) (items : List Item) (choices : List Choice) (steps : ℕ) (state : State) : Type 0 where
   pub ran : run items choices (start image) steps ≡ Some state
   pub used : state.machine.allocations ≡ length choices

@@ -1,7 +1,7 @@
--- A served run: malloc and free are answered by the environment in force, an access rule is asked for each byte that is
+-- A served run: malloc, calloc, realloc and free are answered by the environment in force, an access rule is asked for each byte that is
 -- touched, and a budget bounds the instructions between two items.
 use Rattle.std.specs.Prelude.{◌≡◌, ℕ, ◌+◌, Bool, false, not, List, [], ◌∷◌, ◌++◌, Option, Some, None, is_some, option_map, slice_get, nat_le, nat_lt, if◌then◌else◌, ◌==◌}
-use Rattle.run_history.specs.Terms.{Item, Choice, live_blocks, Heap, IsHeap, empty_heap, Env, Plain, served_free, served_malloc, Instr, Ecall, Image, heap_end, heap_start, Cause, BadAccess, BadFree, Hang}
+use Rattle.run_history.specs.Terms.{Item, Ask, Calloc, Malloc, Realloc, Choice, live_blocks, Heap, IsHeap, empty_heap, Env, Plain, served_ask, served_free, Instr, Ecall, Image, heap_end, heap_start, Cause, BadAccess, BadFree, Hang}
 use Rattle.run_history.specs.Machine.{Machine, State, register, start, Effect, Wants, Fails}
 use Rattle.run_history.specs.Run.{does, after}
 use Rattle.run_history.specs.Repeating.{repeated}
@@ -25,25 +25,33 @@ pub record IsLaidOut (guest : Guest) : Type 0 where
   pub end : guest.machine.heap_end ≡ guest.heap.end
   pub live : guest.machine.blocks ≡ live_blocks guest.heap.blocks
 
--- what an instruction asks of the allocator: a block of a size, to free the one at an address, or nothing
+-- what an instruction asks of the allocator: a block, to free the one at an address, or nothing
 pub data Request : Type 0 where
-  Malloc : ℕ → Request
+  Allocate : Ask → Request
   Free : ℕ → Request
   Nothing : Request
 
--- calls 3 and 4 are those that ask of the allocator
+-- calls 3, 4, 7 and 8 are those that ask of the allocator
+abbrev pub call_request : ℕ → Machine → Request
+call_request number m =
+    if number == 3 then Allocate (Malloc (register m 10)) else
+    if number == 4 then Free (register m 10) else
+    if number == 7 then Allocate (Calloc (register m 10) (register m 11)) else
+    if number == 8 then Allocate (Realloc (register m 10) (register m 11)) else
+    Nothing
+
 abbrev pub request_of : Option Instr → Machine → Request
-request_of (Some Ecall) m = if register m 17 == 3 then Malloc (register m 10) else if register m 17 == 4 then Free (register m 10) else Nothing
+request_of (Some Ecall) m = call_request (register m 17) m
 request_of _ m = Nothing
 
--- what the allocator answers: a choice to malloc, and the layout after it
+-- what the allocator answers: a choice where a block was asked for, and the layout after it
 pub record Grant : Type 0 where
   pub chosen : Option Choice
   pub heap : Heap
 
--- the answer of an environment; none to a free that it refuses
+-- the answer of an environment; none to a free that it refuses, nor to a realloc of what is no live block
 abbrev pub granted : Env → Heap → Request → Option Grant
-granted env heap (Malloc size) = let served = served_malloc env heap size in Some (record { chosen = Some served.choice; heap = served.heap })
+granted env heap (Allocate ask) = option_map (λ served. record { chosen = Some served.choice; heap = served.heap }) (served_ask env heap ask)
 granted env heap (Free at) = option_map (λ after. record { chosen = None; heap = after }) (served_free env heap at)
 granted env heap Nothing = Some (record { chosen = None; heap = heap })
 
@@ -68,7 +76,7 @@ serves limits env item guest =
     if is_refused limits guest.heap (touched guest.machine) then Fails BadAccess else
     does_with (grant env guest) item guest.machine
 
--- A run as data: where it stands, the layout of its heap there, the answers of malloc that it used, and how many
+-- A run as data: where it stands, the layout of its heap there, the answers of the allocator that it used, and how many
 -- instructions it has.
 pub record Path : Type 0 where
   pub state : State
@@ -84,7 +92,7 @@ origin image = record { state = start image; heap = empty_heap (heap_start image
 abbrev pub guest_of : Path → Guest
 guest_of path = record { machine = path.state.machine; heap = path.heap }
 
--- the answers of malloc that an instruction had: one or none
+-- the answers of the allocator that an instruction had: one or none
 abbrev pub listed : Option Choice → List Choice
 listed None = []
 listed (Some choice) = choice ∷ []

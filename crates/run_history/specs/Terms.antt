@@ -2,14 +2,16 @@
 pub use Rattle.rx_io.specs.declared.bytes.Item.{Item}
 pub use Rattle.rx_io.specs.Prefix.{Prefix}
 pub use Rattle.rx_io.specs.Sends.{Send, sent_to}
+pub use Rattle.block_book.specs.declared.choice.Ask.{Ask}
+pub use Rattle.block_book.specs.declared.choice.Ask.TheVariants.{Calloc, Malloc, Realloc}
 pub use Rattle.block_book.specs.declared.choice.Choice.{Choice}
-pub use Rattle.block_book.specs.Answer.{insert_live, live_blocks, without_live}
-unfoldable pub use Rattle.block_book.specs.Answer.{is_allowed, is_clear}
+pub use Rattle.block_book.specs.Answer.{bytes_asked, is_defined, live_blocks, live_with, replaced, size_at, without_live}
+unfoldable pub use Rattle.block_book.specs.Answer.{is_allowed, is_block, is_clear}
 pub use Rattle.block_book.specs.Heap.{Heap, IsHeap, empty_heap}
 pub use Rattle.alloc_env.specs.declared.env.Env.{Env}
 pub use Rattle.alloc_env.specs.declared.env.Env.TheVariants.{Delay, Pad, Plain}
-pub use Rattle.alloc_env.specs.Serving.{live_with}
-unfoldable pub use Rattle.alloc_env.specs.Serving.{served_free, served_malloc}
+pub use Rattle.alloc_env.specs.Serving.{Served}
+unfoldable pub use Rattle.alloc_env.specs.Serving.{served_ask, served_free}
 pub use Rattle.rv_isa.specs.declared.instr.BranchOp.{BranchOp}
 pub use Rattle.rv_isa.specs.declared.instr.Instr.{Instr}
 pub use Rattle.rv_isa.specs.declared.instr.Instr.TheVariants.{Auipc, Branch, Ebreak, Ecall, Fence, Jal, Jalr, Load, Lui, Op, OpImm, Store}

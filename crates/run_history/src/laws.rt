@@ -6,7 +6,7 @@ pub fn runs_compose()
     ensures { RunsCompose }
 {}
 
-/// A run is unchanged by more items, and more answers of malloc, behind its own.
+/// A run is unchanged by more items, and more answers of the allocator, behind its own.
 pub fn runs_stay()
     ensures { RunsStay }
 {}
@@ -16,7 +16,7 @@ pub fn outputs_grow()
     ensures { OutputsGrow }
 {}
 
-/// A served run is a run: the answers of its environments are answers of malloc that C allows.
+/// A served run is a run: the answers of its environments are those that C allows.
 pub fn served_runs()
     ensures { ServedRuns }
 {}

@@ -1,5 +1,5 @@
 //! `rx`: runs a guest program on the frames of standard input, and writes what it sends as frames on standard output;
-//! assembles programs, and replays records.
+//! assembles programs, replays records, and converts them.
 #![tactic(auto)]
 
 ghost use Rattle.std.specs.Prelude.{◌≡◌, ◌<◌};

@@ -6,7 +6,7 @@ ghost use Rattle.command_line.specs.Ranges.{AreInRange};
 
 use crate::message::{write_outside, write_refused};
 use command_line::{
-    AsmCommand, Command, ReplayCommand, RunCommand, complaint, read_command, usage,
+    AsmCommand, Command, ConvertCommand, ReplayCommand, RunCommand, complaint, read_command, usage,
 };
 use elf_image::{RefusedField, field_of_refusal};
 use run_history::{Answer, Cause};
@@ -98,8 +98,11 @@ impl RunMessage<'_> {
                 f,
                 "{budget} instructions came since the last item or the start, which is the limit that --budget sets"
             ),
-            Cause::BadFree => write!(f, "it freed what wasn't its own"),
-            Cause::BadCall => write!(f, "it made a call with a number in a7 that isn't 1 to 6"),
+            Cause::BadFree => write!(
+                f,
+                "it freed what wasn't its own, or had realloc put another block in its place"
+            ),
+            Cause::BadCall => write!(f, "it made a call with a number in a7 that isn't 1 to 8"),
         }
     }
 
@@ -305,6 +308,47 @@ fn tell_replay(rt: &HostRuntime, answer: Answer, replay: &ReplayCommand<'_>) {
     let _ = eprintln!(rt; "rx: {message}");
 }
 
+// ---- convert
+
+// The sentence for an answer to `convert`: that of a replay, but for what is written.
+#[derive(Debug, Drop)]
+struct ConvertMessage<'a> {
+    replayed: ReplayMessage<'a>,
+    out: &'a str,
+}
+
+impl fmt::Display for ConvertMessage<'_> {
+    fn fmt<W: fmt::Write>(&self, f: &mut fmt::Formatter<W>) -> fmt::Result {
+        let program = self.replayed.program;
+        let recording = self.replayed.recording;
+        let out = self.out;
+        match self.replayed.answer {
+            Answer::FileFault => write!(
+                f,
+                "the program file {program} or the record {recording} can't be read, or {out} can't be written"
+            ),
+            _ => write!(f, "{}", self.replayed),
+        }
+    }
+}
+
+fn tell_convert(rt: &HostRuntime, answer: Answer, convert: &ConvertCommand<'_>) {
+    let field = match recorded_window(rt, convert.recording) {
+        Some(window) => refused_field(rt, answer, convert.program, window),
+        None => None,
+    };
+    let message = ConvertMessage {
+        replayed: ReplayMessage {
+            answer,
+            program: convert.program,
+            recording: convert.recording,
+            field,
+        },
+        out: convert.out,
+    };
+    let _ = eprintln!(rt; "rx: {message}");
+}
+
 // ---- all commands
 
 /// Tells what an answer to these words means. The names and numbers in it are those of the command that the words ask for.
@@ -313,6 +357,7 @@ pub fn tell(rt: &HostRuntime, answer: Answer, words: &[String]) {
         Ok(Some(Command::Run(run))) => tell_run(rt, answer, &run),
         Ok(Some(Command::Asm(asm))) => tell_asm(rt, answer, &asm),
         Ok(Some(Command::Replay(replay))) => tell_replay(rt, answer, &replay),
+        Ok(Some(Command::Convert(convert))) => tell_convert(rt, answer, &convert),
         Ok(None) => tell_words(rt, words),
         Err(_) => tell_memory(rt),
     }

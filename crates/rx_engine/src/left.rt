@@ -8,7 +8,7 @@ use reply_ledger::Replies;
 /// What a session leaves of the run that it answers for, and its own objects.
 #[derive(Drop)]
 pub struct Left<R: AccessRule> {
-    /// How many of the run's answers of malloc are noted.
+    /// How many of the run's answers of the allocator are noted.
     pub recorded: u64,
     /// The answers behind those, in their order.
     pub tail: Choices,

@@ -48,7 +48,7 @@ impl<R: AccessRule> Session<R> {
         );
     }
 
-    /// Notes the answers of malloc that no trial can take back any more: those from before the oldest checkpoint.
+    /// Notes the answers of the allocator that no trial can take back any more: those from before the oldest checkpoint.
     pub(crate) fn note_choices<N: Notes>(&mut self, notes: &mut N) -> Result<(), Stop>
         requires { StandsSomewhere (rules_by R.rule self.old) self.old }
         ensures waits { (image : Image) (began : Since) (seen : Seen) → seen.takes ≡ true → IsWaitingFor (rules_by R.rule self.old) image (record began { noted = (N.shown notes.old).told }) seen self.old
@@ -82,7 +82,7 @@ impl<R: AccessRule> Session<R> {
         self.replies.trim(oldest.sends);
     }
 
-    /// At an end: notes the answers of malloc that aren't noted yet.
+    /// At an end: notes the answers of the allocator that aren't noted yet.
     pub(crate) fn note_rest<N: Notes>(&mut self, notes: &mut N) -> Result<(), SessionBreak>
         requires { self.old.recorded + length self.old.choices < 2 ^ 64 }
         ensures noted { NotesRest (N.shown notes.old) (N.shown notes.new) self.old self.new result }

@@ -27,7 +27,7 @@ impl<R: AccessRule> Session<R> {
     /// Serves a link to which no connection was opened yet, from the start of the program to an end, a fault or want of memory, and
     /// answers how it ended. At an end all that is held back is passed. Checkpoints of the program are saved on the way, and at each answer each
     /// recovery, and a walk at which it gave up, had those that the requests before it left. The notes are told each
-    /// recovery, and the answers of malloc: those from before the oldest checkpoint as it is saved, and the others at an end.
+    /// recovery, and the answers of the allocator: those from before the oldest checkpoint as it is saved, and the others at an end.
     pub fn serve<K: Link, N: Notes, L: Ledger>(
         &mut self,
         link: &mut K,
@@ -47,7 +47,7 @@ impl<R: AccessRule> Session<R> {
     /// Serves a link to which no connection was opened yet, from the start of the program to an end, a fault or want of memory, and
     /// answers how it ended. At an end all that is held back is passed. Checkpoints of the program are saved on the way, and at each answer each
     /// recovery, and a walk at which it gave up, had those that the requests before it left. The notes are told each
-    /// recovery, and the answers of malloc: those from before the oldest checkpoint as it is saved, and the others at an end. The watch looks at
+    /// recovery, and the answers of the allocator: those from before the oldest checkpoint as it is saved, and the others at an end. The watch looks at
     /// each failure before trials are made. What it counts isn't the session's.
     pub fn serve_watched<K: Link, N: Notes, W: Watch, L: Ledger>(
         &mut self,
@@ -72,7 +72,7 @@ impl<R: AccessRule> Session<R> {
         }
     }
 
-    // At an end: passes what is held back, notes the rest of the answers of malloc, and gives up the sends that no trial needs.
+    // At an end: passes what is held back, notes the rest of the answers of the allocator, and gives up the sends that no trial needs.
     fn finish<K: Link, N: Notes>(&mut self, link: &mut K, notes: &mut N, end: SessionEnd) -> Stop
         requires { StandsEnding (rules_by R.rule self.old) (K.seen link.old) end self.old }
         ensures served { (image : Image) (began : Since) (first : Seen) (ending : IsEnding (rules_by R.rule self.old) image (record began { told = first.told; noted = (N.shown notes.old).told }) (K.seen link.old) self.old end)
@@ -202,7 +202,7 @@ impl<R: AccessRule> Session<R> {
         self.pass_due(link) // before the guest runs on
     }
 
-    // Malloc was answered.
+    // An ask was answered.
     fn choose(&mut self, choice: Choice) -> Result<(), Stop>
         ensures turns { (image : Image) (began : Since) (seen : Seen) → seen.takes ≡ true → HasRun (rules_by R.rule self.old) image began seen (event.Chooses choice) self.old
             → ComesBetween (rules_by R.rule self.old) image began seen self.new result }

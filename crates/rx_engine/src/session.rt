@@ -28,7 +28,7 @@ pub struct Session<R: AccessRule> {
     pub(crate) log: ItemLog,
     pub(crate) replies: Replies,
     pub(crate) events: u64,
-    // How many of the run's answers of malloc are noted, and the others.
+    // How many of the run's answers of the allocator are noted, and the others.
     pub(crate) recorded: u64,
     pub(crate) choices: Vec<Choice>,
     pub(crate) taken: u64,
@@ -123,14 +123,14 @@ impl<R: AccessRule> Session<R> {
         self.steps
     }
 
-    /// How many of its answers of malloc are noted.
+    /// How many of its answers of the allocator are noted.
     pub fn recorded(&self) -> u64
         ensures { result ≡ self.now.recorded }
     {
         self.recorded
     }
 
-    /// The answers of malloc that it used behind those, in their order.
+    /// The answers of the allocator that it used behind those, in their order.
     pub fn choices(&self) -> &[Choice]
         ensures { result.now ≡ self.now.choices }
     {

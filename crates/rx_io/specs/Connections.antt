@@ -1,5 +1,5 @@
 -- What a listener in memory has besides the calls that it tells.
-use Rattle.std.specs.Prelude.{◌≡◌, ℕ, Bool, false, List, [], ◌∷◌, Option, Some, None, Result, Ok, Err, Vec, is_some, map}
+use Rattle.std.specs.Prelude.{◌≡◌, ℕ, Bool, true, false, List, [], ◌∷◌, Option, Some, None, Result, Ok, Err, Vec, is_some, map}
 use Rattle.std.specs.Vec.Iter.{into_iter_items}
 use Rattle.rx_io.specs.Terms.{Global, IoFault, ListenEntry}
 use Rattle.rx_io.specs.Outside.{Stream}
@@ -24,6 +24,11 @@ tame_present l = is_some l.present
 -- the inputs of the connections that weren't accepted yet
 abbrev pub tame_inputs : TameListener → List (List ℕ)
 tame_inputs l = contents_of_all (into_iter_items l.inputs)
+
+-- no input is left for a connection
+abbrev pub no_input : List (List ℕ) → Bool
+no_input [] = true
+no_input (input ∷ inputs) = false
 
 -- how many bytes one call takes or gives at most
 abbrev pub listener_most : TameListener → ℕ

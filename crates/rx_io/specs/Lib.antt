@@ -11,6 +11,8 @@ pub mod Shelves
 pub mod Kept
 pub mod Listening
 pub mod Connections
+pub mod ListenPlans
+pub mod MemoryListeners
 pub mod Reading
 pub mod Ahead
 pub mod Laws

@@ -5,17 +5,22 @@ use Rattle.rx_io.specs.declared.listener_calls.ListenCall.{ListenCall}
 use Rattle.rx_io.specs.declared.listener_calls.ListenCall.TheVariants as call
 use Rattle.rx_io.specs.declared.listener_calls.ListenEntry.TheVariants as entry
 
--- these entries stand behind those that were told
+-- these entries stand behind those that were told; a listener that tells none never does
 abbrev pub Logs : Option (List ListenEntry) → Option (List ListenEntry) → List ListenEntry → Type 0
-Logs None new entries = Unit {0}
+Logs None None entries = Unit {0}
+Logs None (Some new) entries = ⊥
 Logs (Some old) None entries = ⊥
 Logs (Some old) (Some new) entries = new ≡ old ++ entries
+
+-- the entry of a call that wasn't done: none where memory ran out
+abbrev pub fault_entry : ListenCall → IoFault → List ListenEntry
+fault_entry asked Failed = entry.Failed asked ∷ []
+fault_entry asked Memory = []
 
 -- a call's entry: none where memory ran out
 abbrev pub entry_of : {T : Type 0} → (T → ListenEntry) → ListenCall → Result T IoFault → List ListenEntry
 entry_of done asked (Ok answer) = done answer ∷ []
-entry_of done asked (Err Failed) = entry.Failed asked ∷ []
-entry_of done asked (Err Memory) = []
+entry_of done asked (Err fault) = fault_entry asked fault
 
 -- a bind at this port and its answer were told
 abbrev pub Binds : Option (List ListenEntry) → Option (List ListenEntry) → ℕ → Result (Unit {0}) IoFault → Type 0

@@ -1,11 +1,12 @@
 // A listener in memory that never fails.
-ghost use Rattle.std.specs.Prelude.{◌≡◌, ◌<◌, ◌≤◌, ℕ, Bool, true, false, [], length, min, Option, Some, IfOk, OnOk, vec_len, vec_capacity, is_some};
+ghost use Rattle.std.specs.Prelude.{◌≡◌, ◌<◌, ◌≤◌, ◌++◌, ℕ, Bool, true, false, [], length, min, Option, Some, IfOk, OnOk, vec_len, vec_capacity, is_some};
 ghost use Rattle.rx_io.specs.Faults.{HasCause};
-ghost use Rattle.rx_io.specs.Listening.{Binds, Accepts, ListenTakes, ListenGives, Logs, closed, IsPresentAfter, IsPart};
+ghost use Rattle.rx_io.specs.Listening.{Binds, Accepts, ListenTakes, ListenGives, Logs, closed, fault_entry, IsPresentAfter, IsPart};
 ghost use Rattle.rx_io.specs.Planned.{GivesBy};
 ghost use Rattle.rx_io.specs.Sources.{most_or};
+ghost use Rattle.std.specs.Vec.Iter.{into_iter_items, into_iter_len};
 
-use crate::{Bytes, IoFault, ListenEntry, Listener, Source, TameSource};
+use crate::{Bytes, IoFault, ListenCall, ListenEntry, Listener, Source, TameSource};
 use std::alloc::Global;
 use std::vec::IntoIter;
 
@@ -19,12 +20,13 @@ pub struct TameListener {
     most: usize,
     calls: Vec<ListenEntry>,
     ghost goes_on: { 1 ≤ most },
+    ghost counted: { into_iter_len inputs ≡ length (into_iter_items inputs) },
     ghost same_most: { most_or most present ≡ most },
     ghost room_to_close: { is_some present ≡ true → vec_len calls < vec_capacity calls },
 }
 
 impl TameListener {
-    ghost use Rattle.rx_io.specs.Connections.{tame_calls, tame_present, tame_inputs, listener_most, contents_of_all};
+    ghost use Rattle.rx_io.specs.Connections.{tame_calls, tame_present, tame_inputs, listener_most, contents_of_all, no_input, KeepsInputs};
 
     /// The connections' inputs, in the order in which they are accepted. A call takes or gives at most `most` bytes.
     pub fn make(alloc: Global, inputs: Vec<Vec<u8>>, most: usize) -> TameListener
@@ -48,6 +50,27 @@ impl TameListener {
         ensures { result.now ≡ tame_calls self.now }
     {
         &self.calls
+    }
+
+    // Whether each input was begun.
+    pub(crate) fn has_no_input(&self) -> bool
+        ensures { result ≡ no_input (tame_inputs self.now) }
+    {
+        self.inputs.len() == 0
+    }
+
+    // Notes that a call failed, unless memory runs out.
+    pub(crate) fn fail(&mut self, call: ListenCall) -> IoFault
+        ensures call { tame_calls self.new ≡ tame_calls self.old ++ fault_entry call result }
+        ensures present { tame_present self.new ≡ tame_present self.old }
+        ensures inputs { KeepsInputs self.old self.new }
+    {
+        match self.calls.reserve(2) {
+            Ok(()) => {}
+            Err(_) => return IoFault::Memory,
+        }
+        self.calls.push_reserved(ListenEntry::Failed(call));
+        IoFault::Failed
     }
 }
 

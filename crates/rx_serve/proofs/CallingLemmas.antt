@@ -1,6 +1,6 @@
 -- Which files a command called, from the calls that its parts made.
 use Rattle.run_history.specs.declared.answer.Answer.TheVariants as answer
-use Rattle.rx_serve.proofs.Terms.{List, Option, [], subst, ℕ, ◌++◌, ◌∷◌, ◌≡◌, Err, FileCall, Added, Loaded, Started, Calls, Contents, Answer, calls_then, front_all, front_behind, front_first, AddsAlone, CallsFront, starting, starts_of, Names, ReplayValue, RunValue, LoadsText, Writes, names_of, CallsAnswer, CallsAsm, CallsEnding, CallsServed, CallsWrite, before_session, replaying}
+use Rattle.rx_serve.proofs.Terms.{List, Option, [], refl, subst, ℕ, ◌++◌, ◌∷◌, ◌≡◌, ◌≢◌, Err, FileCall, Added, Loaded, Started, Calls, Contents, Answer, calls_then, front_all, front_behind, front_first, AddsAlone, CallsFront, starting, starts_of, Names, ConvertValue, ReplayValue, RunValue, LoadsText, Writes, names_of, CallsAnswer, CallsAsm, CallsConvert, CallsEnding, CallsServed, CallsWrite, before_session, replayed, replaying, HasReplayCause}
 
 -- a file was loaded, or perhaps not
 pub load_front : (name : List ℕ) (old new : Option (List FileCall)) (end : Answer) → CallsAnswer name old new end → CallsFront old new (Loaded name ∷ [])
@@ -49,6 +49,33 @@ module _ (value : ReplayValue) where
   -- both were
   pub replay_both : (old mid new : Option (List FileCall)) → Calls old mid (Loaded value.program ∷ []) → Calls mid new (Loaded value.recording ∷ []) → Calls old new (replaying value)
   replay_both old mid new one two = calls_then old mid new (Loaded value.program ∷ []) (Loaded value.recording ∷ []) one two
+
+-- ---- convert
+
+module _ (value : ConvertValue) where
+  -- no run began
+  pub convert_none : (told : Option Contents) (old new : Option (List FileCall)) (end : Answer) → HasReplayCause told (replayed value) end → CallsFront old new (replaying (replayed value)) → CallsConvert value old new end
+  convert_none told old new answer.TooLarge cause made = made
+  convert_none told old new (answer.RecordRefused line) cause made = made
+  convert_none told old new (answer.ElfRefused kind) cause made = made
+  convert_none told old new answer.FileFault cause made = front_first (replaying (replayed value)) (starts_of value.out) made
+  convert_none told old new answer.Memory cause made = front_first (replaying (replayed value)) (starts_of value.out) made
+  convert_none told old new _ cause made = absurd cause
+
+  -- a run has no text
+  pub convert_broken : (old new : Option (List FileCall)) (end : Answer) → end ≢ answer.Finished → Calls old new (replaying (replayed value)) → CallsConvert value old new end
+  convert_broken old new answer.Finished not made = absurd (not refl)
+  convert_broken old new answer.FileFault not made = front_first (replaying (replayed value)) (starts_of value.out) (front_all old new (replaying (replayed value)) made)
+  convert_broken old new answer.Memory not made = front_first (replaying (replayed value)) (starts_of value.out) (front_all old new (replaying (replayed value)) made)
+  convert_broken old new _ not made = front_all old new (replaying (replayed value)) made
+
+  -- its text was written, or a part of it
+  pub convert_written : (told told_later : Option Contents) (bytes : List ℕ) (old mid new : Option (List FileCall)) (end : Answer) → Writes told told_later value.out bytes end
+      → Calls old mid (replaying (replayed value)) → CallsWrite value.out mid new end → CallsConvert value old new end
+  convert_written told told_later bytes old mid new answer.Finished writes one two = calls_then old mid new (replaying (replayed value)) (starts_of value.out) one two
+  convert_written told told_later bytes old mid new answer.FileFault writes one two = front_behind old mid new (replaying (replayed value)) (starts_of value.out) one two
+  convert_written told told_later bytes old mid new answer.Memory writes one two = front_behind old mid new (replaying (replayed value)) (starts_of value.out) one two
+  convert_written told told_later bytes old mid new _ writes one two = absurd writes
 
 -- ---- run
 

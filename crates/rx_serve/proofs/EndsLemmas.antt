@@ -3,8 +3,9 @@ use Rattle.session_history.specs.declared.ends.SessionBreak.TheVariants as sessi
 use Rattle.session_history.specs.declared.ends.Stop.TheVariants as stop
 use Rattle.rx_io.specs.declared.fault.IoFault.TheVariants as fault
 use Rattle.run_history.specs.declared.answer.Answer.TheVariants as answer
-use Rattle.rx_serve.proofs.Terms.{None, Some, inl, inr, refl, subst, sym, ◌∙◌, ◌≡◌, IoFault, Answer, Stop, is_end_answer, IsEnd, answer_of, RunValue, asm, replay, run, End, Outside, HasLoadCause, HasAsmCause, window_of, IsFilesAnswer, RunEnds, OnlyBadWordsAreRefused}
+use Rattle.rx_serve.proofs.Terms.{None, Some, inl, inr, refl, subst, sym, ◌∙◌, ◌≡◌, IoFault, Answer, Stop, is_end_answer, IsEnd, answer_of, RunValue, asm, convert, replay, run, End, Outside, HasLoadCause, HasAsmCause, window_of, IsFilesAnswer, RunEnds, OnlyBadWordsAreRefused}
 use Rattle.rx_serve.proofs.ReplayLemmas.{replay_not_refused}
+use Rattle.rx_serve.proofs.ConvertLemmas.{convert_not_refused}
 
 note_not_refused : (why : IoFault) (end : Answer) → IsFilesAnswer why end → end ≡ answer.BadWords → ⊥
 note_not_refused fault.Failed end note is = absurd (let other : answer.FileFault ≡ answer.BadWords = sym note ∙ is in cc)
@@ -32,3 +33,4 @@ only_bad_words None old new end ends is = refl
 only_bad_words (Some (run value)) old new end ends is = absurd (run_not_refused value old new end ends is)
 only_bad_words (Some (asm value)) old new end ends is = absurd (subst (HasAsmCause old.files value.source) is ends.cause)
 only_bad_words (Some (replay value)) old new end ends is = absurd (replay_not_refused value old new end.answer ends.replays is)
+only_bad_words (Some (convert value)) old new end ends is = absurd (convert_not_refused value old new end.answer ends.converts is)

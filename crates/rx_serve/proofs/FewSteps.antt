@@ -2,7 +2,7 @@
 -- the next one.
 use Rattle.run_history.specs.Served.{Limits, Override, env_at, Path, origin, planned_next, Served}
 use Rattle.run_history.proofs.Serves.{serves_to}
-use Rattle.rx_serve.proofs.Terms.{List, None, Option, Some, ap, arith, sym, ℕ, ◌*◌, ◌+◌, ◌<◌, ◌∙◌, ◌≡◌, ◌≤◌, none-some, Item, Choice, Image, repeated_keeps, allocated_keeps, received_keeps, allocated, Machine, State, register, start, start_machine, after, does, ByChoice, ByEnd, ByItem, ByItself, BySend, Moved, moved}
+use Rattle.rx_serve.proofs.Terms.{List, None, Option, Some, ap, arith, sym, ℕ, ◌*◌, ◌+◌, ◌<◌, ◌∙◌, ◌≡◌, ◌≤◌, none-some, Item, Choice, Image, repeated_keeps, allocated_keeps, received_keeps, allocated, Machine, State, start, start_machine, after, does, ByChoice, ByEnd, ByItem, ByItself, BySend, Moved, moved}
 
 -- what one instruction does to the counts: it is one more since the last item, or took an item, or ended the program
 data Counts (s t : State) : Type 0 where
@@ -27,9 +27,9 @@ does_counts s t item choice goes = by (moved s t item choice goes)
     by (ByItem it at is) =
         let keeps = received_keeps it s.machine in
         Receives (ap (λ (m : Machine). m.taken) (machine_is _ is) ∙ keeps.taken) (ap (λ (m : Machine). m.since) (machine_is _ is) ∙ keeps.since)
-    by (ByChoice it at may is) =
-        let keeps = allocated_keeps (register s.machine 10) it s.machine in
-        rises_to s t (allocated (register s.machine 10) it s.machine) (machine_is _ is) keeps.taken keeps.since
+    by (ByChoice ask it at may is) =
+        let keeps = allocated_keeps it s.machine in
+        rises_to s t (allocated it s.machine) (machine_is _ is) keeps.taken keeps.since
 
 -- The budget isn't passed, and each instruction is counted by the items that were taken or by those since the last one,
 -- but for the one that ended the program.

@@ -103,7 +103,7 @@ drained : (source source_later : Option Stream) (events : List _) → StopsTrunk
 drained None later events stops = tt
 drained (Some stream) later events stops = stops.1
 
--- of the answers of malloc of a run the first ones stand in the record, and the others are the tail
+-- of the answers of the allocator of a run the first ones stand in the record, and the others are the tail
 record Recorded (session : Session) (end : End) (recording : List Choice) : Type 0 where
   pub count : length recording ≡ end.recorded
   pub all : session.survivor.now.choices ≡ recording ++ end.tail

@@ -9,6 +9,7 @@ pub mod HeadlineLemmas
 pub mod RunLemmas
 mod RecordLemmas
 mod ReplayLemmas
+mod ConvertLemmas
 mod ChoiceRanges
 mod CommandLemmas
 mod EndsLemmas

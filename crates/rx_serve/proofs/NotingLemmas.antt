@@ -3,7 +3,7 @@ use Rattle.std.proofs.lemmas.Nat.{mul-le}
 use Rattle.file_notes.proofs.LawLemmas.{whole_texts}
 use Rattle.rx_io.specs.declared.fault.IoFault.TheVariants as fault
 use Rattle.run_history.specs.declared.answer.Answer.TheVariants as answer
-use Rattle.rx_serve.proofs.Terms.{Bool, List, None, Ok, Option, Some, [], arith, inl, inr, refl, subst, sym, ℕ, ◌*◌, ◌+◌, ◌<◌, ◌^◌, ◌∙◌, ◌≡◌, ◌≤◌, IoFault, FileCall, Contents, Stream, Choice, Heap, Image, Answer, Stop, Session, journal_of, IsEnd, answer_of, Rules, Episode, NoneFailed, noted, Keeping, Form, MAX_TAKEN, InRecord, InReport, Left, Nothing, unnoted_of, Names, Stands, Options, AreInRange, keeping_for, rules_of, IsHandedLast, IsNoteStop, Outcome, ServesTrunk, RunValue, Outside, outside, status_of, ClosesFiles, EndsFiles, HaveTexts, IsFilesAnswer, ServesNoted, StartsFiles, names_of, report_form}
+use Rattle.rx_serve.proofs.Terms.{Bool, List, None, Ok, Option, Some, [], arith, inl, inr, refl, subst, sym, ℕ, ◌*◌, ◌+◌, ◌<◌, ◌^◌, ◌∙◌, ◌≡◌, ◌≤◌, IoFault, FileCall, Contents, Stream, Choice, Heap, Image, Answer, Stop, Session, journal_of, IsEnd, answer_of, Rules, Episode, NoneFailed, noted, Keeping, Form, MAX_TAKEN, AreAsks, InRecord, InReport, Left, Nothing, unnoted_of, Names, Stands, Options, AreInRange, keeping_for, rules_of, IsHandedLast, IsNoteStop, Outcome, ServesTrunk, RunValue, Outside, outside, status_of, ClosesFiles, EndsFiles, HaveTexts, IsFilesAnswer, ServesNoted, StartsFiles, names_of, report_form}
 use Rattle.rx_serve.proofs.FewSteps.{few_steps}
 use Rattle.recovery.proofs.Few.{few_items}
 use Rattle.session_history.specs.declared.ends.SessionBreak.TheVariants as session_break
@@ -83,9 +83,9 @@ pub serves_noted : {rules : Rules} {keeping : Keeping} {image : Image} (value : 
     → (names : Names) (wanted : Form) (told : Option Contents) (choices_before choices : List Choice) (episodes_before episodes : List Episode) (left_before left : Left)
     → choices_before ≡ [] → episodes_before ≡ [] → left_before ≡ Nothing → new.counter ≡ old.counter + counted
     → ServesTrunk rules keeping image old.input new.input old.output new.output outcome (noted (Some choices_before) (Some episodes_before) (Some (unnoted_of left_before))) (noted (Some choices) (Some episodes) (Some (unnoted_of left))) counted
-    → names ≡ names_of value → wanted ≡ report_form value.form → told ≡ old.files → Stands names wanted told new.files choices episodes left
+    → names ≡ names_of value → wanted ≡ report_form value.form → told ≡ old.files → Stands names wanted told new.files choices episodes left → AreAsks choices
     → ServesNoted rules keeping image value old new outcome
-serves_noted {rules = rules} {keeping = keeping} {image = image} value old new {outcome = outcome} {counted = counted} names wanted told choices_before choices episodes_before episodes left_before left none none_told none_left count serves names_are form_is told_is stands = record {
+serves_noted {rules = rules} {keeping = keeping} {image = image} value old new {outcome = outcome} {counted = counted} names wanted told choices_before choices episodes_before episodes left_before left none none_told none_left count serves names_are form_is told_is stands asks = record {
   choices = choices;
   episodes = episodes;
   left = left;
@@ -98,6 +98,7 @@ serves_noted {rules = rules} {keeping = keeping} {image = image} value old new {
   stands =
       subst (λ before. Stands (names_of value) (report_form value.form) before new.files choices episodes left) told_is
       (subst (λ f. Stands (names_of value) f told new.files choices episodes left) form_is (subst (λ n. Stands n wanted told new.files choices episodes left) names_are stands));
+  asks = asks;
 }
 
 -- the same, of what the files tell by another name

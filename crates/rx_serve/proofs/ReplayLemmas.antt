@@ -1,23 +1,23 @@
 -- The command `replay`: what it leaves, from the calls that make it.
 use Rattle.run_history.specs.declared.answer.Answer.TheVariants as answer
-use Rattle.rx_serve.proofs.Terms.{List, Option, inl, inr, subst, ℕ, ◌+◌, ◌≡◌, Calls, Contents, Stream, Image, IsImage, Answer, Recorded, EndsBy, ReplaysTrunk, ReplayValue, program_limit, Outside, HasFile, replaying, HasRecord, HasReplayCause, ReplaysFile, window_in}
+use Rattle.rx_serve.proofs.Terms.{List, Option, inl, inr, subst, ℕ, ◌≡◌, Contents, Stream, Image, IsImage, Answer, Recorded, EndsBy, ReplaysTrunk, ReplayValue, program_limit, Outside, HasFile, HasRecord, HasRecording, HasReplayCause, ReplaysFile, window_in}
 
--- a record was replayed
-pub has_replayed : (value : ReplayValue) (old new : Outside) {mid : Option Contents} {program slice : List ℕ} {recording : Recorded} {image : Image} {window : ℕ} (end : Answer) {counted : ℕ}
-    → HasFile old.files value.program program_limit program → mid ≡ old.files → HasRecord mid value.recording recording → slice ≡ program → window ≡ window_in recording → IsImage slice window image
-    → Calls old.calls new.calls (replaying value) → new.counter ≡ old.counter + counted → ReplaysTrunk image recording old.input new.input old.output new.output end counted → ReplaysFile value old new end
-has_replayed value old new {program = program} {recording = recording} {image = image} {window = window} end {counted = counted} file same record_is bytes window_is is called count replays = inr (record {
+-- a program and its record were loaded
+pub has_recording : {told mid : Option Contents} (value : ReplayValue) {program slice : List ℕ} {recording : Recorded} {image : Image} {window : ℕ} → HasFile told value.program program_limit program → mid ≡ told
+    → HasRecord mid value.recording recording → slice ≡ program → window ≡ window_in recording → IsImage slice window image → HasRecording told value image recording
+has_recording value {program = program} {recording = recording} {image = image} {window = window} file same record_is bytes window_is is = record {
   program = program;
-  image = image;
-  recorded = recording;
   file = file;
   recording = subst (λ told. HasRecord told value.recording recording) same record_is;
   is = subst (λ (n : ℕ). IsImage program n image) window_is (subst (λ (l : List ℕ). IsImage l window image) bytes is);
-  called = called;
-  counted = counted;
-  counts = count;
-  replays = replays;
-})
+}
+
+-- no fault of the input or of the output is why no replay began
+pub no_read_cause : (told : Option Contents) (value : ReplayValue) (end : Answer) → HasReplayCause told value end → end ≡ answer.ReadFault → ⊥
+no_read_cause told value end cause is = subst (HasReplayCause told value) is cause
+
+pub no_write_cause : (told : Option Contents) (value : ReplayValue) (end : Answer) → HasReplayCause told value end → end ≡ answer.WriteFault → ⊥
+no_write_cause told value end cause is = subst (HasReplayCause told value) is cause
 
 -- no replay is answered by a fault of the files
 pub no_file_fault : {image : Image} {recording : Recorded} {source source_later : Option Stream} {sink sink_later : Option (List ℕ)} {end : Answer} {counted : ℕ}

@@ -19,6 +19,7 @@ noted_of value old new started served calls calls_later outcome s = record {
   counts = s.counts;
   serves = s.serves;
   stands = s.stands;
+  asks = s.asks;
 }
 
 -- every access keeps the rule

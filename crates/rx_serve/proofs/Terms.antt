@@ -1,16 +1,16 @@
 -- The words and lemmas that this crate's proofs are written in: those of crates below, and its own words.
-pub use Rattle.std.proofs.Common.{Bool, IfSome, List, None, Ok, Option, Some, [], ap, append-nil, arith, drop, eqb, false, get_or, inl, inr, leb, length, not, refl, rules, subst, suc, sym, take, true, true≢false, zero, ℕ, ◌%◌, ◌&&◌, ◌*◌, ◌++◌, ◌+◌, ◌-◌, ◌<◌, ◌^◌, ◌∙◌, ◌∷◌, ◌≡◌, ◌≢◌, ◌≤◌}
-pub use Rattle.std.proofs.lemmas.Bool.{and_parts, cases_Bool, cases_eq, cases_lt, leb-true}
+pub use Rattle.std.proofs.Common.{Bool, IfSome, List, None, Ok, Option, Result, Some, [], ap, append-nil, arith, drop, eqb, false, get_or, inl, inr, leb, length, map, not, refl, rules, subst, suc, sym, take, true, true≢false, zero, ℕ, ◌%◌, ◌&&◌, ◌*◌, ◌++◌, ◌+◌, ◌-◌, ◌<◌, ◌^◌, ◌∙◌, ◌∷◌, ◌≡◌, ◌≢◌, ◌≤◌}
+pub use Rattle.std.proofs.lemmas.Bool.{and_parts, cases_eq, cases_lt, eqb-true, leb-true, ltb-true, or_cases}
 pub use Rattle.std.proofs.lemmas.List.{length-take-le, take-append-drop}
 pub use Rattle.std.proofs.lemmas.Option.{none-some, option_and_then_some, same_Some, slice_get-get_or}
-pub use Rattle.std.specs.Prelude.{All, Err, IsSomeAnd, if◌then◌else◌, is_some, slice_get, ◌==◌}
+pub use Rattle.std.specs.Prelude.{All, Err, IsSomeAnd, if◌then◌else◌, is_some, nat_lt, slice_get, ◌==◌, ◌||◌}
 pub use Rattle.run_history.proofs.Repeats.{repeated_keeps}
 pub use Rattle.run_history.proofs.Runs.{allocated_keeps, next_parts, received_keeps}
 pub use Rattle.session_history.proofs.Ended.{at_its_end, came_to, holds_at_end, is_end_answer}
 pub use Rattle.session_history.proofs.Growing.{ByChoice, ByEnd, ByItem, ByItself, BySend, Moved, moved}
 pub use Rattle.file_notes.proofs.CallingLemmas.{calls_then, front_all, front_behind, front_first}
-pub use Rattle.rx_serve.specs.Terms.{Added, AddsAlone, Answer, AreInRange, AreTwo, AtEnd, Calls, CallsFront, Choice, Chooses, Contents, Effect, Emits, Ends, EndsAt, EndsBy, Episode, Fails, FileCall, Form, Goes, HasComeTo, HasNoted, HasPassedAll, Heap, Image, InRecord, InReport, IoFault, IsAccount, IsChoice, IsComplete, IsDrained, IsEnd, IsHandedLast, IsImage, IsNoteStop, IsRecord, Item, Keeping, Left, Loaded, MAX_TAKEN, Machine, Names, NoOtherEnd, NoneFailed, Nothing, Options, Outcome, Parts, Prefix, Recorded, ReplayValue, ReplaysTrunk, Rose, Rules, Run, RunValue, SendsAreWritten, ServesTrunk, Session, Stands, Started, State, Stop, Stream, Unnoted, Wants, WritesSends, after, answer_of, asm, bounds_of, command_of, differ, effect, end_answer, entries_of, fits, heap_end, heap_start, items_in, journal_of, keeping_for, lines_of, noted, onto, output, positional, refused_behind, refused_from, refused_line, refused_lines, register, replay, replay_shown, rules_of, run, run_shown, starting, starts_of, text_of, texts_of, unnoted_of, written}
-unfoldable pub use Rattle.rx_serve.specs.Terms.{allocated, does, is_run, next, received, refusal, run_form, run_value, start, start_machine}
+pub use Rattle.rx_serve.specs.Terms.{Added, AddsAlone, Answer, AreAsks, AreInRange, AreTwo, AtEnd, Calls, CallsFront, Choice, Chooses, Contents, ConvertValue, ConvertsTrunk, Effect, Emits, Ends, EndsAt, EndsBy, Episode, Fails, FileCall, Form, Goes, HasComeTo, HasNoted, HasPassedAll, Heap, Image, InRecord, InReport, IoFault, IsAccount, IsAsk, IsChoice, IsComplete, IsDrained, IsEnd, IsHandedLast, IsImage, IsNoteStop, IsRecord, Item, Keeping, Left, Loaded, MAX_TAKEN, Machine, Names, NoOtherEnd, NoneFailed, Nothing, Options, Outcome, Parts, Prefix, Recorded, ReplayValue, ReplaysTrunk, Rose, Rules, Run, RunValue, SendsAreWritten, ServesTrunk, Session, Stands, Started, State, Stop, Stream, Unnoted, Wants, WritesSends, after, answer_of, asm, bounds_of, command_of, convert, convert_shown, differ, effect, end_answer, entries_of, fits, heap_end, heap_start, is_ask, items_in, journal_of, keeping_for, lines_of, noted, onto, output, positional, record_of, refused_behind, refused_from, refused_line, refused_lines, refused_under, replay, replay_shown, rules_of, run, run_shown, starting, starts_of, text_of, texts_of, unnoted_of, written}
+unfoldable pub use Rattle.rx_serve.specs.Terms.{allocated, does, end_of, head_of, is_run, next, received, refusal, run_form, run_value, start, start_machine}
 pub use Rattle.rx_serve.specs.declared.ending.End.{End}
 pub use Rattle.rx_serve.specs.Limits.{program_limit}
 pub use Rattle.rx_serve.specs.Outside.{IsUntouched, Outside, outside}
@@ -20,8 +20,9 @@ pub use Rattle.rx_serve.specs.Status.{status_of}
 pub use Rattle.rx_serve.specs.Settings.{options_of, rules_of_run, window_of}
 pub use Rattle.rx_serve.specs.Ended.{HasNoSession}
 pub use Rattle.rx_serve.specs.Noting.{ClosesFiles, EndsFiles, HaveTexts, IsFilesAnswer, ServesNoted, StartsFiles, names_of, report_form}
-pub use Rattle.rx_serve.specs.Calling.{CallsAnswer, CallsAsm, CallsEnding, CallsServed, CallsWrite, before_session, replaying}
+pub use Rattle.rx_serve.specs.Calling.{CallsAnswer, CallsAsm, CallsConvert, CallsEnding, CallsServed, CallsWrite, before_session, replayed, replaying}
 pub use Rattle.rx_serve.specs.Headline.{Headline, LastExits, Passed, received_items}
-pub use Rattle.rx_serve.specs.Replaying.{HasBeenReplayed, HasRecord, HasReplayCause, ReplaysFile, window_in}
+pub use Rattle.rx_serve.specs.Replaying.{HasBeenReplayed, HasRecord, HasRecording, HasReplayCause, ReplaysFile, window_in}
+pub use Rattle.rx_serve.specs.Converting.{ConvertsFile, LeavesText}
 pub use Rattle.rx_serve.specs.Commands.{HasServed, RunEnds}
-pub use Rattle.rx_serve.specs.Laws.{AllSendsAreWritten, GoodInputIsTaken, HasSameOutside, IsReplayedBy, OnlyBadWordsAreRefused, RecordsAreReplayed}
+pub use Rattle.rx_serve.specs.Laws.{AllSendsAreWritten, GoodInputIsTaken, HasSameOutside, IsReplayedBy, OnlyBadWordsAreRefused, RecordsAreConverted, RecordsAreReplayed, SecondVersionStays}

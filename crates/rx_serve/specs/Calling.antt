@@ -1,7 +1,7 @@
 -- Which files a command called by their names, in order.
 use Rattle.std.specs.Prelude.{◌≡◌, ℕ, true, List, [], ◌∷◌, ◌++◌, All, Option, Result, Ok, Err}
 use Rattle.run_history.specs.declared.answer.Answer.TheVariants as answer
-use Rattle.rx_serve.specs.Terms.{FileCall, Loaded, Calls, Prefix, Answer, IsEnd, CallsFront, ending, is_addition, starting, starts_of, ReplayValue, RunValue}
+use Rattle.rx_serve.specs.Terms.{FileCall, Loaded, Calls, Prefix, Answer, IsEnd, CallsFront, ending, is_addition, starting, starts_of, ConvertValue, ReplayValue, RunValue}
 use Rattle.rx_serve.specs.Noting.{names_of}
 
 -- one call that loads a file was made; where memory ran out, perhaps none
@@ -64,3 +64,20 @@ CallsWrite out old new _ = CallsFront old new (starts_of out)
 -- the calls of `replay`: the program is loaded, then its record
 abbrev pub replaying : ReplayValue → List FileCall
 replaying value = Loaded value.program ∷ Loaded value.recording ∷ []
+
+-- ---- convert
+
+-- the replay of the same names
+abbrev pub replayed : ConvertValue → ReplayValue
+replayed value = record { program = value.program; recording = value.recording }
+
+-- the calls of `convert`: those of the replay, and then the new record is started and added to
+abbrev pub converting : ConvertValue → List FileCall
+converting value = replaying (replayed value) ++ starts_of value.out
+
+-- All of them were made at Finished; at a fault of the files and want of memory some first ones. At each other answer the new record wasn't called.
+abbrev pub CallsConvert : ConvertValue → Option (List FileCall) → Option (List FileCall) → Answer → Type 0
+CallsConvert value old new answer.Finished = Calls old new (converting value)
+CallsConvert value old new answer.FileFault = CallsFront old new (converting value)
+CallsConvert value old new answer.Memory = CallsFront old new (converting value)
+CallsConvert value old new _ = CallsFront old new (replaying (replayed value))

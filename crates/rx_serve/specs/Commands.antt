@@ -1,10 +1,11 @@
 -- What each command leaves.
 use Rattle.std.specs.Prelude.{◌≡◌, ◌⊎◌, Option, Some, None, Ok, Err}
 use Rattle.run_history.specs.declared.answer.Answer.TheVariants as answer
-use Rattle.rx_serve.specs.Terms.{IoFault, Contents, Image, Answer, Stop, IsEnd, answer_of, CallsFront, keeping_for, AsmValue, CommandValue, ReplayValue, RunValue, asm, replay, run}
+use Rattle.rx_serve.specs.Terms.{IoFault, Contents, Image, Answer, Stop, IsEnd, answer_of, CallsFront, keeping_for, AsmValue, CommandValue, ConvertValue, ReplayValue, RunValue, asm, convert, replay, run}
 use Rattle.rx_serve.specs.declared.ending.End.{End}
 use Rattle.rx_serve.specs.Assembly.{Assembles, HasAsmCause}
-use Rattle.rx_serve.specs.Calling.{CallsAsm, CallsServed, before_session, replaying}
+use Rattle.rx_serve.specs.Calling.{CallsAsm, CallsConvert, CallsServed, before_session, replaying}
+use Rattle.rx_serve.specs.Converting.{ConvertsFile}
 use Rattle.rx_serve.specs.Ended.{HasNoSession}
 use Rattle.rx_serve.specs.Headline.{Headline}
 use Rattle.rx_serve.specs.Loading.{HasImage, HasLoadCause}
@@ -67,6 +68,13 @@ pub record ReplayEnds (value : ReplayValue) (old new : Outside) (end : End) : Ty
   pub same_files : new.files ≡ old.files
   pub nothing : HasNoSession end
 
+-- what `convert` leaves: the record of version 2 of the recorded run, or why there is none. Nothing was written to the output
+pub record ConvertEnds (value : ConvertValue) (old new : Outside) (end : End) : Type 0 where
+  pub converts : ConvertsFile value old new end.answer
+  pub called : CallsConvert value old.calls new.calls end.answer
+  pub same_output : new.output ≡ old.output
+  pub nothing : HasNoSession end
+
 -- what words of no command leave: they are refused, and nothing was touched
 pub record IsRefused (old new : Outside) (end : End) : Type 0 where
   pub answered : end.answer ≡ answer.BadWords
@@ -79,3 +87,4 @@ Ends None old new end = IsRefused old new end
 Ends (Some (run value)) old new end = RunEnds value old new end
 Ends (Some (asm value)) old new end = AsmEnds value old new end
 Ends (Some (replay value)) old new end = ReplayEnds value old new end
+Ends (Some (convert value)) old new end = ConvertEnds value old new end

@@ -32,7 +32,7 @@ pub record LastExits (image : Image) (items : List Item) (choices : List Choice)
 -- Over the account of a session:
 pub record Headline (rules : Rules) (image : Image) (session : Session) (recording : List Choice) (old new : Outside) (end : End) : Type 0 where
   -- one run of the program from its start on flat memory, which takes the received items once each in order, and of which every answer of
-  -- malloc is one that C allows: those that stand in the record, and those of the tail
+  -- the allocator is one that C allows: those that stand in the record, and those of the tail
   pub recorded : length recording ≡ end.recorded
   pub ran : Run image (received_items rules session) (recording ++ end.tail) end.steps session.survivor.now.state
   -- at an end all of them stand in the record

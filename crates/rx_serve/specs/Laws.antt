@@ -1,14 +1,16 @@
--- What holds of a `run`, and of a `replay` of the record that it left.
+-- What holds of a `run`, and of a `replay` and a `convert` of the record that it left.
 use Rattle.std.specs.Prelude.{[], ◌≡◌, Option, Some, None}
-use Rattle.rx_serve.specs.Terms.{Contents, Stream, Answer, Stop, IsComplete, IsEnd, answer_of, AreAllHeeded, WritesSends, CommandValue, ReplayValue, RunValue}
+use Rattle.rx_serve.specs.Terms.{Contents, Stream, Answer, Stop, IsComplete, IsEnd, answer_of, Recorded, VERSION, AreAllHeeded, WritesSends, CommandValue, ConvertValue, ReplayValue, RunValue}
 use Rattle.rx_serve.specs.Settings.{rules_of_run}
 use Rattle.command_line.specs.Ranges.{AreInRange}
 use Rattle.run_history.specs.declared.answer.Answer.TheVariants as answer
 use Rattle.rx_serve.specs.declared.ending.End.{End}
-use Rattle.rx_serve.specs.Commands.{HasServed, ReplayEnds, Ends}
+use Rattle.rx_serve.specs.Calling.{replayed}
+use Rattle.rx_serve.specs.Commands.{HasServed, ConvertEnds, ReplayEnds, Ends}
 use Rattle.rx_serve.specs.Limits.{record_limit}
 use Rattle.rx_serve.specs.Loading.{IsTooLarge}
 use Rattle.rx_serve.specs.Outside.{Outside}
+use Rattle.rx_serve.specs.Replaying.{HasRecord}
 
 -- A `replay` has what a `run` had: the same bytes as its program, as its record those that the run left, and the same input from its first byte.
 pub record HasSameOutside (value : RunValue) (replaying : ReplayValue) (files files_later again : Contents) (input input_again : Stream) : Type 0 where
@@ -35,6 +37,22 @@ RecordsAreReplayed =
     ReplayEnds replaying (record again { files = Some files_again; input = Some input_again }) again_later end_again →
     AreInRange value → IsEnd end.answer → HasSameOutside value replaying files files_later files_again input input_again →
     IsReplayedBy files_again replaying end_again.answer × (end_again.answer ≡ answer.Finished → WritesSends again.output again_later.output served.noted.serves.telling.account.survivor.now.state.sends)
+
+-- `convert` of a record of version 2 writes the same record, byte for byte.
+abbrev pub SecondVersionStays : Type 0
+SecondVersionStays =
+    (value : ConvertValue) (files files_later : Contents) (old new : Outside) (end : End) (recorded : Recorded) →
+    ConvertEnds value (record old { files = Some files }) (record new { files = Some files_later }) end → HasRecord (Some files) value.recording recorded → recorded.version ≡ VERSION →
+    end.answer ≡ answer.Finished → files_later value.out ≡ files value.recording
+
+-- So is the record of a session that came to an end, over the same input. At Finished what was written is that record.
+abbrev pub RecordsAreConverted : Type 0
+RecordsAreConverted =
+    (value : RunValue) (converting : ConvertValue) (files files_later files_again files_converted : Contents) (input input_again : Stream) (old new again again_later : Outside) (end end_again : End)
+    (served : HasServed value (record old { files = Some files; input = Some input }) (record new { files = Some files_later }) end) →
+    ConvertEnds converting (record again { files = Some files_again; input = Some input_again }) (record again_later { files = Some files_converted }) end_again →
+    AreInRange value → IsEnd end.answer → HasSameOutside value (replayed converting) files files_later files_again input input_again →
+    IsReplayedBy files_again (replayed converting) end_again.answer × (end_again.answer ≡ answer.Finished → files_converted converting.out ≡ files_later value.recording)
 
 -- BadWords is answered to words of no command alone.
 abbrev pub OnlyBadWordsAreRefused : Type 0

@@ -10,5 +10,6 @@ pub mod Noting
 pub mod Calling
 pub mod Headline
 pub mod Replaying
+pub mod Converting
 pub mod Commands
 pub mod Laws

@@ -9,7 +9,7 @@ use Rattle.rx_io.specs.declared.fault.IoFault.TheVariants as fault
 use Rattle.run_report.specs.declared.form.Form.TheVariants as form
 use Rattle.run_report.specs.Report as report
 use Rattle.schedule_file.specs.Lines as recording
-use Rattle.rx_serve.specs.Terms.{IoFault, Contents, Choice, Image, Answer, IsEnd, Rules, Episode, NoneFailed, noted, Keeping, Form, Left, unnoted_of, Names, Stands, Outcome, ServesTrunk, RunValue}
+use Rattle.rx_serve.specs.Terms.{IoFault, Contents, Choice, Image, Answer, IsEnd, Rules, Episode, NoneFailed, noted, Keeping, Form, VERSION, record_of, text_of, AreAsks, Left, unnoted_of, Names, Stands, Outcome, ServesTrunk, RunValue}
 use Rattle.rx_serve.specs.Outside.{Outside}
 use Rattle.rx_serve.specs.Status.{status_of}
 
@@ -28,20 +28,21 @@ report_form wanted.Json = form.Json
 
 -- both files are started, each with its first line; after a fault or want of memory, partly
 abbrev pub StartsFiles : RunValue → Option Contents → Option Contents → Result (Unit {0}) IoFault → Type 0
-StartsFiles value = StartsBoth (names_of value) (recording.head_line value.window value.frame) (report.head_text (report_form value.form))
+StartsFiles value = StartsBoth (names_of value) (recording.head_line VERSION value.window value.frame) (report.head_text (report_form value.form))
 
 -- both files are ended, each with its last line, which tell how many items were taken and instructions done
 abbrev pub EndsFiles : RunValue → Answer → ℕ → ℕ → Option Contents → Option Contents → Result (Unit {0}) IoFault → Type 0
 EndsFiles value ended taken steps = AddsBoth (names_of value) (recording.end_line steps taken) (report.end_text (status_of ended) taken steps (report_form value.form))
 
--- both files have their whole texts, whatever they had: the record every answer of malloc, the report every episode
+-- both files have their whole texts, whatever they had: the record every answer of the allocator, the report every episode
 abbrev pub HaveTexts : RunValue → List Choice → List Episode → Answer → ℕ → ℕ → Option Contents → Option Contents → Type 0
 HaveTexts value choices episodes ended taken steps files files_later =
-    StartsBoth (names_of value) (recording.record_text value.window value.frame choices steps taken) (report_text (report_form value.form) episodes (status_of ended) taken steps) files files_later (Ok tt)
+    StartsBoth (names_of value) (text_of (record_of value.window value.frame choices steps taken)) (report_text (report_form value.form) episodes (status_of ended) taken steps) files files_later (Ok tt)
 
--- A session served a trunk, and what it noted stands in its two files behind their first lines: a line of each answer of malloc that can't be rolled
--- back, and the text of each episode. What is left behind them is a part of what the call of its notes that broke it off was handed, so of lines of
--- its own answers of malloc, or of the text of its own last episode; else nothing is. So many instructions were counted.
+-- A session served a trunk, and what it noted stands in its two files behind their first lines: a line of each answer of the allocator that can't be
+-- rolled back, and the text of each episode. What is left behind them is a part of what the call of its notes that broke it off was handed, so of lines of
+-- its own answers of the allocator, or of the text of its own last episode; else nothing is. The numbers of what was asked have 32 bits each. So many
+-- instructions were counted.
 pub record ServesNoted (rules : Rules) (keeping : Keeping) (image : Image) (value : RunValue) (old new : Outside) (outcome : Outcome) : Type 0 where
   pub choices : List Choice
   pub episodes : List Episode
@@ -50,6 +51,7 @@ pub record ServesNoted (rules : Rules) (keeping : Keeping) (image : Image) (valu
   pub counts : new.counter ≡ old.counter + counted
   pub serves : ServesTrunk rules keeping image old.input new.input old.output new.output outcome (noted (Some []) (Some []) (Some NoneFailed)) (noted (Some choices) (Some episodes) (Some (unnoted_of left))) counted
   pub stands : Stands (names_of value) (report_form value.form) old.files new.files choices episodes left
+  pub asks : AreAsks choices
 
 -- What a session that came to this end leaves behind its notes. At an end of its own the last lines were written; where that failed, the answer
 -- says it in place of the end. Where it was broken off, its files are left as they are.

@@ -53,6 +53,18 @@ HasReplayCause told value FileFault = Unit {0}
 HasReplayCause told value Memory = Unit {0}
 HasReplayCause told value _ = ⊥
 
+-- a program and a record of it were loaded, and this is the program's image in the record's window
+pub record HasRecording (told : Option Contents) (value : ReplayValue) (image : Image) (recorded : Recorded) : Type 0 where
+  pub program : List ℕ
+  pub file : HasFile told value.program program_limit program
+  pub recording : HasRecord told value.recording recorded
+  pub is : IsImage program (window_in recorded) image
+
+-- the image and the record, or why there is none of them
+abbrev pub LoadsRecording : Option Contents → ReplayValue → Result (Image × Recorded) Answer → Type 0
+LoadsRecording told value (Ok both) = HasRecording told value both.0 both.1
+LoadsRecording told value (Err end) = HasReplayCause told value end
+
 -- no replay began: a file can't be loaded or is refused, or memory ran out. Nothing was read, written or run
 pub record HasNotReplayed (value : ReplayValue) (old new : Outside) (end : Answer) : Type 0 where
   pub cause : HasReplayCause old.files value end
@@ -60,12 +72,9 @@ pub record HasNotReplayed (value : ReplayValue) (old new : Outside) (end : Answe
 
 -- the record was replayed over the trunk, with the image of the program in the record's window, and so many instructions were counted
 pub record HasBeenReplayed (value : ReplayValue) (old new : Outside) (end : Answer) : Type 0 where
-  pub program : List ℕ
   pub image : Image
   pub recorded : Recorded
-  pub file : HasFile old.files value.program program_limit program
-  pub recording : HasRecord old.files value.recording recorded
-  pub is : IsImage program (window_in recorded) image
+  pub loaded : HasRecording old.files value image recorded
   pub called : Calls old.calls new.calls (replaying value)
   pub counted : ℕ
   pub counts : new.counter ≡ old.counter + counted

@@ -17,7 +17,7 @@ unfoldable pub use Rattle.elf_image.specs.Refusals.{refusal}
 pub use Rattle.run_history.specs.declared.answer.Answer.{Answer}
 pub use Rattle.run_history.specs.declared.answer.Answer.TheVariants.{AsmRefused, BadWords, CountsRefused, ElfRefused, Exited, FileFault, Finished, GaveUp, InputRefused, LimitEvents, LimitItems, Memory, MessageTooLong, Mismatch, ReadFault, RecordRefused, Short, TooLarge, WriteFault}
 unfoldable pub use Rattle.run_history.specs.Call.{allocated, received}
-pub use Rattle.run_history.specs.Machine.{Chooses, Effect, Emits, Ends, Fails, Goes, Machine, State, Wants, register}
+pub use Rattle.run_history.specs.Machine.{Chooses, Effect, Emits, Ends, Fails, Goes, Machine, State, Wants}
 unfoldable pub use Rattle.run_history.specs.Machine.{start, start_machine}
 pub use Rattle.run_history.specs.Run.{Run, after, effect, output}
 unfoldable pub use Rattle.run_history.specs.Run.{does, next}
@@ -32,9 +32,12 @@ pub use Rattle.session_notes.specs.Noting.{NoneFailed, Unnoted, noted}
 pub use Rattle.recovery.specs.Handling.{Keeping}
 pub use Rattle.run_report.specs.declared.form.Form.{Form}
 pub use Rattle.schedule_file.specs.declared.recorded.Recorded.{Recorded}
-pub use Rattle.schedule_file.specs.declared.recorded.TheConstants.{MAX_TAKEN}
-pub use Rattle.schedule_file.specs.Records.{IsChoice, IsReading, IsRecord, text_of}
-pub use Rattle.schedule_file.specs.Refusals.{lines_of, onto, refused_behind, refused_from, refused_line, refused_lines}
+pub use Rattle.schedule_file.specs.declared.recorded.TheConstants.{MAX_TAKEN, VERSION}
+pub use Rattle.schedule_file.specs.Records.{IsAsk, IsChoice, IsReading, IsRecord, record_of, text_of}
+pub use Rattle.schedule_file.specs.Refusals.{lines_of, onto, refused_behind, refused_from, refused_line, refused_lines, refused_under}
+pub use Rattle.schedule_file.specs.Telling.{is_ask}
+unfoldable pub use Rattle.schedule_file.specs.Telling.{end_of, head_of}
+pub use Rattle.file_notes.specs.Asks.{AreAsks}
 pub use Rattle.file_notes.specs.Calling.{AddsAlone, CallsFront, ending, is_addition, starting, starts_of}
 pub use Rattle.file_notes.specs.Left.{InRecord, InReport, Left, Nothing, unnoted_of}
 pub use Rattle.file_notes.specs.Names.{AreTwo, Names}
@@ -43,9 +46,10 @@ pub use Rattle.session_state.specs.declared.options.Options.{Options}
 pub use Rattle.session_state.specs.Options.{AreInRange, keeping_for, rules_of}
 pub use Rattle.session_state.specs.Recovered.{HasNoted, IsHandedLast, IsNoteStop, Outcome}
 pub use Rattle.replay.specs.Replaying.{EndsBy, bounds_of}
+pub use Rattle.over_trunk.specs.Converting.{ConvertsTrunk}
 pub use Rattle.over_trunk.specs.EndLaws.{AreAllHeeded, NoOtherEnd, SendsAreWritten}
 pub use Rattle.over_trunk.specs.Replaying.{ReplaysTrunk, WritesSends}
 pub use Rattle.over_trunk.specs.Serving.{ServesTrunk}
-pub use Rattle.command_line.specs.Commands.{AsmValue, CommandValue, ReplayValue, RunValue, asm, command_of, differ, fits, positional, replay, replay_shown, run, run_shown}
+pub use Rattle.command_line.specs.Commands.{AsmValue, CommandValue, ConvertValue, ReplayValue, RunValue, asm, command_of, convert, convert_shown, differ, fits, positional, replay, replay_shown, run, run_shown}
 unfoldable pub use Rattle.command_line.specs.Commands.{is_run, run_form, run_value}
 pub use Rattle.command_line.specs.Parts.{Parts, texts_of}

@@ -36,8 +36,8 @@ fn load_text<F: Files>(alloc: Global, files: &mut F, name: &str) -> Result<Image
     }
 }
 
-// Makes a file of these bytes.
-fn write_file<F: Files>(files: &mut F, name: &str, bytes: &[u8]) -> Answer
+/// Makes a file of these bytes.
+pub(crate) fn write_file<F: Files>(files: &mut F, name: &str, bytes: &[u8]) -> Answer
     ensures writes { Writes (F.told files.old) (F.told files.new) name.now bytes.now result }
     ensures calls { CallsWrite name.now (F.calls files.old) (F.calls files.new) result }
     ensures later { F.faults files.old ≤ F.faults files.new }

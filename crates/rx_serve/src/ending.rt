@@ -8,7 +8,7 @@ use run_history::Answer;
 use rx_engine::Left;
 use std::alloc::Global;
 
-/// How a command ended: its answer, the status for the shell, and of a session's run how many answers of malloc stand in
+/// How a command ended: its answer, the status for the shell, and of a session's run how many answers of the allocator stand in
 /// the record, those behind them, its instructions, and the items that it took. Without a session these are 0 and empty.
 #[derive(Debug, Drop)]
 pub struct End {

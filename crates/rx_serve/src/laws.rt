@@ -1,7 +1,10 @@
 //! Laws of the commands.
-ghost use Rattle.rx_serve.specs.Laws.{RecordsAreReplayed, GoodInputIsTaken, AllSendsAreWritten, OnlyBadWordsAreRefused};
+ghost use Rattle.rx_serve.specs.Laws.{RecordsAreReplayed, RecordsAreConverted, SecondVersionStays, GoodInputIsTaken, AllSendsAreWritten, OnlyBadWordsAreRefused};
 
-use over_trunk::laws::{no_other_end, same_bytes_are_replayed, sends_are_written};
+use over_trunk::laws::{
+    converts_to_itself, no_other_end, same_bytes_are_replayed, sends_are_written,
+    session_is_converted,
+};
 use schedule_file::laws::one_reading;
 
 /// The record that `run` left at an end is replayed by `replay` over the same program and the same input, to the frames of the sends of its run.
@@ -10,6 +13,22 @@ pub fn records_are_replayed()
 {
     one_reading();
     same_bytes_are_replayed();
+}
+
+/// `convert` of a record of version 2 writes the same record, byte for byte.
+pub fn second_version_stays()
+    ensures { SecondVersionStays }
+{
+    one_reading();
+    converts_to_itself();
+}
+
+/// The record that `run` left at an end is written again by `convert` over the same program and the same input, byte for byte.
+pub fn records_are_converted()
+    ensures { RecordsAreConverted }
+{
+    one_reading();
+    session_is_converted();
 }
 
 /// BadWords is answered to words of no command alone.

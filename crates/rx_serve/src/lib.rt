@@ -7,6 +7,7 @@
 #![tactic(auto)]
 
 mod assembly;
+mod converting;
 mod ending;
 pub mod laws;
 mod loading;

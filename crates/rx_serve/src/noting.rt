@@ -90,7 +90,7 @@ pub(crate) fn start_notes<F: Files>(
     start_files(alloc, files, &names, &first, report_form(run.form))
 }
 
-/// Serves a trunk, and notes the answers of malloc and the recoveries in both files.
+/// Serves a trunk, and notes the answers of the allocator and the recoveries in both files.
 pub(crate) fn serve_noted<R: AccessRule, F: Files, S: Source, K: Sink, L: Ledger>(
     alloc: Global,
     run: &RunCommand<'_>,

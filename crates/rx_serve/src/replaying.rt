@@ -2,13 +2,14 @@
 ghost use Rattle.std.specs.Prelude.{◌≡◌, ◌≤◌};
 ghost use Rattle.command_line.specs.Commands.{replay_shown};
 ghost use Rattle.rx_io.specs.Faults.{Rose};
-ghost use Rattle.file_notes.specs.Calling.{CallsFront};
+ghost use Rattle.file_notes.specs.Calling.{CallsFront, CallsUpTo};
 ghost use Rattle.rx_serve.specs.Calling.{CallsLoad, replaying};
 ghost use Rattle.rx_serve.specs.Outside.{outside, faults, HasFaults};
-ghost use Rattle.rx_serve.specs.Replaying.{LoadsRecord, ReplaysFile};
+ghost use Rattle.rx_serve.specs.Replaying.{LoadsRecord, LoadsRecording, ReplaysFile};
 
 use crate::loading::{MAX_PROGRAM, image_in, load_file};
 use command_line::ReplayCommand;
+use elf_image::Image;
 use over_trunk::replay_trunk;
 use run_history::Answer;
 use rx_io::{Files, Sink, Source, Steps};
@@ -38,7 +39,33 @@ fn load_record<F: Files>(alloc: Global, files: &mut F, name: &str) -> Result<Rec
     }
 }
 
-/// Loads a program, then its record, reads the record, then the image in the record's window, and replays it.
+/// Loads a program, then its record, reads the record, then the image in the record's window.
+pub(crate) fn load_recording<F: Files>(
+    alloc: Global,
+    files: &mut F,
+    replay: &ReplayCommand<'_>,
+) -> Result<(Image, Recorded), Answer>
+    ensures loads { LoadsRecording (F.told files.old) (replay_shown replay.now) result }
+    ensures calls { CallsUpTo (F.calls files.old) (F.calls files.new) (replaying (replay_shown replay.now)) result }
+    ensures same { F.told files.new ≡ F.told files.old }
+    ensures later { F.faults files.old ≤ F.faults files.new }
+    ensures file_fault { result ≡ Err Answer.FileFault → Rose (F.faults files.old) (F.faults files.new) }
+{
+    let program = match load_file(alloc, files, replay.program, MAX_PROGRAM) {
+        Ok(program) => program,
+        Err(answer) => return Err(answer),
+    };
+    let recorded = match load_record(alloc, files, replay.recording) {
+        Ok(recorded) => recorded,
+        Err(answer) => return Err(answer),
+    };
+    match image_in(alloc, program.as_slice(), recorded.window << 20) {
+        Ok(image) => Ok((image, recorded)),
+        Err(answer) => Err(answer),
+    }
+}
+
+/// Loads a program and its record, and replays it.
 pub(crate) fn replay_file<F: Files, S: Source, K: Sink, L: Ledger>(
     alloc: Global,
     replay: &ReplayCommand<'_>,
@@ -53,16 +80,8 @@ pub(crate) fn replay_file<F: Files, S: Source, K: Sink, L: Ledger>(
     ensures counted_more { steps.old ≤ steps.new }
     ensures faults { HasFaults (faults (F.faults files.old) (S.faults input.old) (K.faults output.old)) (faults (F.faults files.new) (S.faults input.new) (K.faults output.new)) result }
 {
-    let program = match load_file(alloc, files, replay.program, MAX_PROGRAM) {
-        Ok(program) => program,
-        Err(answer) => return answer,
-    };
-    let recorded = match load_record(alloc, files, replay.recording) {
-        Ok(recorded) => recorded,
-        Err(answer) => return answer,
-    };
-    let image = match image_in(alloc, program.as_slice(), recorded.window << 20) {
-        Ok(image) => image,
+    let (image, recorded) = match load_recording(alloc, files, replay) {
+        Ok(both) => both,
         Err(answer) => return answer,
     };
     replay_trunk(alloc, &image, &recorded, input, output, steps)

@@ -7,6 +7,7 @@ ghost use Rattle.rx_serve.specs.Outside.{outside, faults, HasFaults};
 ghost use Rattle.rx_serve.specs.Status.{status_of};
 
 use crate::assembly::assemble_file;
+use crate::converting::convert_file;
 use crate::ending::End;
 use crate::replaying::replay_file;
 use crate::serving::run_program;
@@ -19,10 +20,11 @@ use std::sync::ledger::Ledger;
 /// Runs a command over any outside: `words` are those behind the program's own name.
 ///
 /// `run PROGRAM --record RECORD --report REPORT` loads the program, and lets it serve the trunk of `input` and `output`: its
-/// events are taken as the program asks for them, and its sends are passed as frames. The record has each answer of malloc of the
+/// events are taken as the program asks for them, and its sends are passed as frames. The record has each answer of the allocator of the
 /// run that the session answers for, the report each failure and what was tried after it. `asm SOURCE OUT` loads a text,
 /// assembles it in a window of 1 MiB, and writes its executable. `replay PROGRAM RECORD` loads a program and a record of it, and does
 /// the recorded run again over the trunk of `input` and `output`: its sends are frames, and events are taken only where it asks for an item.
+/// `convert PROGRAM RECORD OUT` does the recorded run again over `input`, gives nothing, and writes the record of version 2 of that run.
 pub fn run_rx<F: Files, S: Source, K: Sink, N: Listener, L: Ledger>(
     alloc: Global,
     words: &[String],
@@ -34,7 +36,8 @@ pub fn run_rx<F: Files, S: Source, K: Sink, N: Listener, L: Ledger>(
 ) -> End
     // What is left, by cases on the command that the words ask for. `run`: the headline, with the account that it is true of; or no session began, by its
     // cause. `asm`: the executable of the text's image, and nothing else is touched. `replay`: the recorded run is done again, or no replay began,
-    // by its cause. Words of no command are refused, and nothing is touched.
+    // by its cause. `convert`: the recorded run is done again, and at its end its record of version 2 is written; or no run began or came to its end, by
+    // its cause. Words of no command are refused, and nothing is touched.
     ensures ends { Ends (command_of (texts_of words.now)) (outside (F.told files.old) (F.calls files.old) (S.told input.old) (K.told output.old) steps.old) (outside (F.told files.new) (F.calls files.new) (S.told input.new) (K.told output.new) steps.new) result }
 
     // A fault is answered only where the count of that object's own faults rose.
@@ -54,6 +57,10 @@ pub fn run_rx<F: Files, S: Source, K: Sink, N: Listener, L: Ledger>(
         }
         Ok(Some(Command::Replay(replay))) => {
             let answer = replay_file(alloc, &replay, files, input, output, steps);
+            End::without_session(alloc, answer)
+        }
+        Ok(Some(Command::Convert(convert))) => {
+            let answer = convert_file(alloc, &convert, files, input, steps);
             End::without_session(alloc, answer)
         }
         Ok(None) => End::without_session(alloc, Answer::BadWords),

@@ -1,7 +1,7 @@
 -- Digits that are written are read as the number that they were written of.
 use Rattle.std.proofs.lemmas.Str.Parse.{IsNumeralModel, FoldsDigits, numerals_by_fold, tells_all_ascii_digits}
 use Rattle.std.proofs.lemmas.Fmt.{digits_decimal, digits_value-decimal}
-use Rattle.schedule_file.proofs.Terms.{List, [], ap, arith, false, refl, suc, true, ℕ, ◌%◌, ◌*◌, ◌++◌, ◌+◌, ◌-◌, ◌/◌, ◌<◌, ◌^◌, ◌∙◌, ◌∷◌, ◌≡◌, and_parts, nat_tests, is_ascii_digit, decimal, all_ascii_digits, eight_digits, hex_digit, hex_digits, behind_digits, clipped, hex_from, hex_value, number_from}
+use Rattle.schedule_file.proofs.Terms.{List, [], ap, arith, cond, false, length, refl, suc, take, true, ℕ, ◌%◌, ◌*◌, ◌++◌, ◌+◌, ◌-◌, ◌/◌, ◌<◌, ◌^◌, ◌∙◌, ◌∷◌, ◌≡◌, and_parts, nat_tests, is_ascii_digit, decimal, nat_lt, all_ascii_digits, eight_digits, hex_digit, hex_digits, behind_digits, clipped, hex_from, hex_value, number_from}
 
 -- what a loop over digits has found: a number, which it tells as far as that goes
 pub record IsNumberSoFar (bytes rest : List ℕ) (told : ℕ) : Type 0 where
@@ -72,3 +72,9 @@ hex-eight_digits n small =
     (hex_from 0 (hex_digits 4 d)) (hex_from 0 (hex_digits 3 e)) (hex_from 0 (hex_digits 2 f)) (hex_from 0 (hex_digits 1 g))
     small refl refl refl refl refl refl refl refl
     (hex_step 7 n) (hex_step 6 a) (hex_step 5 b) (hex_step 4 c) (hex_step 3 d) (hex_step 2 e) (hex_step 1 f) (hex_step 0 g)
+
+-- eight digits in front of some bytes are read as their number
+pub hex-front : (n : ℕ) (rest : List ℕ) → n < 2 ^ 32 → cond (nat_lt (length (eight_digits n ++ rest)) 8) 0 (hex_from 0 (take 8 (eight_digits n ++ rest))) ≡ n
+hex-front n rest small =
+    let many : nat_lt (length (eight_digits n ++ rest)) 8 ≡ false = grind (arith, nat_tests) in
+    rw many (hex-eight_digits n small)

@@ -1,7 +1,7 @@
 pub mod Terms
 pub mod Digits
 pub mod Written
-pub mod Lines
+pub mod Cutting
 pub mod Refusing
 pub mod Same
 pub mod Whole

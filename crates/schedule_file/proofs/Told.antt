@@ -1,5 +1,5 @@
 -- What the code tells of a first line and of a last line.
-use Rattle.schedule_file.proofs.Terms.{Bool, List, None, Some, ap, arith, cond, drop, false, refl, sym, true, ℕ, ◌&&◌, ◌<◌, ◌^◌, ◌∙◌, ◌≡◌, ◌≤◌, nat_tests, bytes_eq, nat_le, nat_lt, Choice, Framing, MAX_TAKEN, MAX_WINDOW, choice_line, end_line, head_line, behind_digits, choice_of, choice_told, clipped, end_of, end_told, frame_told, head_of, head_told, if_written, is_choice, is_end, is_head, number_from, written_end, written_head}
+use Rattle.schedule_file.proofs.Terms.{Bool, List, None, Some, ap, arith, cond, drop, false, refl, sym, true, ℕ, ◌&&◌, ◌-◌, ◌<◌, ◌^◌, ◌∙◌, ◌≡◌, ◌≤◌, nat_tests, bytes_eq, nat_le, nat_lt, Framing, Line, MAX_TAKEN, MAX_WINDOW, VERSION, end_line, head_line, line_text, answer_of, behind_digits, clipped, end_of, end_told, frame_told, head_of, head_told, if_written, is_answer, is_end, is_head, line_told, number_from, window_part, written_end, written_head}
 use Rattle.schedule_file.proofs.Written.{head_with, head_same, end_with, end_same}
 
 -- ---- any form
@@ -12,37 +12,57 @@ by_same test write told value line same is ok h = rw is (rw (ok, h) refl)
 
 -- ---- the first line
 
--- a window in its range is told whole
-window_whole : (whole : ℕ) → (nat_le 1 (clipped whole) && nat_le (clipped whole) MAX_WINDOW) ≡ true → clipped whole ≡ whole
-window_whole whole h = let range : clipped whole ≤ MAX_WINDOW = grind (arith, nat_tests) in omega arith
+abbrev in_ranges : ℕ → ℕ → Bool
+in_ranges version window = (nat_le 1 version && nat_le version VERSION) && (nat_le 1 window && nat_le window MAX_WINDOW)
 
-window_test : (whole : ℕ) → (nat_le 1 (clipped whole) && nat_le (clipped whole) MAX_WINDOW) ≡ (nat_le 1 whole && nat_le whole MAX_WINDOW)
-window_test whole = grind (arith, nat_tests)
+-- numbers in their ranges are told whole
+head_whole : (version window : ℕ) → in_ranges (clipped version) (clipped window) ≡ true → (clipped version ≡ version) × (clipped window ≡ window)
+head_whole version window h =
+    let few : clipped version ≤ VERSION = grind (arith, nat_tests) in
+    let small : clipped window ≤ MAX_WINDOW = grind (arith, nat_tests) in
+    (omega arith, omega arith)
 
-pub no_window : (line : List ℕ) (window : ℕ) → window ≡ clipped (number_from 0 (drop 19 line)) → (nat_le 1 window && nat_le window MAX_WINDOW) ≡ false → None ≡ head_of line
+range_test : (n most : ℕ) → most < 2 ^ 64 - 1 → (nat_le 1 (clipped n) && nat_le (clipped n) most) ≡ (nat_le 1 n && nat_le n most)
+range_test n most h = grind (arith, nat_tests)
+
+head_test : (version window : ℕ) → in_ranges (clipped version) (clipped window) ≡ in_ranges version window
+head_test version window = rw (range_test version VERSION (omega arith), range_test window MAX_WINDOW (omega arith)) refl
+
+pub no_head : (line rest : List ℕ) (version window : ℕ) → version ≡ clipped (number_from 0 (drop 10 line)) → rest ≡ behind_digits (drop 10 line) → window ≡ clipped (number_from 0 (drop 8 rest)) →
+    ((nat_le 1 version && nat_le version VERSION) && (nat_le 1 window && nat_le window MAX_WINDOW)) ≡ false → None ≡ head_of line
 unfolding head_of
-no_window line window is h =
-    let whole : ℕ = number_from 0 (drop 19 line) in
-    not_in_range is_head written_head (head_told line) line (sym (window_test whole) ∙ ap (λ w. nat_le 1 w && nat_le w MAX_WINDOW) (sym is) ∙ h)
+no_head line rest version window version_is rest_is window_is h =
+    let first : ℕ = number_from 0 (drop 10 line) in
+    let second : ℕ = number_from 0 (window_part line) in
+    let window_told : window ≡ clipped second = window_is ∙ ap (λ bytes. clipped (number_from 0 (drop 8 bytes))) rest_is in
+    not_in_range is_head written_head (head_told line) line
+    (sym (head_test first second) ∙ ap (λ n. in_ranges n (clipped second)) (sym version_is) ∙ ap (λ n. in_ranges version n) (sym window_told) ∙ h)
 
-pub head_by : (line rest : List ℕ) (window : ℕ) (frame : Framing) (same : Bool) → window ≡ clipped (number_from 0 (drop 19 line)) → rest ≡ behind_digits (drop 19 line) → frame ≡ frame_told rest → (nat_le 1 window && nat_le window MAX_WINDOW) ≡ true → bytes_eq (head_line window frame) line ≡ same → head_of line ≡ cond same (Some (head_with window frame)) None
+pub head_by : (line rest behind : List ℕ) (version window : ℕ) (frame : Framing) (same : Bool) → version ≡ clipped (number_from 0 (drop 10 line)) → rest ≡ behind_digits (drop 10 line) → window ≡ clipped (number_from 0 (drop 8 rest)) →
+    behind ≡ behind_digits (drop 8 rest) → frame ≡ frame_told behind → ((nat_le 1 version && nat_le version VERSION) && (nat_le 1 window && nat_le window MAX_WINDOW)) ≡ true → bytes_eq (head_line version window frame) line ≡ same →
+    head_of line ≡ cond same (Some (head_with version window frame)) None
 unfolding head_of
-head_by line rest window frame same is rest_is frame_is ok h =
-    let whole : ℕ = number_from 0 (drop 19 line) in
-    let in_range : (nat_le 1 (clipped whole) && nat_le (clipped whole) MAX_WINDOW) ≡ true = ap (λ w. nat_le 1 w && nat_le w MAX_WINDOW) (sym is) ∙ ok in
-    by_same is_head written_head (head_told line) (head_with window frame) line same
-    (head_same window frame whole (frame_told (behind_digits (drop 19 line))) (sym (is ∙ window_whole whole in_range)) (sym (frame_is ∙ ap frame_told rest_is)))
+head_by line rest behind version window frame same version_is rest_is window_is behind_is frame_is ok h =
+    let first : ℕ = number_from 0 (drop 10 line) in
+    let second : ℕ = number_from 0 (window_part line) in
+    let window_told : window ≡ clipped second = window_is ∙ ap (λ bytes. clipped (number_from 0 (drop 8 bytes))) rest_is in
+    let frame_found : frame ≡ frame_told (behind_digits (window_part line)) = frame_is ∙ ap frame_told (behind_is ∙ ap (λ bytes. behind_digits (drop 8 bytes)) rest_is) in
+    let in_range : in_ranges (clipped first) (clipped second) ≡ true
+    = ap (λ n. in_ranges n (clipped second)) (sym version_is) ∙ ap (λ n. in_ranges version n) (sym window_told) ∙ ok in
+    let both = head_whole first second in_range in
+    by_same is_head written_head (head_told line) (head_with version window frame) line same
+    (head_same version window frame first second (frame_told (behind_digits (window_part line))) (sym (version_is ∙ both.0)) (sym (window_told ∙ both.1)) (sym frame_found))
     ok h
 
--- ---- an answer of malloc
+-- ---- an answer of the allocator
 
-pub no_choice : (line : List ℕ) (choice : Choice) → choice ≡ choice_told line → is_choice choice ≡ false → None ≡ choice_of line
-unfolding choice_of
-no_choice line choice is h = not_in_range is_choice choice_line (choice_told line) line (ap is_choice (sym is) ∙ h)
+pub no_answer : (version : ℕ) (line : List ℕ) (answer : Line) → answer ≡ line_told version line → is_answer version answer ≡ false → None ≡ answer_of version line
+unfolding answer_of
+no_answer version line answer is h = not_in_range (is_answer version) line_text (line_told version line) line (ap (is_answer version) (sym is) ∙ h)
 
-pub choice_by : (line : List ℕ) (choice : Choice) (same : Bool) → choice ≡ choice_told line → is_choice choice ≡ true → bytes_eq (choice_line choice) line ≡ same → choice_of line ≡ cond same (Some choice) None
-unfolding choice_of
-choice_by line choice same is ok h = by_same is_choice choice_line (choice_told line) choice line same (sym is) ok h
+pub answer_by : (version : ℕ) (line : List ℕ) (answer : Line) (same : Bool) → answer ≡ line_told version line → is_answer version answer ≡ true → bytes_eq (line_text answer) line ≡ same → answer_of version line ≡ cond same (Some answer) None
+unfolding answer_of
+answer_by version line answer same is ok h = by_same (is_answer version) line_text (line_told version line) answer line same (sym is) ok h
 
 -- ---- the last line
 

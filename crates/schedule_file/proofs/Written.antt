@@ -1,7 +1,8 @@
 -- A line is read as the value that it was written of, and as no other.
 use Rattle.std.proofs.lemmas.Slice.Eq.{bytes_eq-Decides}
-use Rattle.schedule_file.proofs.Terms.{Bool, List, None, Option, Some, [], ap, arith, cond, drop, false, length, not, refl, sym, true, ℕ, ◌&&◌, ◌++◌, ◌<◌, ◌^◌, ◌∙◌, ◌∷◌, ◌≡◌, ◌≢◌, ◌≤◌, nat_tests, same_Some, decimal, bytes_eq, nat_le, nat_lt, slice_index, ◌==◌, Choice, Framing, Length, Line, Whole, End, Head, MAX_TAKEN, MAX_WINDOW, choice_line, eight_digits, end_line, frame_name, head_line, IsChoice, behind_digits, choice_of, choice_told, end_of, end_told, frame_told, head_of, head_told, hex_from, if_written, is_choice, is_end, is_head, number_from, written_end, written_head}
-use Rattle.schedule_file.proofs.Digits.{number-decimal, behind-decimal, hex-eight_digits}
+use Rattle.msg_frame.specs.declared.framing.Framing.TheVariants as framing
+use Rattle.schedule_file.proofs.Terms.{Bool, List, None, Option, Some, [], ap, arith, cond, drop, false, refl, sym, true, ℕ, ◌&&◌, ◌++◌, ◌<◌, ◌^◌, ◌∙◌, ◌∷◌, ◌≡◌, ◌≤◌, and_parts, nat_tests, same_Some, decimal, bytes_eq, nat_le, nat_lt, slice_index, ◌==◌, Ask, Calloc, Malloc, Realloc, Framing, End, Head, Line, MAX_TAKEN, MAX_WINDOW, VERSION, arguments, eight_digits, end_line, frame_name, head_line, letter, line_text, mark, IsAnswer, IsAsk, IsAskOf, WasCalloc, answer_of, ask_told, asked_told, behind_digits, end_of, end_told, frame_told, head_of, head_told, hex_at, if_written, is_answer, is_ask, is_ask_of, is_end, is_head, is_marked, line_told, number_from, was_calloc, written_end, written_head}
+use Rattle.schedule_file.proofs.Digits.{number-decimal, behind-decimal, hex-front}
 
 -- ---- any form
 
@@ -21,96 +22,186 @@ written_complete test write told value ok same = rw same (rw (ok, (bytes_eq-Deci
 -- ---- the first line
 
 by_frame : (frame : Framing) → frame_told (32 ∷ 102 ∷ 114 ∷ 97 ∷ 109 ∷ 101 ∷ 32 ∷ (frame_name frame ++ 10 ∷ [])) ≡ frame
-by_frame Line = refl
-by_frame Length = refl
-by_frame Whole = refl
+by_frame framing.Line = refl
+by_frame framing.Length = refl
+by_frame framing.Whole = refl
 
-abbrev pub head_with : ℕ → Framing → Head
-head_with window frame = record { window = window; frame = frame }
+abbrev pub head_with : ℕ → ℕ → Framing → Head
+head_with version window frame = record { version = version; window = window; frame = frame }
 
-pub head_same : (window : ℕ) (frame : Framing) (a : ℕ) (f : Framing) → a ≡ window → f ≡ frame → head_with a f ≡ head_with window frame
-head_same window frame a f h k = rw (h, k) refl
+pub head_same : (version window : ℕ) (frame : Framing) (a b : ℕ) (f : Framing) → a ≡ version → b ≡ window → f ≡ frame → head_with a b f ≡ head_with version window frame
+head_same version window frame a b f h i k = rw (h, i, k) refl
 
-pub head_told-line : (window : ℕ) (frame : Framing) → window < 2 ^ 64 → head_told (head_line window frame) ≡ head_with window frame
+pub head_told-line : (version window : ℕ) (frame : Framing) → version < 2 ^ 64 → window < 2 ^ 64 → head_told (head_line version window frame) ≡ head_with version window frame
 unfolding head_line
-head_told-line window frame small =
-    let behind : List ℕ = 102 ∷ 114 ∷ 97 ∷ 109 ∷ 101 ∷ 32 ∷ (frame_name frame ++ 10 ∷ []) in
-    head_same window frame (number_from 0 (decimal window ++ 32 ∷ behind)) (frame_told (behind_digits (decimal window ++ 32 ∷ behind)))
-    (number-decimal window 32 behind small refl)
-    (ap frame_told (behind-decimal window 32 behind small refl) ∙ by_frame frame)
+head_told-line version window frame few small =
+    let named : List ℕ = 102 ∷ 114 ∷ 97 ∷ 109 ∷ 101 ∷ 32 ∷ (frame_name frame ++ 10 ∷ []) in
+    let behind : List ℕ = 119 ∷ 105 ∷ 110 ∷ 100 ∷ 111 ∷ 119 ∷ 32 ∷ (decimal window ++ 32 ∷ named) in
+    let rest : List ℕ = behind_digits (decimal version ++ 32 ∷ behind) in
+    let rest_is : rest ≡ 32 ∷ behind = behind-decimal version 32 behind few refl in
+    head_same version window frame (number_from 0 (decimal version ++ 32 ∷ behind)) (number_from 0 (drop 8 rest)) (frame_told (behind_digits (drop 8 rest)))
+    (number-decimal version 32 behind few refl)
+    (ap (λ bytes. number_from 0 (drop 8 bytes)) rest_is ∙ number-decimal window 32 named small refl)
+    (ap (λ bytes. frame_told (behind_digits (drop 8 bytes))) rest_is ∙ ap frame_told (behind-decimal window 32 named small refl) ∙ by_frame frame)
 
-head_test : (window : ℕ) → 1 ≤ window → window ≤ MAX_WINDOW → (nat_le 1 window && nat_le window MAX_WINDOW) ≡ true
-head_test window h k = grind (arith, nat_tests)
+head_test : (version window : ℕ) → 1 ≤ version → version ≤ VERSION → 1 ≤ window → window ≤ MAX_WINDOW → ((nat_le 1 version && nat_le version VERSION) && (nat_le 1 window && nat_le window MAX_WINDOW)) ≡ true
+head_test version window h i k l = grind (arith, nat_tests)
 
-pub is_head-from : (head : Head) → 1 ≤ head.window → head.window ≤ MAX_WINDOW → is_head head ≡ true
-is_head-from head h k = head_test head.window h k
+-- the numbers of a first line are in their ranges
+pub record IsHead (head : Head) : Type 0 where
+  pub some_version : 1 ≤ head.version
+  pub version : head.version ≤ VERSION
+  pub some_window : 1 ≤ head.window
+  pub window : head.window ≤ MAX_WINDOW
 
-head_facts : (window : ℕ) → (nat_le 1 window && nat_le window MAX_WINDOW) ≡ true → (1 ≤ window) × (window ≤ MAX_WINDOW)
-head_facts window h = (grind (arith, nat_tests), grind (arith, nat_tests))
+pub is_head-from : (head : Head) → IsHead head → is_head head ≡ true
+is_head-from head h = head_test head.version head.window h.some_version h.version h.some_window h.window
 
-pub is_head-facts : (head : Head) → is_head head ≡ true → (1 ≤ head.window) × (head.window ≤ MAX_WINDOW)
-is_head-facts head h = head_facts head.window h
+range_facts : (n most : ℕ) → (nat_le 1 n && nat_le n most) ≡ true → (1 ≤ n) × (n ≤ most)
+range_facts n most h = (grind (arith, nat_tests), grind (arith, nat_tests))
 
-pub head_of-line : (head : Head) → is_head head ≡ true → head.window < 2 ^ 64 → head_of (head_line head.window head.frame) ≡ Some head
+pub is_head-facts : (head : Head) → is_head head ≡ true → IsHead head
+is_head-facts head h =
+    let both = and_parts (nat_le 1 head.version && nat_le head.version VERSION) (nat_le 1 head.window && nat_le head.window MAX_WINDOW) h in
+    let first = range_facts head.version VERSION both.0 in
+    let second = range_facts head.window MAX_WINDOW both.1 in
+    record { some_version = first.0; version = first.1; some_window = second.0; window = second.1 }
+
+pub head_of-line : (head : Head) → is_head head ≡ true → head.version < 2 ^ 64 → head.window < 2 ^ 64 → head_of (head_line head.version head.window head.frame) ≡ Some head
 unfolding head_of
-head_of-line head ok small = written_complete is_head written_head (head_told (head_line head.window head.frame)) head ok (head_told-line head.window head.frame small)
+head_of-line head ok few small =
+    written_complete is_head written_head (head_told (head_line head.version head.window head.frame)) head ok (head_told-line head.version head.window head.frame few small)
 
-pub head_of-written : (head : Head) → is_head head ≡ true → head_of (head_line head.window head.frame) ≡ Some head
-head_of-written head ok = let range = is_head-facts head ok in head_of-line head ok (omega (arith, range.1))
+pub head_of-written : (head : Head) → is_head head ≡ true → head_of (head_line head.version head.window head.frame) ≡ Some head
+head_of-written head ok = let range = is_head-facts head ok in head_of-line head ok (omega (arith, range.version)) (omega (arith, range.window))
 
-pub head_of-sound : (line : List ℕ) (head : Head) → head_of line ≡ Some head → (is_head head ≡ true) × (head_line head.window head.frame ≡ line)
+pub head_of-sound : (line : List ℕ) (head : Head) → head_of line ≡ Some head → (is_head head ≡ true) × (head_line head.version head.window head.frame ≡ line)
 unfolding head_of
 head_of-sound line head h = written_sound is_head written_head (head_told line) line head h
 
--- ---- an answer of malloc
+-- ---- an answer of the allocator
 
-abbrev pub choice_with : ℕ → Bool → Choice
-choice_with address zeroed = record { at = address; zeroed = zeroed }
+abbrev pub line_with : Option Ask → ℕ → Bool → Line
+line_with ask address zeroed = record { ask = ask; at = address; zeroed = zeroed }
 
-choice_same : (choice : Choice) (address : ℕ) (zeroed : Bool) → address ≡ choice.at → zeroed ≡ choice.zeroed → choice_with address zeroed ≡ choice
-choice_same choice address zeroed h k = rw (h, k) refl
+line_same : (line : Line) (ask : Option Ask) (address : ℕ) (zeroed : Bool) → ask ≡ line.ask → address ≡ line.at → zeroed ≡ line.zeroed → line_with ask address zeroed ≡ line
+line_same line ask address zeroed h i k = rw (h, i, k) refl
 
-by_mark : (zeroed : Bool) → (slice_index (cond zeroed (122 ∷ []) (45 ∷ []) ++ 10 ∷ []) 0 == 122) ≡ zeroed
+by_mark : (zeroed : Bool) → (mark zeroed == 122) ≡ zeroed
 by_mark true = refl
 by_mark false = refl
 
-pub choice_told-line : (choice : Choice) → choice.at < 2 ^ 32 → choice_told (choice_line choice) ≡ choice
-unfolding choice_line
-choice_told-line choice small =
-    choice_same choice (hex_from 0 (eight_digits choice.at)) (slice_index (cond choice.zeroed (122 ∷ []) (45 ∷ []) ++ 10 ∷ []) 0 == 122)
-    (hex-eight_digits choice.at small) (by_mark choice.zeroed)
+malloc_same : (n size : ℕ) → n ≡ size → Malloc n ≡ Malloc size
+malloc_same n size h = ap Malloc h
 
-choice_test : (address : ℕ) (zeroed : Bool) → address < 2 ^ 32 → (address ≡ 0 → zeroed ≡ false) → (nat_lt address (2 ^ 32) && not ((address == 0) && zeroed)) ≡ true
-choice_test address zeroed h k = grind (arith, nat_tests)
+calloc_same : (n m count size : ℕ) → n ≡ count → m ≡ size → Calloc n m ≡ Calloc count size
+calloc_same n m count size h k = rw (h, k) refl
 
-pub is_choice-from : (choice : Choice) → IsChoice choice → is_choice choice ≡ true
-is_choice-from choice h = choice_test choice.at choice.zeroed h.0 h.1
+realloc_same : (n m old size : ℕ) → n ≡ old → m ≡ size → Realloc n m ≡ Realloc old size
+realloc_same n m old size h k = rw (h, k) refl
 
-choice_facts : (address : ℕ) (zeroed : Bool) → (nat_lt address (2 ^ 32) && not ((address == 0) && zeroed)) ≡ true → (address < 2 ^ 32) × (address ≡ 0 → zeroed ≡ false)
-choice_facts address zeroed h = (grind (arith, nat_tests), λ k. grind (arith, nat_tests))
+-- what was asked, as it stands in a line
+told_ask : (ask : Ask) (address : ℕ) (zeroed : Bool) → IsAsk ask → ask_told (line_text (line_with (Some ask) address zeroed)) ≡ ask
+unfolding line_text
+told_ask (Malloc size) address zeroed h = malloc_same _ size (hex-front size (10 ∷ []) h)
+told_ask (Calloc count size) address zeroed h = calloc_same _ _ count size (hex-front count (32 ∷ (eight_digits size ++ 10 ∷ [])) h.0) (hex-front size (10 ∷ []) h.1)
+told_ask (Realloc old size) address zeroed h = realloc_same _ _ old size (hex-front old (32 ∷ (eight_digits size ++ 10 ∷ [])) h.0) (hex-front size (10 ∷ []) h.1)
 
-pub choice_of-line : (choice : Choice) → IsChoice choice → choice_of (choice_line choice) ≡ Some choice
-unfolding choice_of
-choice_of-line choice h = written_complete is_choice choice_line (choice_told (choice_line choice)) choice (is_choice-from choice h) (choice_told-line choice h.0)
+told_asked : (version : ℕ) (ask : Option Ask) (address : ℕ) (zeroed : Bool) → IsAskOf version ask → asked_told version (line_text (line_with ask address zeroed)) ≡ ask
+told_asked version None address zeroed h = rw h refl
+told_asked version (Some ask) address zeroed h = rw h.0 (ap (λ (told : Ask). Some told) (told_ask ask address zeroed h.1))
 
-pub choice_of-sound : (line : List ℕ) (choice : Choice) → choice_of line ≡ Some choice → IsChoice choice × (choice_line choice ≡ line)
-unfolding choice_of
-choice_of-sound line choice h = let parts = written_sound is_choice choice_line (choice_told line) line choice h in (choice_facts choice.at choice.zeroed parts.0, parts.1)
+told_address : (ask : Option Ask) (address : ℕ) (zeroed : Bool) → address < 2 ^ 32 → hex_at 2 (line_text (line_with ask address zeroed)) ≡ address
+unfolding line_text
+told_address ask address zeroed h = hex-front address (32 ∷ mark zeroed ∷ (arguments ask ++ 10 ∷ [])) h
 
-mark_length : (zeroed : Bool) → length {A = ℕ} (cond zeroed (122 ∷ []) (45 ∷ []) ++ 10 ∷ []) ≡ 2
-mark_length true = refl
-mark_length false = refl
+told_mark : (ask : Option Ask) (address : ℕ) (zeroed : Bool) → (slice_index (line_text (line_with ask address zeroed)) 11 == 122) ≡ zeroed
+unfolding line_text
+told_mark ask address zeroed = by_mark zeroed
 
-choice_length : (choice : Choice) → length (choice_line choice) ≡ 13
-unfolding choice_line
-choice_length choice = omega (arith, mark_length choice.zeroed)
+line_told-line : (version : ℕ) (line : Line) → IsAskOf version line.ask → line.at < 2 ^ 32 → line_told version (line_text line) ≡ line
+line_told-line version line asked small =
+    line_same line (asked_told version (line_text line)) (hex_at 2 (line_text line)) (slice_index (line_text line) 11 == 122)
+    (told_asked version line.ask line.at line.zeroed asked) (told_address line.ask line.at line.zeroed small) (told_mark line.ask line.at line.zeroed)
+
+-- the tests of a line are its facts
+
+small_test : (n : ℕ) → n < 2 ^ 32 → nat_lt n (2 ^ 32) ≡ true
+small_test n h = grind (arith, nat_tests)
+
+small_fact : (n : ℕ) → nat_lt n (2 ^ 32) ≡ true → n < 2 ^ 32
+small_fact n h = grind (arith, nat_tests)
+
+same_fact : (n m : ℕ) → (n == m) ≡ true → n ≡ m
+same_fact n m h = grind (arith, nat_tests)
+
+ask_test : (ask : Ask) → IsAsk ask → is_ask ask ≡ true
+ask_test (Malloc size) h = small_test size h
+ask_test (Calloc count size) h = rw (small_test count h.0) (small_test size h.1)
+ask_test (Realloc old size) h = rw (small_test old h.0) (small_test size h.1)
+
+ask_fact : (ask : Ask) → is_ask ask ≡ true → IsAsk ask
+ask_fact (Malloc size) h = small_fact size h
+ask_fact (Calloc count size) h = let both = and_parts (nat_lt count (2 ^ 32)) (nat_lt size (2 ^ 32)) h in (small_fact count both.0, small_fact size both.1)
+ask_fact (Realloc old size) h = let both = and_parts (nat_lt old (2 ^ 32)) (nat_lt size (2 ^ 32)) h in (small_fact old both.0, small_fact size both.1)
+
+asked_test : (version : ℕ) (ask : Option Ask) → IsAskOf version ask → is_ask_of version ask ≡ true
+asked_test version None h = rw h refl
+asked_test version (Some ask) h = rw h.0 (ask_test ask h.1)
+
+asked_fact : (version : ℕ) (ask : Option Ask) → is_ask_of version ask ≡ true → IsAskOf version ask
+asked_fact version None h = same_fact version 1 h
+asked_fact version (Some ask) h = let both = and_parts (version == 2) (is_ask ask) h in (same_fact version 2 both.0, ask_fact ask both.1)
+
+mark_test : (calloc : Bool) (address : ℕ) (zeroed : Bool) → (address ≡ 0 → zeroed ≡ false) → (calloc ≡ true → 0 < address → zeroed ≡ true) → is_marked calloc address zeroed ≡ true
+mark_test calloc address true h k = grind (arith, nat_tests)
+mark_test true address false h k = grind (arith, nat_tests)
+mark_test false address false h k = grind (arith, nat_tests)
+
+mark_facts : (calloc : Bool) (address : ℕ) (zeroed : Bool) → is_marked calloc address zeroed ≡ true → (address ≡ 0 → zeroed ≡ false) × (calloc ≡ true → 0 < address → zeroed ≡ true)
+mark_facts calloc address true h = (λ null. grind (arith, nat_tests), λ asked some. refl)
+mark_facts true address false h = (λ null. refl, λ asked some. grind (arith, nat_tests))
+mark_facts false address false h = (λ null. refl, λ asked some. absurd (cc))
+
+calloc_test : (ask : Option Ask) → was_calloc ask ≡ true → WasCalloc ask
+calloc_test None h = absurd (cc)
+calloc_test (Some ask) h = h
+
+calloc_fact : (ask : Option Ask) → WasCalloc ask → was_calloc ask ≡ true
+calloc_fact None h = absurd h
+calloc_fact (Some ask) h = h
+
+pub is_answer-from : (version : ℕ) (line : Line) → IsAnswer version line → is_answer version line ≡ true
+is_answer-from version line h =
+    rw (asked_test version line.ask h.asked, small_test line.at h.address)
+    (mark_test (was_calloc line.ask) line.at line.zeroed h.null (λ asked some. h.zeros (calloc_test line.ask asked) some))
+
+pub is_answer-facts : (version : ℕ) (line : Line) → is_answer version line ≡ true → IsAnswer version line
+is_answer-facts version line h =
+    let both = and_parts (is_ask_of version line.ask) (nat_lt line.at (2 ^ 32) && is_marked (was_calloc line.ask) line.at line.zeroed) h in
+    let rest = and_parts (nat_lt line.at (2 ^ 32)) (is_marked (was_calloc line.ask) line.at line.zeroed) both.1 in
+    let marks = mark_facts (was_calloc line.ask) line.at line.zeroed rest.1 in
+    record {
+      asked = asked_fact version line.ask both.0;
+      address = small_fact line.at rest.0;
+      null = marks.0;
+      zeros = λ asked some. marks.1 (calloc_fact line.ask asked) some;
+    }
+
+pub answer_of-line : (version : ℕ) (line : Line) → IsAnswer version line → answer_of version (line_text line) ≡ Some line
+unfolding answer_of
+answer_of-line version line h =
+    written_complete (is_answer version) line_text (line_told version (line_text line)) line (is_answer-from version line h) (line_told-line version line h.asked h.address)
+
+pub answer_of-sound : (version : ℕ) (line : List ℕ) (answer : Line) → answer_of version line ≡ Some answer → IsAnswer version answer × (line_text answer ≡ line)
+unfolding answer_of
+answer_of-sound version line answer h =
+    let parts = written_sound (is_answer version) line_text (line_told version line) line answer h in
+    (is_answer-facts version answer parts.0, parts.1)
 
 by_option : {Value : Type 0} (o : Option Value) → ((value : Value) → o ≡ Some value → ⊥) → o ≡ None
 by_option None h = refl
 by_option (Some value) h = absurd (h value refl)
-
-pub choice_of-length : (line : List ℕ) → length line ≢ 13 → choice_of line ≡ None
-choice_of-length line other = by_option (choice_of line) (λ choice h. other (sym (ap length (choice_of-sound line choice h).1) ∙ choice_length choice))
 
 -- ---- the last line
 
@@ -152,10 +243,17 @@ pub end_of-sound : (line : List ℕ) (finish : End) → end_of line ≡ Some fin
 unfolding end_of
 end_of-sound line finish h = written_sound is_end written_end (end_told line) line finish h
 
-not_end : (choice : Choice) (steps taken : ℕ) → choice_line choice ≡ end_line steps taken → ⊥
-unfolding choice_line end_line
-not_end choice steps taken h = let m : ℕ = 109 in let e : ℕ = 101 in let letters : m ≡ e = ap (λ (bytes : List ℕ). slice_index bytes 0) h in absurd (omega (arith, letters))
+letter_not_end : (ask : Option Ask) → letter ask ≡ 101 → ⊥
+letter_not_end None h = absurd (omega (arith, h))
+letter_not_end (Some (Malloc size)) h = absurd (omega (arith, h))
+letter_not_end (Some (Calloc count size)) h = absurd (omega (arith, h))
+letter_not_end (Some (Realloc old size)) h = absurd (omega (arith, h))
+
+not_end : (line : Line) (steps taken : ℕ) → line_text line ≡ end_line steps taken → ⊥
+unfolding line_text end_line
+not_end line steps taken h = letter_not_end line.ask (ap (λ (bytes : List ℕ). slice_index bytes 0) h)
 
 -- the line of an answer isn't a last line
-pub choice_of-end : (steps taken : ℕ) → choice_of (end_line steps taken) ≡ None
-choice_of-end steps taken = by_option (choice_of (end_line steps taken)) (λ choice h. not_end choice steps taken (choice_of-sound (end_line steps taken) choice h).1)
+pub answer_of-end : (version steps taken : ℕ) → answer_of version (end_line steps taken) ≡ None
+answer_of-end version steps taken =
+    by_option (answer_of version (end_line steps taken)) (λ line h. not_end line steps taken (answer_of-sound version (end_line steps taken) line h).1)

@@ -1,6 +1,7 @@
 -- The text of a record, one spelling for each. Every line ends with a line feed.
-use Rattle.std.specs.Prelude.{ℕ, suc, zero, ◌+◌, ◌/◌, ◌%◌, List, [], ◌∷◌, ◌++◌, flat_map, codes, nat_lt, if◌then◌else◌}
-use Rattle.schedule_file.specs.Terms.{decimal, Choice, Framing, Length, Line, Whole}
+use Rattle.std.specs.Prelude.{ℕ, suc, zero, ◌+◌, ◌/◌, ◌%◌, Bool, List, [], ◌∷◌, ◌++◌, Option, None, Some, flat_map, codes, nat_lt, if◌then◌else◌}
+use Rattle.msg_frame.specs.declared.framing.Framing.TheVariants as framing
+use Rattle.schedule_file.specs.Terms.{decimal, Ask, Calloc, Malloc, Realloc, Choice, Framing, Line}
 
 -- the lower-case hexadecimal digit of a number below 16
 abbrev pub hex_digit : ℕ → ℕ
@@ -15,26 +16,65 @@ abbrev pub eight_digits : ℕ → List ℕ
 eight_digits n = hex_digits 8 n
 
 abbrev pub frame_name : Framing → List ℕ
-frame_name Line = codes "line"
-frame_name Length = codes "length"
-frame_name Whole = codes "whole"
+frame_name framing.Line = codes "line"
+frame_name framing.Length = codes "length"
+frame_name framing.Whole = codes "whole"
 
--- the first line: `rx record 1 window W frame F`, W in MiB. A decimal number has no leading zeros
-unfoldable pub head_line : ℕ → Framing → List ℕ
-head_line window frame = codes "rx record 1 window " ++ (decimal window ++ (codes " frame " ++ (frame_name frame ++ 10 ∷ [])))
+-- the first line: `rx record V window W frame F`, W in MiB. A decimal number has no leading zeros
+unfoldable pub head_line : ℕ → ℕ → Framing → List ℕ
+head_line version window frame =
+    codes "rx record " ++ (decimal version ++ (codes " window " ++ (decimal window ++ (codes " frame " ++ (frame_name frame ++ 10 ∷ [])))))
 
--- the line of an answer of malloc: `m AAAAAAAA -`, or `m AAAAAAAA z` where the block was zeroed
-unfoldable pub choice_line : Choice → List ℕ
-choice_line choice = codes "m " ++ (eight_digits choice.at ++ (codes " " ++ ((if choice.zeroed then codes "z" else codes "-") ++ 10 ∷ [])))
+-- the letter of the function that was called, and m where that isn't known: m, c or r
+abbrev pub letter : Option Ask → ℕ
+letter None = 109
+letter (Some (Malloc size)) = 109
+letter (Some (Calloc count size)) = 99
+letter (Some (Realloc old size)) = 114
+
+-- a number behind a space
+abbrev pub spaced : ℕ → List ℕ
+spaced n = 32 ∷ eight_digits n
+
+-- the arguments of the call, in their order
+abbrev pub arguments : Option Ask → List ℕ
+arguments None = []
+arguments (Some (Malloc size)) = spaced size
+arguments (Some (Calloc count size)) = spaced count ++ spaced size
+arguments (Some (Realloc old size)) = spaced old ++ spaced size
+
+-- z where the block was zeroed, else -
+abbrev pub mark : Bool → ℕ
+mark zeroed = if zeroed then 122 else 45
+
+-- a letter, an address and a mark
+abbrev pub front : ℕ → ℕ → Bool → List ℕ
+front letter address zeroed = letter ∷ (spaced address ++ 32 ∷ mark zeroed ∷ [])
+
+-- the line of an answer of the allocator: `m AAAAAAAA M SSSSSSSS`, `c AAAAAAAA M NNNNNNNN SSSSSSSS` or `r AAAAAAAA M OOOOOOOO SSSSSSSS`,
+-- and `m AAAAAAAA M` in version 1, whatever was asked
+unfoldable pub line_text : Line → List ℕ
+line_text line = front (letter line.ask) line.at line.zeroed ++ (arguments line.ask ++ 10 ∷ [])
 
 -- the last line: `end STEPS TAKEN`
 unfoldable pub end_line : ℕ → ℕ → List ℕ
 end_line steps taken = codes "end " ++ (decimal steps ++ (codes " " ++ (decimal taken ++ 10 ∷ [])))
 
 -- one line for each answer
-abbrev pub choice_lines : List Choice → List ℕ
-choice_lines choices = flat_map choice_line choices
+abbrev pub lines_text : List Line → List ℕ
+lines_text lines = flat_map line_text lines
 
 -- the whole text
-abbrev pub record_text : ℕ → Framing → List Choice → ℕ → ℕ → List ℕ
-record_text window frame choices steps taken = head_line window frame ++ (choice_lines choices ++ end_line steps taken)
+abbrev pub record_text : ℕ → ℕ → Framing → List Line → ℕ → ℕ → List ℕ
+record_text version window frame lines steps taken = head_line version window frame ++ (lines_text lines ++ end_line steps taken)
+
+-- ---- the lines of answers as they are written: with what was asked
+
+abbrev pub line_of : Choice → Line
+line_of choice = record { ask = Some choice.ask; at = choice.at; zeroed = choice.zeroed }
+
+abbrev pub choice_line : Choice → List ℕ
+choice_line choice = line_text (line_of choice)
+
+abbrev pub choice_lines : List Choice → List ℕ
+choice_lines choices = flat_map choice_line choices

@@ -1,6 +1,7 @@
 -- At which line a text is refused.
 use Rattle.std.specs.Prelude.{ℕ, ◌+◌, Bool, true, false, List, [], ◌∷◌, Option, Some, None, is_some, if◌then◌else◌, ◌==◌}
-use Rattle.schedule_file.specs.Telling.{head_of, choice_of, end_of}
+use Rattle.schedule_file.specs.Terms.{Head}
+use Rattle.schedule_file.specs.Telling.{head_of, answer_of, end_of}
 
 -- a byte put in front of the first of some lines, of which there may be none yet
 abbrev pub onto : ℕ → List (List ℕ) → List (List ℕ)
@@ -26,17 +27,23 @@ abbrev pub refused_behind : ℕ → List (List ℕ) → Option ℕ
 refused_behind number [] = None
 refused_behind number (line ∷ lines) = Some number
 
--- the lines behind the first one, from a number on: those of answers, and the last line. Where that is missing, its number is refused
-abbrev pub refused_from : ℕ → List (List ℕ) → Option ℕ
-refused_from number [] = Some number
-refused_from number (line ∷ lines) =
-    if is_some (choice_of line) then refused_from (number + 1) lines else
+-- the lines behind the first one, from a number on: those of answers in a version, and the last line. Where that is missing, its
+-- number is refused
+abbrev pub refused_from : ℕ → ℕ → List (List ℕ) → Option ℕ
+refused_from version number [] = Some number
+refused_from version number (line ∷ lines) =
+    if is_some (answer_of version line) then refused_from version (number + 1) lines else
     if is_some (end_of line) then refused_behind (number + 1) lines else
     Some number
 
+-- those behind what the first line is read as, which tells the version
+abbrev pub refused_under : Option Head → List (List ℕ) → Option ℕ
+refused_under None lines = Some 1
+refused_under (Some head) lines = refused_from head.version 2 lines
+
 abbrev pub refused_lines : List (List ℕ) → Option ℕ
 refused_lines [] = Some 1
-refused_lines (line ∷ lines) = if is_some (head_of line) then refused_from 2 lines else Some 1
+refused_lines (line ∷ lines) = refused_under (head_of line) lines
 
 -- the first line, from 1, that isn't of its form, if there is one
 abbrev pub refused_line : List ℕ → Option ℕ

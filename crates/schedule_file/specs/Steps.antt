@@ -1,9 +1,11 @@
 -- What the parts of the code answer. Nothing here is promised to callers of the crate.
 use Rattle.std.specs.Prelude.{◌≡◌, ℕ, List, [], ◌∷◌, ◌++◌, All, Option, None, Result, Ok, Err, if◌then◌else◌, ◌==◌}
-use Rattle.schedule_file.specs.Terms.{AllocError, Choice}
-use Rattle.schedule_file.specs.Lines.{choice_lines}
-use Rattle.schedule_file.specs.Records.{IsChoice}
-use Rattle.schedule_file.specs.Telling.{choice_of}
+use Rattle.schedule_file.specs.Terms.{AllocError, Line}
+use Rattle.schedule_file.specs.declared.writing.LineBytes.{LineBytes}
+use Rattle.schedule_file.specs.declared.writing.LineBytes.TheVariants.{Alone, One, Two}
+use Rattle.schedule_file.specs.Lines.{lines_text}
+use Rattle.schedule_file.specs.Records.{IsAnswer}
+use Rattle.schedule_file.specs.Telling.{answer_of}
 
 -- the first line of a text, with its line feed, and what stands behind it
 abbrev pub first_line : List ℕ → List ℕ
@@ -19,12 +21,18 @@ abbrev pub Tells : {Value : Type 0} → Option Value → Result (Option Value) A
 Tells told (Ok value) = value ≡ told
 Tells told (Err error) = Unit {0}
 
--- a text is the lines of some answers and what stands behind them
-pub record IsBehind (text : List ℕ) (choices : List Choice) (rest : List ℕ) : Type 0 where
-  pub whole : choice_lines choices ++ rest ≡ text
-  pub are_choices : All IsChoice choices
+-- the bytes of a line, by how many arguments it has
+abbrev pub bytes_of : LineBytes → List ℕ
+bytes_of (Alone bytes) = bytes
+bytes_of (One bytes) = bytes
+bytes_of (Two bytes) = bytes
+
+-- a text is the lines of some answers in a version and what stands behind them
+pub record IsBehind (version : ℕ) (text : List ℕ) (lines : List Line) (rest : List ℕ) : Type 0 where
+  pub whole : lines_text lines ++ rest ≡ text
+  pub are_answers : All (IsAnswer version) lines
 
 -- and that doesn't begin with the line of an answer
-pub record AreAllChoices (text : List ℕ) (choices : List Choice) (rest : List ℕ) : Type 0 where
-  pub behind : IsBehind text choices rest
-  pub no_more : choice_of (first_line rest) ≡ None
+pub record AreAllLines (version : ℕ) (text : List ℕ) (lines : List Line) (rest : List ℕ) : Type 0 where
+  pub behind : IsBehind version text lines rest
+  pub no_more : answer_of version (first_line rest) ≡ None

@@ -1,8 +1,9 @@
 -- What a line is read as. A line tells some values by its places, whatever stands there; it is of its form exactly where they are
 -- in their ranges and it is what is written of them.
-use Rattle.std.specs.Prelude.{ℕ, ◌+◌, ◌-◌, ◌*◌, ◌^◌, min, Bool, not, ◌&&◌, List, [], ◌∷◌, take, drop, Option, Some, None, bytes_eq, slice_index, nat_le, nat_lt, if◌then◌else◌, ◌==◌}
-use Rattle.schedule_file.specs.Terms.{is_ascii_digit, Choice, Framing, Length, Line, Whole, End, Head, MAX_TAKEN, MAX_WINDOW}
-use Rattle.schedule_file.specs.Lines.{head_line, choice_line, end_line}
+use Rattle.std.specs.Prelude.{ℕ, ◌+◌, ◌-◌, ◌*◌, ◌^◌, min, Bool, false, not, ◌&&◌, ◌||◌, List, [], ◌∷◌, length, take, drop, Option, Some, None, bytes_eq, slice_index, nat_le, nat_lt, if◌then◌else◌, ◌==◌}
+use Rattle.msg_frame.specs.declared.framing.Framing.TheVariants as framing
+use Rattle.schedule_file.specs.Terms.{is_ascii_digit, Ask, Calloc, Malloc, Realloc, is_calloc, Framing, End, Head, Line, MAX_TAKEN, MAX_WINDOW, VERSION}
+use Rattle.schedule_file.specs.Lines.{head_line, line_text, end_line}
 
 -- the number of the decimal digits in front of some bytes, which stand behind others of this number
 abbrev pub number_from : ℕ → List ℕ → ℕ
@@ -38,30 +39,66 @@ if_written in_range write told line = if in_range told && bytes_eq (write told) 
 
 -- the framing, by the second letter of its name
 abbrev pub frame_told : List ℕ → Framing
-frame_told behind = if slice_index behind 8 == 105 then Line else if slice_index behind 8 == 101 then Length else Whole
+frame_told behind = if slice_index behind 8 == 105 then framing.Line else if slice_index behind 8 == 101 then framing.Length else framing.Whole
+
+-- what stands behind the version, and behind ` window `
+abbrev pub window_part : List ℕ → List ℕ
+window_part line = drop 8 (behind_digits (drop 10 line))
 
 abbrev pub head_told : List ℕ → Head
-head_told line = record { window = number_from 0 (drop 19 line); frame = frame_told (behind_digits (drop 19 line)) }
+head_told line =
+    record { version = number_from 0 (drop 10 line); window = number_from 0 (window_part line); frame = frame_told (behind_digits (window_part line)) }
 
 abbrev pub is_head : Head → Bool
-is_head head = nat_le 1 head.window && nat_le head.window MAX_WINDOW
+is_head head = (nat_le 1 head.version && nat_le head.version VERSION) && (nat_le 1 head.window && nat_le head.window MAX_WINDOW)
 
 abbrev pub written_head : Head → List ℕ
-written_head head = head_line head.window head.frame
+written_head head = head_line head.version head.window head.frame
 
 unfoldable pub head_of : List ℕ → Option Head
 head_of line = if_written is_head written_head (head_told line) line
 
--- ---- an answer of malloc
+-- ---- an answer of the allocator
 
-abbrev pub choice_told : List ℕ → Choice
-choice_told line = record { at = hex_from 0 (take 8 (drop 2 line)); zeroed = slice_index line 11 == 122 }
+-- the number of eight hexadecimal digits at a place, 0 where so many bytes don't stand there
+abbrev pub hex_at : ℕ → List ℕ → ℕ
+hex_at place line = if nat_lt (length (drop place line)) 8 then 0 else hex_from 0 (take 8 (drop place line))
 
-abbrev pub is_choice : Choice → Bool
-is_choice choice = nat_lt choice.at (2 ^ 32) && not ((choice.at == 0) && choice.zeroed)
+-- what was asked, by the letter in front
+abbrev pub ask_told : List ℕ → Ask
+ask_told line =
+    if slice_index line 0 == 109 then Malloc (hex_at 13 line) else
+    if slice_index line 0 == 99 then Calloc (hex_at 13 line) (hex_at 22 line) else
+    Realloc (hex_at 13 line) (hex_at 22 line)
 
-unfoldable pub choice_of : List ℕ → Option Choice
-choice_of line = if_written is_choice choice_line (choice_told line) line
+abbrev pub asked_told : ℕ → List ℕ → Option Ask
+asked_told version line = if version == 1 then None else Some (ask_told line)
+
+abbrev pub line_told : ℕ → List ℕ → Line
+line_told version line = record { ask = asked_told version line; at = hex_at 2 line; zeroed = slice_index line 11 == 122 }
+
+abbrev pub is_ask : Ask → Bool
+is_ask (Malloc size) = nat_lt size (2 ^ 32)
+is_ask (Calloc count size) = nat_lt count (2 ^ 32) && nat_lt size (2 ^ 32)
+is_ask (Realloc old size) = nat_lt old (2 ^ 32) && nat_lt size (2 ^ 32)
+
+abbrev pub is_ask_of : ℕ → Option Ask → Bool
+is_ask_of version None = version == 1
+is_ask_of version (Some ask) = (version == 2) && is_ask ask
+
+abbrev pub was_calloc : Option Ask → Bool
+was_calloc None = false
+was_calloc (Some ask) = is_calloc ask
+
+-- null isn't zeroed, and a block that calloc asked for is
+abbrev pub is_marked : Bool → ℕ → Bool → Bool
+is_marked calloc address zeroed = if address == 0 then not zeroed else zeroed || not calloc
+
+abbrev pub is_answer : ℕ → Line → Bool
+is_answer version line = is_ask_of version line.ask && (nat_lt line.at (2 ^ 32) && is_marked (was_calloc line.ask) line.at line.zeroed)
+
+unfoldable pub answer_of : ℕ → List ℕ → Option Line
+answer_of version line = if_written (is_answer version) line_text (line_told version line) line
 
 -- ---- the last line
 

@@ -1,5 +1,5 @@
 //! Laws of records and their texts, each as the contract of a function that does nothing.
-ghost use Rattle.schedule_file.specs.Laws.{OneReading, ReadUnlessRefused, WrittenInPieces, LinesAreLines, ReadAsWritten};
+ghost use Rattle.schedule_file.specs.Laws.{OneReading, ReadUnlessRefused, WrittenInPieces, WrittenIsRead, LinesAreLines, ReadAsWritten};
 
 /// Two records with the same text are the same.
 pub fn one_reading()
@@ -14,6 +14,11 @@ pub fn read_unless_refused()
 /// The text of more answers is the same text with their lines before the last one.
 pub fn written_in_pieces()
     ensures { WrittenInPieces }
+{}
+
+/// What is written of some answers is read as their record.
+pub fn written_is_read()
+    ensures { WrittenIsRead }
 {}
 
 /// Each line that is written ends with a line feed, and holds no other one.

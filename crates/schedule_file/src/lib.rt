@@ -1,6 +1,7 @@
 //! The text of a session's record: its window and framing, every answer of the allocator, and how far the run went.
 //!
 //! Each value has one spelling. So a text has one record at most, and a record one text.
+//! Version 2 is written, whose lines have what was asked; version 1, whose lines haven't, is read as well.
 //! A session writes its lines one after another, by `file_notes`, and the crate `replay` takes what was read.
 //! That a record is the one of a session isn't said here: `file_notes` says what it wrote.
 //! How much memory a reading takes no clause says.
@@ -15,5 +16,5 @@ mod telling;
 mod writing;
 
 pub use reading::read_record;
-pub use recorded::{MAX_TAKEN, MAX_WINDOW, RecordRefusal, Recorded};
-pub use writing::{CHOICE_BYTES, choice_line, choice_text, end_line, head_line};
+pub use recorded::{Line, Lines, MAX_TAKEN, MAX_WINDOW, RecordRefusal, Recorded, VERSION};
+pub use writing::{add_choice, choice_line, end_line, head_line};

@@ -1,34 +1,34 @@
 // A record's text, read line by line.
 ghost use Rattle.std.specs.Prelude.{◌≡◌, IfOk};
 ghost use Rattle.schedule_file.specs.Answers.{ReadsRecord};
-ghost use Rattle.schedule_file.specs.Steps.{AreAllChoices};
+ghost use Rattle.schedule_file.specs.Steps.{AreAllLines};
 
 use crate::parts::split_line;
-use crate::recorded::{RecordRefusal, Recorded};
-use crate::telling::{choice_of, end_of, head_of};
-use block_book::{Choice, Choices};
+use crate::recorded::{Line, Lines, RecordRefusal, Recorded};
+use crate::telling::{answer_of, end_of, head_of};
 use std::alloc::{AllocError, Global};
 
-// The answers of malloc whose lines a text begins with, and the text behind these lines.
-fn take_choices(alloc: Global, text: &[u8]) -> Result<(Vec<Choice>, &[u8]), AllocError>
-    ensures { IfOk result (λ taken. AreAllChoices text.now taken.0.items taken.1.now) }
+// The answers whose lines, in a version, a text begins with, and the text behind these lines.
+fn take_lines(alloc: Global, version: u8, text: &[u8]) -> Result<(Vec<Line>, &[u8]), AllocError>
+    ensures { IfOk result (λ taken. AreAllLines version text.now taken.0.items taken.1.now) }
 {
-    let mut choices = Vec::new(alloc);
+    let mut lines = Vec::new(alloc);
     let mut rest = text;
     'lines: loop {
         let (line, behind) = split_line(rest);
-        let Some(choice) = choice_of(line) else {
-            return Ok((choices, rest));
+        let Some(answer) = answer_of(version, line) else {
+            return Ok((lines, rest));
         };
-        choices.push(choice)?;
+        lines.push(answer)?;
         rest = behind;
     }
 }
 
-/// Reads the text of a record. One pass, line by line; beside the choices it takes room for one line at a time.
+/// Reads the text of a record. One pass, line by line; beside the answers it takes room for one line at a time.
 ///
 /// `Refused` has the first line, counted from 1, that isn't of its form. A last line that is missing is refused at the number
-/// after the last line that is there, and a line behind the last one at its own number.
+/// after the last line that is there, and a line behind the last one at its own number. A version that is neither 1 nor 2 is
+/// refused at line 1.
 pub fn read_record(alloc: Global, bytes: &[u8]) -> Result<Recorded, RecordRefusal>
     ensures { ReadsRecord bytes.now result }
 {
@@ -36,8 +36,8 @@ pub fn read_record(alloc: Global, bytes: &[u8]) -> Result<Recorded, RecordRefusa
     let Some(head) = head_of(alloc, line)? else {
         return Err(RecordRefusal::Refused { line: 1 });
     };
-    let (choices, rest) = take_choices(alloc, rest)?;
-    let number = choices.len() as u64 + 2;
+    let (lines, rest) = take_lines(alloc, head.version, rest)?;
+    let number = lines.len() as u64 + 2;
     let (line, rest) = split_line(rest);
     let Some(end) = end_of(alloc, line)? else {
         return Err(RecordRefusal::Refused { line: number });
@@ -46,9 +46,10 @@ pub fn read_record(alloc: Global, bytes: &[u8]) -> Result<Recorded, RecordRefusa
         return Err(RecordRefusal::Refused { line: number + 1 });
     }
     Ok(Recorded {
+        version: head.version,
         window: head.window,
         frame: head.frame,
-        choices: Choices::from_vec(choices),
+        lines: Lines::from_vec(lines),
         steps: end.steps,
         taken: end.taken,
     })

@@ -1,10 +1,15 @@
 // A record as a value, and why a text is none.
-ghost use Rattle.std.specs.Prelude.{◌≡◌};
+ghost use Rattle.std.specs.Prelude.{◌≡◌, List};
+ghost use Rattle.schedule_file.specs.declared.recorded.Line.{Line};
 ghost use Rattle.schedule_file.specs.declared.recorded.RecordRefusal.TheVariants.{Memory};
 
-use block_book::Choices;
+use block_book::Ask;
 use msg_frame::Framing;
 use std::alloc::AllocError;
+use std::marker::Model;
+
+/// The version that is written. Version 1, which doesn't say what was asked, is read too.
+pub const VERSION: u8 = 2;
 
 /// The largest window, in MiB.
 pub const MAX_WINDOW: u32 = 64;
@@ -12,13 +17,51 @@ pub const MAX_WINDOW: u32 = 64;
 /// The most items that a recorded session may have taken.
 pub const MAX_TAKEN: u64 = 1 << 20;
 
-/// What a record says of a session: its window in MiB, its framing, every answer of malloc in the order of the calls,
-/// how many instructions were executed, and how many items were taken.
+/// What a line says of an answer of the allocator: what was asked, or None in version 1; the block's address, or 0; and whether
+/// its bytes were set to 0.
+#[derive(Clone, Copy, Debug, PartialEq, Eq)]
+pub struct Line {
+    pub ask: Option<Ask>,
+    pub at: u32,
+    pub zeroed: bool,
+}
+
+/// The lines of the answers, in the order of the calls.
+#[derive(Debug, Drop)]
+pub struct Lines {
+    lines: Vec<Line>,
+}
+
+impl Model for Lines {
+    ghost Value = { List Line };
+
+    ghost view = { λ l. l.lines.items };
+}
+
+impl Lines {
+    /// The lines of a vector, in its order.
+    pub fn from_vec(v: Vec<Line>) -> Lines
+        ensures { result ≡ v.items }
+    {
+        Lines { lines: v }
+    }
+
+    /// The lines, in their order.
+    pub fn as_slice(&self) -> &[Line]
+        ensures { result.now ≡ self.now }
+    {
+        &self.lines
+    }
+}
+
+/// What a record says of a session: its version, its window in MiB, its framing, every answer of the allocator in the order of
+/// the calls, how many instructions were executed, and how many items were taken.
 #[derive(Debug, Drop)]
 pub struct Recorded {
+    pub version: u8,
     pub window: u32,
     pub frame: Framing,
-    pub choices: Choices,
+    pub lines: Lines,
     pub steps: u64,
     pub taken: u64,
 }
@@ -41,6 +84,7 @@ impl From<AllocError> for RecordRefusal {
 // What a record's first line says.
 #[derive(Clone, Copy)]
 pub(crate) struct Head {
+    pub version: u8,
     pub window: u32,
     pub frame: Framing,
 }

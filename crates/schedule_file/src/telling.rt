@@ -1,14 +1,15 @@
 // What a line is read as. A line tells some values by its places; it is of its form where they are in their ranges and it is
 // what is written of them.
-ghost use Rattle.std.specs.Prelude.{◌≡◌, ◌≢◌, ◌&&◌, ◌^◌, nat_le, nat_lt, bytes_eq, length, MatchOption};
+ghost use Rattle.std.specs.Prelude.{◌≡◌, ◌==◌, ◌&&◌, ◌^◌, nat_le, nat_lt, bytes_eq, slice_index};
+ghost use Rattle.schedule_file.specs.declared.recorded.TheConstants.{VERSION};
 ghost use Rattle.schedule_file.specs.Steps.{Tells};
-ghost use Rattle.schedule_file.specs.Telling.{frame_told, hex_from, choice_told, is_choice, head_of, choice_of, end_of};
+ghost use Rattle.schedule_file.specs.Telling.{frame_told, hex_from, hex_at, ask_told, asked_told, line_told, is_ask_of, is_marked, was_calloc, is_answer, head_of, answer_of, end_of};
 
 use crate::numbers::{hex_value, number_in_front};
 use crate::parts::behind;
-use crate::recorded::{End, Head, MAX_TAKEN, MAX_WINDOW};
-use crate::writing::{CHOICE_BYTES, choice_text, end_line, head_line};
-use block_book::Choice;
+use crate::recorded::{End, Head, Line, MAX_TAKEN, MAX_WINDOW, VERSION};
+use crate::writing::{end_line, head_text, line_text};
+use block_book::Ask;
 use msg_frame::Framing;
 use std::alloc::{AllocError, Global};
 
@@ -23,10 +24,10 @@ fn frame_told(behind: &[u8]) -> Framing
     }
 }
 
-fn is_window(window: u64) -> bool
-    ensures { result ≡ (nat_le 1 window && nat_le window MAX_WINDOW) }
+fn is_head(version: u64, window: u64) -> bool
+    ensures { result ≡ ((nat_le 1 version && nat_le version VERSION) && (nat_le 1 window && nat_le window MAX_WINDOW)) }
 {
-    1 <= window && window <= u64::from(MAX_WINDOW)
+    1 <= version && version <= u64::from(VERSION) && 1 <= window && window <= u64::from(MAX_WINDOW)
 }
 
 fn is_same(text: &[u8], line: &[u8]) -> bool
@@ -39,15 +40,17 @@ fn is_same(text: &[u8], line: &[u8]) -> bool
 pub(crate) fn head_of(alloc: Global, line: &[u8]) -> Result<Option<Head>, AllocError>
     ensures { Tells (head_of line.now) result }
 {
-    let (window, rest) = number_in_front(behind(line, 19));
-    if !is_window(window) {
+    let (version, rest) = number_in_front(behind(line, 10));
+    let (window, rest) = number_in_front(behind(rest, 8));
+    if !is_head(version, window) {
         return Ok(None);
     }
     let head = Head {
+        version: version as u8,
         window: window as u32,
         frame: frame_told(rest),
     };
-    let text = head_line(alloc, head.window, head.frame)?;
+    let text = head_text(alloc, head.version, head.window, head.frame)?;
     if is_same(text.as_slice(), line) {
         Ok(Some(head))
     } else {
@@ -67,38 +70,112 @@ fn hex_number(digits: [u8; 8]) -> u32
     0x100_0000 * first + 0x1_0000 * second + 0x100 * third + fourth
 }
 
-// The answer of malloc that a line of the right length tells.
-fn choice_told(line: &[u8]) -> Option<Choice>
-    ensures { MatchOption result (length line.now ≢ 13) (λ told. (length line.now ≡ 13) × (told ≡ choice_told line.now)) }
+// The number of eight hexadecimal digits at a place, or 0 where so many bytes don't stand there.
+fn hex_at(line: &[u8], place: usize) -> u32
+    ensures { result ≡ hex_at place line.now }
 {
-    let [_, _, a, b, c, d, e, f, g, h, _, mark, _] = line else {
-        return None;
+    let [a, b, c, d, e, f, g, h, ..] = behind(line, place) else {
+        return 0;
     };
-    Some(Choice {
-        at: hex_number([*a, *b, *c, *d, *e, *f, *g, *h]),
-        zeroed: *mark == b'z',
-    })
+    hex_number([*a, *b, *c, *d, *e, *f, *g, *h])
 }
 
-// A null answer isn't zeroed.
-fn is_choice(choice: Choice) -> bool
-    ensures { result ≡ is_choice choice }
+// What a line of version 2 tells that was asked.
+fn ask_told(line: &[u8]) -> Ask
+    ensures { result ≡ ask_told line.now }
 {
-    choice.at != 0 || !choice.zeroed
+    let first = hex_at(line, 13);
+    let second = hex_at(line, 22);
+    match line.get(0) {
+        Some(b'm') => Ask::Malloc { size: first },
+        Some(b'c') => Ask::Calloc {
+            count: first,
+            size: second,
+        },
+        _ => Ask::Realloc {
+            old: first,
+            size: second,
+        },
+    }
 }
 
-// The answer of malloc that a line says, if it is the line of one.
-pub(crate) fn choice_of(line: &[u8]) -> Option<Choice>
-    ensures { result ≡ choice_of line.now }
+fn asked_told(version: u8, line: &[u8]) -> Option<Ask>
+    ensures { result ≡ asked_told version line.now }
 {
-    let Some(choice) = choice_told(line) else {
-        return None;
-    };
-    if !is_choice(choice) {
+    if version == 1 {
+        None
+    } else {
+        Some(ask_told(line))
+    }
+}
+
+fn is_zeroed(line: &[u8]) -> bool
+    ensures { result ≡ (slice_index line.now 11 == 122) }
+{
+    match line.get(11) {
+        Some(b'z') => true,
+        _ => false,
+    }
+}
+
+// The answer that a line tells.
+fn line_told(version: u8, line: &[u8]) -> Line
+    ensures { result ≡ line_told version line.now }
+{
+    Line {
+        ask: asked_told(version, line),
+        at: hex_at(line, 2),
+        zeroed: is_zeroed(line),
+    }
+}
+
+// Version 2 has what was asked, and version 1 hasn't.
+fn is_ask_of(version: u8, ask: Option<Ask>) -> bool
+    ensures { result ≡ is_ask_of version ask }
+{
+    match ask {
+        None => version == 1,
+        Some(_) => version == 2,
+    }
+}
+
+fn was_calloc(ask: Option<Ask>) -> bool
+    ensures { result ≡ was_calloc ask }
+{
+    match ask {
+        None => false,
+        Some(ask) => ask.is_calloc(),
+    }
+}
+
+// A null answer isn't zeroed, and a block that calloc asked for is.
+fn is_marked(calloc: bool, address: u32, zeroed: bool) -> bool
+    ensures { result ≡ is_marked calloc address zeroed }
+{
+    if address == 0 {
+        !zeroed
+    } else {
+        zeroed || !calloc
+    }
+}
+
+fn is_answer(version: u8, line: Line) -> bool
+    ensures { result ≡ is_answer version line }
+{
+    let calloc = was_calloc(line.ask);
+    is_ask_of(version, line.ask) && is_marked(calloc, line.at, line.zeroed)
+}
+
+// The answer that a line says, if it is the line of one in a version.
+pub(crate) fn answer_of(version: u8, line: &[u8]) -> Option<Line>
+    ensures { result ≡ answer_of version line.now }
+{
+    let answer = line_told(version, line);
+    if !is_answer(version, answer) {
         return None;
     }
-    if is_same(choice_text(choice).as_slice(), line) {
-        Some(choice)
+    if is_same(line_text(answer).as_slice(), line) {
+        Some(answer)
     } else {
         None
     }

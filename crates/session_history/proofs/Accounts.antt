@@ -6,7 +6,7 @@ use Rattle.session_history.proofs.Growing.{Grows, run_grows}
 use Rattle.session_history.proofs.Passing.{in_order_wider, in_order_then, covers_on, covers_pass, feasible_on, feasible_pass, timed_on}
 use Rattle.session_history.proofs.Heeding.{passed_in-gave, passed_in-took, items_in-gave}
 
--- a run under a plan, from where all of its answers of malloc were used, and what it adds
+-- a run under a plan, from where all of its answers of the allocator were used, and what it adds
 pub record Went (items : List Item) (first second : Path) : Type 0 where
   pub more : ℕ
   pub follows : Follows items first second more
@@ -17,7 +17,7 @@ went limits items plan first second used served =
     let follows = served_follows limits items plan first second served.more used served.ran in
     record { more = served.more; follows = follows; grows = run_grows items second.choices first.state second.state served.more follows.ran }
 
--- all answers of malloc of a run from the start were used
+-- all answers of the allocator of a run from the start were used
 pub used_from : (limits : Limits) (image : Image) (items : List Item) (plan : List Override) (path : Path) → Served limits items plan (origin image) path → IsUsed path
 unfolding start start_machine
 used_from limits image items plan path served = (served_follows limits items plan (origin image) path served.more refl served.ran).used
@@ -89,7 +89,7 @@ carries_piece rules image moment conn bytes gone plan now carries due =
       timed = carries.timed;
     }
 
--- the survivor's run is one of the image, with all answers of malloc that it used
+-- the survivor's run is one of the image, with all answers of the allocator that it used
 pub carries_run : (rules : Rules) (image : Image) (entries : List Entry) (plan : List Override) (now : Path) → Carries rules image entries plan now → Run image (items_in rules.bounds entries) now.choices now.steps now.state
 unfolding start start_machine
 carries_run rules image entries plan now carries =

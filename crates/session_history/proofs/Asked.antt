@@ -6,7 +6,7 @@ use Rattle.session_history.proofs.Terms.{Bool, List, None, Option, Some, [], ap,
 use Rattle.session_history.proofs.Growing.{Grows, grows_same, grows_on, run_grows}
 use Rattle.run_history.proofs.Wanting.{wants_takes}
 
--- answers of malloc, of which this one has this number
+-- answers of the allocator, of which this one has this number
 answers_with : Option Choice → ℕ → List Choice
 answers_with None number = []
 answers_with (Some choice) number = replicate number choice ++ choice ∷ []

@@ -1,7 +1,7 @@
 -- Each end has a cause of its own.
 use Rattle.links.specs.declared.journal.Entry.TheVariants as entry
 use Rattle.links.specs.declared.journal.LinkEvent.TheVariants as event
-use Rattle.session_history.proofs.Terms.{List, Option, Some, [], ap, refl, subst, sym, ℕ, ◌++◌, ◌∙◌, ◌∷◌, ◌≡◌, same_from_push, none-some, same_Some, unwrap_or, Entry, LinkEvent, Comes, Coming, HasEnded, Refuses, events_in, last_taken, IsPieceOf, Fails, Wants, FailsBy, SessionEnd, Bounds, Unheeded, refusal, Rules, Survivor, IsLastRefused, IsLastTooLong, IsWaiting, StandsAt, OneEnd}
+use Rattle.session_history.proofs.Terms.{List, Option, Some, [], ap, refl, subst, sym, ℕ, ◌++◌, ◌∙◌, ◌∷◌, ◌≡◌, ◌≢◌, same_from_push, none-some, same_Some, unwrap_or, Entry, LinkEvent, Comes, Coming, ComesUntold, HasEnded, IsNext, Refuses, events_in, last_taken, IsPieceOf, Fails, Wants, FailsBy, SessionEnd, Bounds, Unheeded, refusal, Rules, Survivor, IsLastRefused, IsLastTooLong, IsWaiting, StandsAt, OneEnd}
 use Rattle.session_history.specs.declared.ends.SessionEnd.TheVariants as session_end
 use Rattle.run_history.specs.declared.answer.Cause.{Cause}
 use Rattle.session_history.specs.Heeding as unheeded
@@ -46,8 +46,13 @@ same_failure cause because same = cc
 same_refusal : (kind of offset place : ℕ) → Refuses kind offset ≡ Refuses of place → session_end.InputRefused kind offset ≡ session_end.InputRefused of place
 same_refusal kind of offset place same = cc
 
-no_coming : (next : Coming) (kind offset : ℕ) → next ≡ Comes event.Ends → next ≡ Refuses kind offset → ⊥
-no_coming next kind offset one other = let h : Comes event.Ends ≡ Refuses kind offset = sym one ∙ other in cc
+-- a link that refuses tells so, and nothing else comes
+not_untold : (kind offset : ℕ) → Refuses kind offset ≢ ComesUntold
+not_untold kind offset same = cc
+
+no_coming : (next : Coming) (kind offset : ℕ) → IsNext next event.Ends → next ≡ Refuses kind offset → ⊥
+no_coming next kind offset one other =
+    let h : Comes event.Ends ≡ Refuses kind offset = sym (one (λ untold. not_untold kind offset (sym other ∙ untold))) ∙ other in cc
 
 no_items : unheeded.TooLong ≡ unheeded.LimitItems → ⊥
 no_items h = cc

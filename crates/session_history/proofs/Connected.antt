@@ -79,9 +79,9 @@ after_connected items s t item choice found was goes = by (moved s t item choice
     by (BySend conn bytes m alone is) = subst (Connected items) is (connected_send items s conn bytes m alone.0.taken alone.0.connections alone.1.some alone.1.allowed was)
     by (ByEnd code is) = subst (Connected items) is (record { connections = was.connections; ordered = was.ordered; sent = was.sent })
     by (ByItem it at is) = subst (Connected items) is (connected_item items s it (found ∙ at) was)
-    by (ByChoice it at may is) =
-        let keeps = allocated_keeps (register s.machine 10) it s.machine in
-        subst (Connected items) is (connected_by items s (allocated (register s.machine 10) it s.machine) keeps.taken keeps.connections was)
+    by (ByChoice ask it at may is) =
+        let keeps = allocated_keeps it s.machine in
+        subst (Connected items) is (connected_by items s (allocated it s.machine) keeps.taken keeps.connections was)
 
 -- the start
 connected_start : (items : List Item) (image : Image) → Connected items (start image)

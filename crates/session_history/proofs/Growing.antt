@@ -3,7 +3,7 @@ use Rattle.block_book.specs.Answer.{is_allowed}
 use Rattle.run_history.specs.Machine.{Ends}
 use Rattle.run_history.specs.Call.{received}
 use Rattle.run_history.proofs.Shapes.{Alone, Picks, Same, Shape, Takes, does_shape}
-use Rattle.session_history.proofs.Terms.{Bool, List, None, Option, Some, [], ap, append-nil, append_assoc, arith, cond, false, refl, subst, sym, true, ℕ, ◌++◌, ◌∙◌, ◌∷◌, ◌≡◌, ◌≤◌, none-some, same_Some, slice_get, Item, Send, Choice, repeated_keeps, allocated_keeps, next_parts, received_keeps, allocated, malloc, takes, Chooses, Effect, Emits, Fails, Goes, Machine, State, Wants, register, after, does, next, run, AreBetween}
+use Rattle.session_history.proofs.Terms.{Bool, List, None, Option, Some, [], ap, append-nil, append_assoc, arith, cond, false, refl, subst, sym, true, ℕ, ◌++◌, ◌∙◌, ◌∷◌, ◌≡◌, ◌≤◌, none-some, same_Some, slice_get, Ask, Item, Send, Choice, repeated_keeps, allocated_keeps, next_parts, received_keeps, allocated, chooses, takes, Chooses, Effect, Emits, Fails, Goes, Machine, State, Wants, after, does, next, run, AreBetween}
 
 -- the second state is the first with more sends
 pub record Grows (first second : State) : Type 0 where
@@ -42,15 +42,15 @@ grows_send : (s : State) (conn : ℕ) (bytes : List ℕ) (m : Machine) → m.tak
     → Grows s (record s { machine = m; sends = s.sends ++ record { conn = conn; bytes = bytes; taken = s.machine.taken } ∷ [] })
 grows_send s conn bytes m same = record { more = record { conn = conn; bytes = bytes; taken = s.machine.taken } ∷ []; sends = refl; taken = omega (arith, same); between = (omega arith, omega (arith, same), tt) }
 
--- what one instruction made of a state: it needed nothing, or sent, or ended the program; or it took the next item; or its malloc was given an answer
+-- what one instruction made of a state: it needed nothing, or sent, or ended the program; or it took the next item; or its ask was answered
 pub data Moved (s t : State) (item : Option Item) (choice : Option Choice) : Type 0 where
   ByItself : (m : Machine) → Alone s.machine (Goes m) → record s { machine = m } ≡ t → Moved s t item choice
   BySend : (conn : ℕ) (bytes : List ℕ) (m : Machine) → Alone s.machine (Emits conn bytes m)
       → record s { machine = m; sends = s.sends ++ record { conn = conn; bytes = bytes; taken = s.machine.taken } ∷ [] } ≡ t → Moved s t item choice
   ByEnd : (code : ℕ) → record s { ended = Some code } ≡ t → Moved s t item choice
   ByItem : (it : Item) → item ≡ Some it → record s { machine = received it s.machine } ≡ t → Moved s t item choice
-  ByChoice : (it : Choice) → choice ≡ Some it → is_allowed s.machine.heap_start s.machine.heap_end s.machine.blocks (register s.machine 10) it ≡ true
-      → record s { machine = allocated (register s.machine 10) it s.machine } ≡ t → Moved s t item choice
+  ByChoice : (ask : Ask) (it : Choice) → choice ≡ Some it → is_allowed s.machine.heap_start s.machine.heap_end s.machine.blocks ask it ≡ true
+      → record s { machine = allocated it s.machine } ≡ t → Moved s t item choice
 
 pub moved : (s t : State) (item : Option Item) (choice : Option Choice) → after s (does item choice s.machine) ≡ Some t → Moved s t item choice
 moved s t item choice goes = of_shape (does_shape s.machine)
@@ -60,26 +60,26 @@ moved s t item choice goes = of_shape (does_shape s.machine)
     of_alone (Emits conn bytes m) alone h = BySend conn bytes m alone (same_Some _ t h)
     of_alone (Ends code) alone h = ByEnd code (same_Some _ t h)
     of_alone Wants alone h = absurd alone
-    of_alone (Chooses size) alone h = absurd alone
+    of_alone (Chooses ask) alone h = absurd alone
     of_alone (Fails cause) alone h = absurd (none-some t h)
 
     of_next : (found : Option Item) → item ≡ found → after s (takes s.machine found) ≡ Some t → Moved s t item choice
     of_next None is h = absurd (none-some t h)
     of_next (Some it) is h = ByItem it is (same_Some _ t h)
 
-    of_test : (it : Choice) (b : Bool) → choice ≡ Some it → is_allowed s.machine.heap_start s.machine.heap_end s.machine.blocks (register s.machine 10) it ≡ b
-        → after s (cond b (Goes (allocated (register s.machine 10) it s.machine)) (Chooses (register s.machine 10))) ≡ Some t → Moved s t item choice
-    of_test it true is may h = ByChoice it is may (same_Some _ t h)
-    of_test it false is may h = absurd (none-some t h)
+    of_test : (ask : Ask) (it : Choice) (b : Bool) → choice ≡ Some it → is_allowed s.machine.heap_start s.machine.heap_end s.machine.blocks ask it ≡ b
+        → after s (cond b (Goes (allocated it s.machine)) (Chooses ask)) ≡ Some t → Moved s t item choice
+    of_test ask it true is may h = ByChoice ask it is may (same_Some _ t h)
+    of_test ask it false is may h = absurd (none-some t h)
 
-    of_choice : (found : Option Choice) → choice ≡ found → after s (malloc found s.machine) ≡ Some t → Moved s t item choice
-    of_choice None is h = absurd (none-some t h)
-    of_choice (Some it) is h = of_test it (is_allowed s.machine.heap_start s.machine.heap_end s.machine.blocks (register s.machine 10) it) is refl h
+    of_choice : (ask : Ask) (found : Option Choice) → choice ≡ found → after s (chooses ask s.machine found) ≡ Some t → Moved s t item choice
+    of_choice ask None is h = absurd (none-some t h)
+    of_choice ask (Some it) is h = of_test ask it (is_allowed s.machine.heap_start s.machine.heap_end s.machine.blocks ask it) is refl h
 
     of_shape : Shape s.machine (λ item choice. does item choice s.machine) → Moved s t item choice
     of_shape (Same e alone is) = of_alone e alone (ap (after s) (sym (is item choice)) ∙ goes)
     of_shape (Takes may is) = of_next item refl (ap (after s) (sym (is item choice)) ∙ goes)
-    of_shape (Picks is) = of_choice choice refl (ap (after s) (sym (is item choice)) ∙ goes)
+    of_shape (Picks ask good is) = of_choice ask choice refl (ap (after s) (sym (is item choice)) ∙ goes)
 
 after_grows : (s t : State) (item : Option Item) (choice : Option Choice) → after s (does item choice s.machine) ≡ Some t → Grows s t
 after_grows s t item choice goes = by (moved s t item choice goes)
@@ -89,8 +89,7 @@ after_grows s t item choice goes = by (moved s t item choice goes)
     by (BySend conn bytes m alone is) = subst (Grows s) is (grows_send s conn bytes m alone.0.taken)
     by (ByEnd code is) = subst (Grows s) is (record { more = []; sends = sym (append-nil s.sends); taken = omega arith; between = tt })
     by (ByItem it at is) = subst (Grows s) is (grows_by s (received it s.machine) (omega (arith, (received_keeps it s.machine).taken)))
-    by (ByChoice it at may is) =
-        subst (Grows s) is (grows_by s (allocated (register s.machine 10) it s.machine) (omega (arith, (allocated_keeps (register s.machine 10) it s.machine).taken)))
+    by (ByChoice ask it at may is) = subst (Grows s) is (grows_by s (allocated it s.machine) (omega (arith, (allocated_keeps it s.machine).taken)))
 
 -- a run
 pub run_grows : (items : List Item) (choices : List Choice) (s t : State) (n : ℕ) → run items choices s n ≡ Some t → Grows s t

@@ -36,7 +36,7 @@ after_since session at_end = moment_at (place_of session.earlier session.since a
 abbrev pub after_ending : Session → Bool → Moment
 after_ending session at_end = moment_at (place_of session.earlier (session.since ++ session.ending) at_end) session.survivor.now.state.machine.taken
 
--- The account of a session of an image: there is one run, on the items received, of which each answer of malloc is one that C
+-- The account of a session of an image: there is one run, on the items received, of which each answer of the allocator is one that C
 -- allows; each connection was passed a prefix of what it sends there, and nothing that it sends later; and the journal is lawful. The pieces of
 -- the end were passed where the survivor stands.
 pub record IsAccount (rules : Rules) (image : Image) (session : Session) : Type 0 where

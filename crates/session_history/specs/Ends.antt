@@ -3,7 +3,7 @@ use Rattle.std.specs.Prelude.{◌≡◌, ◌≢◌, ℕ, List, [], ◌∷◌, �
 use Rattle.links.specs.declared.journal.Entry.TheVariants as entry
 use Rattle.links.specs.declared.journal.LinkEvent.TheVariants as event
 use Rattle.run_history.specs.declared.answer.Answer.TheVariants as answer
-use Rattle.session_history.specs.Terms.{Entry, LinkEvent, Ends, Comes, Coming, HasEnded, Refuses, Tells, events_in, Seen, IsPieceOf, Image, Answer, AsksFor, FailsBy}
+use Rattle.session_history.specs.Terms.{Entry, LinkEvent, Ends, Coming, HasEnded, IsNext, Refuses, Tells, events_in, Seen, IsPieceOf, Image, Answer, AsksFor, FailsBy}
 use Rattle.session_history.specs.declared.ends.SessionBreak.{SessionBreak}
 use Rattle.session_history.specs.declared.ends.SessionEnd.{SessionEnd}
 use Rattle.session_history.specs.declared.ends.SessionEnd.TheVariants as session_end
@@ -76,7 +76,7 @@ pub record IsLastTooLong (bounds : Bounds) (entries : List Entry) (conn : ℕ) :
 
 -- The cause of each end: where the survivor stands behind a journal, and what the link has behind its events.
 abbrev pub StandsAt : Rules → List Entry → Option Coming → Survivor → SessionEnd → Type 0
-StandsAt rules entries coming survivor session_end.Finished = IsWaiting rules entries survivor × HasEnded entries × IfSome coming (λ next. next ≡ Comes event.Ends)
+StandsAt rules entries coming survivor session_end.Finished = IsWaiting rules entries survivor × HasEnded entries × IfSome coming (λ next. IsNext next event.Ends)
 StandsAt rules entries coming survivor (session_end.Exited code) = survivor.now.state.ended ≡ Some code
 StandsAt rules entries coming survivor (session_end.GaveUp point cause) = FailsBy rules.limits survivor.plan survivor.now cause × (survivor.now.state.machine.taken ≡ point)
 StandsAt rules entries coming survivor (session_end.InputRefused kind offset) = IsWaiting rules entries survivor × AreHeeded rules.bounds entries × IfSome coming (λ next. next ≡ Refuses kind offset)

@@ -5,8 +5,9 @@ pub use Rattle.rx_io.specs.Sends.{Send, sent_to}
 pub use Rattle.links.specs.declared.journal.Entry.{Entry}
 pub use Rattle.links.specs.declared.journal.LinkEvent.{LinkEvent}
 pub use Rattle.links.specs.declared.journal.LinkEvent.TheVariants.{Ends}
-pub use Rattle.links.specs.Links.{Closed, Comes, Coming, Counts, Grew, HasEnded, IsFresh, IsInOrder, Open, Phase, Phases, Piece, Refuses, Tells, TellsHanded, Told, Unopened, cut_entries, events_in, last_taken, phases_after, pieces_in}
+pub use Rattle.links.specs.Links.{Closed, Comes, ComesUntold, Coming, Counts, Grew, HasEnded, IsFresh, IsInOrder, IsNext, Open, Phase, Phases, Piece, Refuses, Tells, TellsHanded, Told, Unopened, cut_entries, events_in, last_taken, phases_after, pieces_in}
 pub use Rattle.links.specs.Seen.{Seen}
+pub use Rattle.block_book.specs.declared.choice.Ask.{Ask}
 pub use Rattle.block_book.specs.declared.choice.Choice.{Choice}
 pub use Rattle.msg_frame.specs.declared.framing.Framing.{Framing}
 pub use Rattle.msg_frame.specs.Messages.{Parts}
@@ -21,7 +22,7 @@ pub use Rattle.reply_ledger.specs.Ledger.{Ledger}
 unfoldable pub use Rattle.reply_ledger.specs.Ledger.{connection_of}
 pub use Rattle.elf_image.specs.declared.image.Image.{Image}
 pub use Rattle.run_history.specs.declared.answer.Answer.{Answer}
-pub use Rattle.run_history.specs.Call.{connections_after, malloc, takes}
+pub use Rattle.run_history.specs.Call.{chooses, connections_after, takes}
 unfoldable pub use Rattle.run_history.specs.Call.{allocated, received}
 pub use Rattle.run_history.specs.Machine.{Chooses, Effect, Emits, Fails, Goes, Machine, State, Wants, register}
 unfoldable pub use Rattle.run_history.specs.Machine.{no_connections, start, start_machine}

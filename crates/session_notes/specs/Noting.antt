@@ -6,13 +6,13 @@ use Rattle.links.specs.Links.{Grew}
 use Rattle.rx_io.specs.Faults.{HasCause}
 use Rattle.rx_io.specs.declared.fault.IoFault.{IoFault}
 
--- what the first call that failed was handed: none failed; or these answers of malloc, or this episode
+-- what the first call that failed was handed: none failed; or these answers of the allocator, or this episode
 pub data Unnoted : Type 0 where
   NoneFailed : Unnoted
   SomeChoices : List Choice → Unnoted
   OneEpisode : Episode → Unnoted
 
--- what notes tell: the answers of malloc and the episodes that were noted so far, and what the first call that failed was handed, each if they tell it
+-- what notes tell: the answers of the allocator and the episodes that were noted so far, and what the first call that failed was handed, each if they tell it
 pub record Noted : Type 0 where
   pub choices : Option (List Choice)
   pub episodes : Option (List Episode)
@@ -48,7 +48,7 @@ pub record Shown : Type 0 where
   pub told : Noted
   pub faults : ℕ
 
--- answers of malloc were noted, or none of them
+-- answers of the allocator were noted, or none of them
 pub record ChoicesShow (old new : Shown) (list : List Choice) (result : Result (Unit {0}) IoFault) : Type 0 where
   pub noted : IsNoted old.told.choices new.told.choices list result
   pub episodes : new.told.episodes ≡ old.told.episodes

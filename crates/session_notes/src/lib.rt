@@ -1,4 +1,5 @@
-//! What a session notes while it serves: the episodes of its recovery, with their lines of text, and the answers of malloc; as a trait, and forms of it in memory.
+//! What a session notes while it serves: the episodes of its recovery, with their lines of text, and the answers of the allocator; as a
+//! trait, and forms of it in memory.
 //!
 //! An episode is data. That it tells what a recovery did, `recover` of `recovery` says.
 //! That each one is noted, and in order, `serve` of `rx_engine` says.

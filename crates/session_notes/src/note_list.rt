@@ -43,7 +43,7 @@ impl NoteList {
         &self.episodes
     }
 
-    /// The answers of malloc noted, in their order.
+    /// The answers of the allocator noted, in their order.
     pub fn kept_choices(&self) -> &[Choice]
         ensures { result.now ≡ list_choices self.now }
     {

@@ -6,9 +6,9 @@ use crate::Episode;
 use block_book::Choice;
 use rx_io::IoFault;
 
-/// What a session notes while it serves: its answers of malloc and its episodes, two lists that grow at their ends.
+/// What a session notes while it serves: its answers of the allocator and its episodes, two lists that grow at their ends.
 pub trait Notes {
-    /// What they show of themselves: the answers of malloc and the episodes noted so far, and what the first call that failed was handed, if they
+    /// What they show of themselves: the answers of the allocator and the episodes noted so far, and what the first call that failed was handed, if they
     /// tell them; how often a call has failed.
     ghost shown: { Self → Shown };
 
@@ -18,7 +18,7 @@ pub trait Notes {
     /// It stays as it is.
     ghost fixed: { Self → Fixed };
 
-    /// Notes answers of malloc that can't be rolled back any more, in their order. At least one. After an `Err` none is
+    /// Notes answers of the allocator that can't be rolled back any more, in their order. At least one. After an `Err` none is
     /// noted.
     ///
     /// # Errors

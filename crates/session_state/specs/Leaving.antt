@@ -63,11 +63,11 @@ module _ {R : Type 0} where
     pub saved : (index : ℕ) → index < length paths → option_map (λ one. one.state) (from_newest session.cpu.slots.saved index) ≡ option_map standing_of (slice_get paths index)
     pub requests : HandlesRequests rules image (keeping_of session) chapters entries recoveries survivor (stands_of session.cpu.slots.saved)
 
-  -- as many answers of malloc are recorded as the oldest checkpoint had used
+  -- as many answers of the allocator are recorded as the oldest checkpoint had used
   abbrev pub IsRecorded : SessionState R → Type 0
   IsRecorded session = IfSome (slice_get session.cpu.slots.saved 0) (λ oldest. session.recorded ≡ oldest.state.guest.machine.allocations)
 
-  -- All is given up and recorded that no trial needs: the items from before the oldest checkpoint, and no others; and of the answers of malloc
+  -- All is given up and recorded that no trial needs: the items from before the oldest checkpoint, and no others; and of the answers of the allocator
   -- those that it had used. No send is given up that came later.
   pub record IsTrimmed (session : SessionState R) : Type 0 where
     pub items : IfSome (slice_get session.cpu.slots.saved 0) (λ oldest. session.log.first ≡ oldest.state.guest.machine.taken)
@@ -90,7 +90,7 @@ module _ {R : Type 0} where
 
   -- What a session leaves at an end or at a fault of its link, by its telling: the checkpoints of the survivor's run. The items from before the
   -- oldest one were given up, and no others. At an end so were the sends; and the guest stands where the survivor does, unless none survived.
-  -- At a fault as many answers of malloc are recorded as the oldest one had used. Those checkpoints stand that the requests so far left.
+  -- At a fault as many answers of the allocator are recorded as the oldest one had used. Those checkpoints stand that the requests so far left.
   pub record HasLeft (rules : Rules) (image : Image) (telling : Telling) (session : SessionState R) (why : Stop) : Type 0 where
     pub holds : HoldsCheckpoints rules image telling.account.earlier (before_end telling.account) telling.recoveries telling.account.survivor session
     pub oldest : Path

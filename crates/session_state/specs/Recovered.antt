@@ -94,7 +94,7 @@ abbrev pub IsNoteStop : Stop → Type 0
 IsNoteStop (stop.Ends end) = ⊥
 IsNoteStop (stop.Breaks fault) = IsNoteFault fault
 
--- a call of notes failed that was handed some of these answers of malloc, the first ones
+-- a call of notes failed that was handed some of these answers of the allocator, the first ones
 pub record FailsAtChoices (old new : Option Unnoted) (choices : List Choice) : Type 0 where
   pub list : List Choice
   pub first : Prefix list choices
@@ -113,7 +113,7 @@ abbrev pub IsHandedLast : Option Unnoted → Option Unnoted → Stop → List Ch
 IsHandedLast old new why tail missing =
     ((new ≡ old) × (missing ≡ [])) ⊎ (IsNoteStop why × ((FailsAtChoices old new tail × (missing ≡ [])) ⊎ FailsAtEpisode old new missing))
 
--- What a session has noted, by what its notes told when it began, and tell now. Of the run's answers of malloc the first ones are recorded, and
+-- What a session has noted, by what its notes told when it began, and tell now. Of the run's answers of the allocator the first ones are recorded, and
 -- the others are its tail; at an end all are recorded. And each episode is noted, but perhaps the last one, where noting failed.
 pub record HasNoted (before now : Noted) (why : Stop) (choices : List Choice) (episodes : List Episode) (recorded : ℕ) (tail : List Choice) : Type 0 where
   pub low : recorded ≤ length choices
@@ -130,7 +130,7 @@ pub record HasNoted (before now : Noted) (why : Stop) (choices : List Choice) (e
 abbrev pub HasNothingBehind : Telling → Type 0
 HasNothingBehind telling = HasNoEnding telling.account × MatchOption telling.walk (telling.account.since ≡ []) (λ walk. Unit {0})
 
--- What a session leaves as numbers: why it stopped; of its run's answers of malloc how many are recorded, and the others; the items that the run took,
+-- What a session leaves as numbers: why it stopped; of its run's answers of the allocator how many are recorded, and the others; the items that the run took,
 -- and its instructions.
 pub record Outcome : Type 0 where
   pub stop : Stop
@@ -139,7 +139,7 @@ pub record Outcome : Type 0 where
   pub taken : ℕ
   pub steps : ℕ
 
--- The outcome of a session, by one telling of it. Its notes tell of its answers of malloc and of each recovery; where they lack an episode, nothing
+-- The outcome of a session, by one telling of it. Its notes tell of its answers of the allocator and of each recovery; where they lack an episode, nothing
 -- came or went behind it. So many instructions were counted: those of the survivors, and those of all trials.
 pub record IsOutcome (rules : Rules) (image : Image) (keeping : Keeping) (coming : Option Coming) (telling : Telling) (outcome : Outcome) (noted_before noted_now : Noted) (counted : ℕ) : Type 0 where
   pub is : IsTelling rules image keeping coming telling outcome.stop

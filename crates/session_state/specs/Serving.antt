@@ -22,7 +22,7 @@ abbrev pub IsAnswerTo : PassFault → SessionBreak → Type 0
 IsAnswerTo fault.WriteFault why = why ≡ session_break.WriteFault
 IsAnswerTo fault.Memory why = why ≡ session_break.Memory
 
--- an answer of malloc was noted, or memory ran out
+-- an answer of the allocator was noted, or memory ran out
 abbrev pub IsOkOrMemory : Result (Unit {0}) Stop → Type 0
 IsOkOrMemory (Ok done) = Unit {0}
 IsOkOrMemory (Err why) = why ≡ stop.Breaks session_break.Memory
@@ -46,7 +46,7 @@ abbrev pub end_of : ℕ → Cause → Option Adopted → Option SessionEnd
 end_of point cause None = Some (session_end.GaveUp point cause)
 end_of point cause (Some adopted) = option_map session_end.Exited adopted.code
 
--- so it is where the rest of the answers of malloc was noted, or wasn't; no episode is noted
+-- so it is where the rest of the answers of the allocator was noted, or wasn't; no episode is noted
 pub record HasNoteRest (before now : Shown) (result : Result (Unit {0}) SessionBreak) : Type 0 where
   pub episodes : now.told.episodes ≡ before.told.episodes
   pub unnoted : IfOk result (λ _. now.told.unnoted ≡ before.told.unnoted)
@@ -252,7 +252,7 @@ module _ {R : Type 0} where
   ComesBetween rules image began seen session (Ok done) = IsBetween rules image began seen session
   ComesBetween rules image began seen session (Err why) = StopsBy rules image began seen session why
 
-  -- its guest is where it was, and so are the answers of malloc, and what it answers for; and nothing more was given up
+  -- its guest is where it was, and so are the answers of the allocator, and what it answers for; and nothing more was given up
   pub record HasSameGuest (old new : SessionState R) : Type 0 where
     pub options : new.options ≡ old.options
     pub cpu : new.cpu ≡ old.cpu
@@ -345,7 +345,7 @@ module _ {R : Type 0} where
     pub options : new.options ≡ old.options
     pub rule : new.cpu.rule ≡ old.cpu.rule
 
-  -- the rest of the answers of malloc was noted, if there were any; or noting failed, which was handed some of them, and nothing changed
+  -- the rest of the answers of the allocator was noted, if there were any; or noting failed, which was handed some of them, and nothing changed
   abbrev pub NotesRest : Shown → Shown → SessionState R → SessionState R → Result (Unit {0}) SessionBreak → Type 0
   NotesRest before now old new (Ok done) = Grew before.told.choices now.told.choices old.choices × (new ≡ record old { recorded = old.recorded + length old.choices; choices = [] })
   NotesRest before now old new (Err end) = (now.told.choices ≡ before.told.choices) × (new ≡ old) × IsNoteFault end × FailsAtChoices before.told.unnoted now.told.unnoted old.choices
@@ -432,7 +432,7 @@ module _ {R : Type 0} where
     pub marked : UnlessMemory result (IsCounted new)
     pub low : old.steps ≤ old.cpu.slots.live.steps → new.steps ≤ new.cpu.slots.live.steps
 
-  -- what an answer of malloc makes of it
+  -- what an answer of the allocator makes of it
   pub record KeepsChoosing (old new : SessionState R) (result : Result (Unit {0}) Stop) : Type 0 where
     pub until : new.until ≡ old.until
     pub options : new.options ≡ old.options
@@ -509,7 +509,7 @@ module _ {R : Type 0} where
     pub rule : new.cpu.rule ≡ old.cpu.rule
     pub keeping : keeping_of new ≡ keeping_of old
 
-  -- answers of malloc are noted up to the oldest checkpoint, or noting failed
+  -- answers of the allocator are noted up to the oldest checkpoint, or noting failed
   pub record KeepsNoting (shown now : Shown) (old new : SessionState R) (result : Result (Unit {0}) Stop) : Type 0 where
     pub notes : NotesServe shown now result
     pub same : new ≡ record old { recorded = new.recorded; choices = new.choices }

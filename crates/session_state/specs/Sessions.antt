@@ -5,7 +5,7 @@ use Rattle.session_state.specs.Terms.{Choice, Env, Plain, Checkpoints, checkpoin
 use Rattle.session_state.specs.Options.{AreInRange}
 
 -- A session: its options, its guest with its checkpoints, the items and the replies; how many events came; of the run that it answers for
--- how many answers of malloc are recorded, the others, the items taken and the instructions; and an environment, up to a number of items
+-- how many answers of the allocator are recorded, the others, the items taken and the instructions; and an environment, up to a number of items
 pub record SessionState (R : Type 0) : Type 0 where
   pub options : Options
   pub cpu : CpuState R

@@ -36,13 +36,13 @@ told_since told noted_before noted tables_before tables lost = record { told = t
 abbrev pub unwatched : Since → Since
 unwatched began = record began { tables_before = None; tables = None }
 
--- notes tell these answers of malloc and these episodes more, and no call of them failed
+-- notes tell these answers of the allocator and these episodes more, and no call of them failed
 pub record HasNotedMore (before now : Noted) (choices : List Choice) (episodes : List Episode) : Type 0 where
   pub choices_more : Grew before.choices now.choices choices
   pub episodes_more : Grew before.episodes now.episodes episodes
   pub unnoted_same : now.unnoted ≡ before.unnoted
 
--- notes tell the same answers of malloc and the same episodes, and that a call failed that was handed this episode
+-- notes tell the same answers of the allocator and the same episodes, and that a call failed that was handed this episode
 pub record HasMissed (before now : Noted) (episode : Episode) : Type 0 where
   pub choices_same : now.choices ≡ before.choices
   pub episodes_same : now.episodes ≡ before.episodes
@@ -60,7 +60,7 @@ pub record IsTold (rules : Rules) (image : Image) (began : Since) (now : Told) (
   pub tables : TellsMore began.tables_before began.tables (AreTables rules [] story.earlier story.recoveries)
 
 module _ {R : Type 0} where
-  -- a session answers for the survivor's run: of its answers of malloc the first ones are noted, and it has the others; no call of its notes failed
+  -- a session answers for the survivor's run: of its answers of the allocator the first ones are noted, and it has the others; no call of its notes failed
   pub record AnswersFor (began : Since) (story : Story) (session : SessionState R) : Type 0 where
     pub low : session.recorded ≤ length story.survivor.now.choices
     pub recorded : Grew began.noted_before.choices began.noted.choices (take session.recorded story.survivor.now.choices)
@@ -80,7 +80,7 @@ module _ {R : Type 0} where
     pub events : session.events ≡ length (events_in (entries story))
     pub phases_are : KeepsPhases (entries story) phases
 
-  -- it has the survivor's checkpoints, those that its requests left, before which all answers of malloc were used that are noted, and the environment in which the survivor runs: past the failure behind which it was adopted, or there
+  -- it has the survivor's checkpoints, those that its requests left, before which all answers of the allocator were used that are noted, and the environment in which the survivor runs: past the failure behind which it was adopted, or there
   pub record KeepsCheckpoints (rules : Rules) (image : Image) (story : Story) (session : SessionState R) : Type 0 where
     pub paths : List Path
     pub ring : KeepsRing rules image (entries story) story.survivor.plan story.survivor.now paths session.cpu session.ring session.log session.replies

@@ -7,7 +7,7 @@ pub use Rattle.rx_io.specs.Prefix.{Prefix}
 pub use Rattle.rx_io.specs.Sends.{Send, sent_to}
 pub use Rattle.links.specs.declared.journal.Entry.{Entry}
 pub use Rattle.links.specs.declared.journal.LinkEvent.{LinkEvent}
-pub use Rattle.links.specs.Links.{Comes, Coming, Counts, Grew, HasEnded, IsFresh, Phases, Refuses, Tells, Told, events_in}
+pub use Rattle.links.specs.Links.{Coming, Counts, Grew, HasEnded, IsFresh, IsNext, Phases, Refuses, Tells, Told, events_in}
 pub use Rattle.links.specs.Seen.{Seen, but_given}
 pub use Rattle.block_book.specs.declared.choice.Choice.{Choice}
 pub use Rattle.block_book.specs.Heap.{Heap}

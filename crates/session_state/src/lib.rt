@@ -3,7 +3,7 @@
 //! What `serve` of `rx_engine` ensures is defined here, beside the lemmas from which it follows.
 //! That crate has no definitions of its own.
 //! A change of its code proves none of these lemmas again.
-//! While a session serves, only answers of malloc from before its oldest checkpoint are recorded.
+//! While a session serves, only answers of the allocator from before its oldest checkpoint are recorded.
 //! No recovery can change these. At an end all are recorded.
 #![tactic(auto)]
 

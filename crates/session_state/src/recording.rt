@@ -1,4 +1,4 @@
-// What a session records of its run's answers of malloc.
+// What a session records of its run's answers of the allocator.
 ghost use Rattle.std.specs.Prelude.{◌≡◌, ◌-◌, ◌≤◌, length};
 ghost use Rattle.session_state.specs.Recording.{NotesUpTo, KeepsNotes};
 
@@ -6,7 +6,7 @@ use block_book::Choice;
 use rx_io::IoFault;
 use session_notes::Notes;
 
-/// Notes the answers of malloc up to the first `safe` ones of a run, of which the first `recorded` ones are noted, and `choices` are those behind
+/// Notes the answers of the allocator up to the first `safe` ones of a run, of which the first `recorded` ones are noted, and `choices` are those behind
 /// them. What is noted now leaves the list.
 ///
 /// # Errors

@@ -1,8 +1,8 @@
 -- A run that stands at its request for an item asks nothing of the allocator there, so that no environment matters.
 use Rattle.run_history.proofs.Blocks.{frees}
-use Rattle.run_history.proofs.Wanting.{never_wants}
+use Rattle.run_history.proofs.Wanting.{never_allocates}
 use Rattle.run_history.specs.Call.{freed}
-use Rattle.trials.proofs.Terms.{List, None, Option, Some, ap, cond, leb, refl, sym, ℕ, ◌∙◌, ◌≡◌, is_some, option_map, slice_get, Item, Choice, Env, BadAccess, Hang, mallocs, Effect, Fails, Goes, Wants, register, after, does, AsksFor, Free, Grant, Guest, Limits, Malloc, Nothing, Override, Path, Request, does_with, env_at, grant, granted, guest_of, is_refused, longer, planned_next, request_of, served_next, serves, instruction_at, touched, waits_of, AsksUnderAll}
+use Rattle.trials.proofs.Terms.{List, None, Option, Some, ap, cond, leb, refl, sym, ℕ, ◌∙◌, ◌≡◌, is_some, option_map, slice_get, Item, Choice, Env, BadAccess, Hang, allocates, Effect, Fails, Goes, Wants, register, after, does, AsksFor, Free, Grant, Guest, Limits, Allocate, Nothing, Override, Path, Request, does_with, env_at, grant, granted, guest_of, is_refused, longer, planned_next, request_of, served_next, serves, instruction_at, touched, waits_of, AsksUnderAll}
 
 -- the request of the guest's instruction
 abbrev request_at : Guest → Request
@@ -10,7 +10,7 @@ request_at guest = request_of (instruction_at guest.machine) guest.machine
 
 -- it asks nothing of the allocator
 asks_nothing : (guest : Guest) (choice : Option Choice) (request : Request) → request_at guest ≡ request → does None choice guest.machine ≡ Wants → request ≡ Nothing
-asks_nothing guest choice (Malloc size) asks wants = absurd (never_wants (register guest.machine 10) guest.machine choice (sym (mallocs guest.machine size asks None choice) ∙ wants))
+asks_nothing guest choice (Allocate ask) asks wants = absurd (never_allocates ask guest.machine choice (sym (allocates guest.machine ask asks None choice) ∙ wants))
 asks_nothing guest choice (Free place) asks wants =
     let never : Goes (freed (register guest.machine 10) guest.machine) ≡ Wants = sym (frees guest.machine place asks None choice) ∙ wants in absurd (cc)
 asks_nothing guest choice Nothing asks wants = refl

@@ -22,7 +22,7 @@ after_within s t items choice goes low = by (moved s t (slice_get items s.machin
     by (BySend conn bytes m alone is) = within _ is (omega (arith, low, alone.0.taken))
     by (ByEnd code is) = within _ is low
     by (ByItem it at is) = within _ is (omega (arith, slice_get_within items s.machine.taken it at, (received_keeps it s.machine).taken))
-    by (ByChoice it at may is) = within _ is (omega (arith, low, (allocated_keeps (register s.machine 10) it s.machine).taken))
+    by (ByChoice ask it at may is) = within _ is (omega (arith, low, (allocated_keeps it s.machine).taken))
 
 -- so does a run
 taken_within : (limits : Limits) (items : List Item) (plan : List Override) (first second : Path) → Served limits items plan first second → first.state.machine.taken ≤ length items → second.state.machine.taken ≤ length items

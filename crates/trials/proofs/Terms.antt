@@ -5,12 +5,12 @@ pub use Rattle.std.proofs.lemmas.Option.{none-some, option_and_then_some, same_S
 pub use Rattle.std.specs.Prelude.{IsSome, MatchBool, MatchOption, is_some, option_and_then, option_map, slice_get}
 pub use Rattle.run_history.proofs.Repeats.{repeated_from, repeated_keeps}
 pub use Rattle.run_history.proofs.Runs.{allocated_keeps, does_more, extends_same, received_keeps}
-pub use Rattle.run_history.proofs.Serves.{mallocs, serves_to}
+pub use Rattle.run_history.proofs.Serves.{allocates, serves_to}
 pub use Rattle.session_history.proofs.Asked.{Later, asks_takes, later_of, served_grows, waits_of}
 pub use Rattle.session_history.proofs.Growing.{ByChoice, ByEnd, ByItem, ByItself, BySend, Grows, Moved, moved}
 pub use Rattle.session_history.proofs.Passing.{all_until, none_until, timed_on}
 pub use Rattle.session_history.proofs.Paths.{served_on, served_same, served_with}
-pub use Rattle.trials.specs.Terms.{All, AreBetween, AreDue, AreGiven, AreLawful, AsksFor, BadAccess, Cause, Chapter, Choice, Covers, Delay, Effect, Entry, Env, Fails, FailsBy, Free, Goes, Grant, Guest, Hang, Image, IsDue, IsDueEvent, IsDuePiece, Isolate, Item, Latest, LeavesNothing, Limits, Malloc, Nothing, Override, Pad, Path, Place, Plain, Prefix, Request, Rules, Send, Served, Stands, State, Survivor, Tried, Wants, Zero, after, after_ending, does_with, entries_of, env_at, first_survivor, gone_on, granted, guest_of, is_refused, items_in, journal_of, latest, longer, moment_at, origin, output, passed_in, planned_next, register, request_of, sent_to, serve, survives, until}
+pub use Rattle.trials.specs.Terms.{All, Allocate, AreBetween, AreDue, AreGiven, AreLawful, AsksFor, BadAccess, Cause, Chapter, Choice, Covers, Delay, Effect, Entry, Env, Fails, FailsBy, Free, Goes, Grant, Guest, Hang, Image, IsDue, IsDueEvent, IsDuePiece, Isolate, Item, Latest, LeavesNothing, Limits, Nothing, Override, Pad, Path, Place, Plain, Prefix, Request, Rules, Send, Served, Stands, State, Survivor, Tried, Wants, Zero, after, after_ending, does_with, entries_of, env_at, first_survivor, gone_on, granted, guest_of, is_refused, items_in, journal_of, latest, longer, moment_at, origin, output, passed_in, planned_next, register, request_of, sent_to, serve, survives, until}
 unfoldable pub use Rattle.trials.specs.Terms.{agree, does, grant, instruction_at, served_next, serves, start, start_machine, touched}
 pub use Rattle.trials.specs.Trials.{ComesTo, IsBehindAt, IsContradicted, IsPast, IsTrial, IsUnharmed, plan_of_trial}
 pub use Rattle.trials.specs.Tables.{Chance, IsRight, Trial, WalksOver, chances_at, environments, survivor_in, table}

@@ -14,7 +14,7 @@ pub use Rattle.run_history.specs.Machine.{Effect, Fails, Goes, State, Wants, reg
 unfoldable pub use Rattle.run_history.specs.Machine.{start, start_machine}
 pub use Rattle.run_history.specs.Run.{after, output}
 unfoldable pub use Rattle.run_history.specs.Run.{does}
-pub use Rattle.run_history.specs.Served.{AsksFor, FailsBy, Free, Grant, Guest, Limits, Malloc, Nothing, Override, Path, Request, Served, does_with, env_at, granted, guest_of, is_refused, longer, origin, planned_next, request_of, serve}
+pub use Rattle.run_history.specs.Served.{AsksFor, FailsBy, Allocate, Free, Grant, Guest, Limits, Nothing, Override, Path, Request, Served, does_with, env_at, granted, guest_of, is_refused, longer, origin, planned_next, request_of, serve}
 unfoldable pub use Rattle.run_history.specs.Served.{grant, served_next, serves}
 unfoldable pub use Rattle.run_history.specs.Touching.{instruction_at, touched}
 pub use Rattle.session_history.specs.Account.{IsAccount, Session, after_ending, journal_of}

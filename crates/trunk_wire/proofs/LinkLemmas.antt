@@ -1,7 +1,7 @@
 -- The clauses of a link, by what was taken and written.
 use Rattle.links.specs.declared.journal.Entry.TheVariants as entry
 use Rattle.links.specs.declared.journal.LinkEvent.TheVariants as event
-use Rattle.trunk_wire.proofs.Terms.{Bool, Err, IfSome, List, None, Ok, Option, Result, Some, [], ap, append-nil, arith, false, if◌then◌else◌, inl, inr, is_ok, length, length-append, refl, subst, sym, true, ℕ, ◌++◌, ◌+◌, ◌-◌, ◌<◌, ◌^◌, ◌∙◌, ◌∷◌, ◌≡◌, ◌≤◌, IsDrained, Stream, Took, Entry, LinkEvent, LinkFault, Memory, ReadFault, Refused, WriteFault, grew_nothing, Comes, Enters, GoesBy, Grew, IsInOrder, Nexts, Phases, Piece, Refuses, Tells, events_in, phases_after, pieces_in, Refusal, IsFrameOf, Bad, Part, Whole, coming_of, event_at, front, last_bytes, events, fresh, whole_event, HasOffset, IsRefused, Reads, TakesBy, count_after, is_in_step, told_coming, told_events, trunk_told}
+use Rattle.trunk_wire.proofs.Terms.{Bool, Err, IfSome, List, None, Ok, Option, Result, Some, [], ap, append-nil, arith, false, if◌then◌else◌, inl, inr, is_ok, length, length-append, refl, subst, sym, true, ℕ, ◌++◌, ◌+◌, ◌-◌, ◌<◌, ◌^◌, ◌∙◌, ◌∷◌, ◌≡◌, ◌≤◌, IsDrained, Stream, Took, Entry, LinkEvent, LinkFault, Memory, ReadFault, Refused, WriteFault, grew_nothing, Comes, Coming, Enters, GoesBy, Grew, IsInOrder, Nexts, Phases, Piece, Refuses, Tells, events_in, phases_after, pieces_in, Refusal, IsFrameOf, Bad, Part, Whole, coming_of, event_at, front, last_bytes, events, fresh, whole_event, HasOffset, IsRefused, Reads, TakesBy, count_after, is_in_step, told_coming, told_events, trunk_told}
 use Rattle.trunk_wire.proofs.GrammarLemmas.{frame-accepted, front-accepted, front-bad}
 use Rattle.trunk_wire.proofs.TellingLemmas.{InStep, StepsTo, in_step_from, step_frame, step_none, step_part}
 
@@ -126,14 +126,19 @@ refusal_comes (Some old) (Some new) took kind offset phases refused bytes read (
     let all : old.left ≡ bytes = read.1 ∙ ap (λ l. bytes ++ l) cut.3 ∙ append-nil bytes in
     ap (event_at phases took) all ∙ coming_cut phases took bytes cut.2 cut.1 ∙ rw (is, cut.0) refl
 
+-- an event that comes is the next one
+goes : (coming : Option Coming) (event : LinkEvent) → IfSome coming (λ next. next ≡ Comes event) → GoesBy coming (Ok event)
+goes None event comes = tt
+goes (Some next) event comes = λ known. comes
+
 -- an answer is the grammar's
 pub next_goes_by : (old new : Option Stream) (took now : ℕ) (phases next : Phases) (refused : Option Refusal) (result : Result LinkEvent LinkFault) → TakesBy phases (Reads old new took now) (IsDrained new) result → Enters phases next result
     → HasOffset took result → GoesBy (told_coming old took phases true refused) result
-next_goes_by old new took now phases next refused (Ok (event.Opens conn)) taken order offset = frame_comes old new took phases refused (event.Opens conn) taken.0 taken.1.took taken.2 order.0
-next_goes_by old new took now phases next refused (Ok (event.Piece conn bytes)) taken order offset = frame_comes old new took phases refused (event.Piece conn bytes) taken.0 taken.1.took taken.2 order.0
-next_goes_by old new took now phases next refused (Ok (event.Closes conn)) taken order offset = frame_comes old new took phases refused (event.Closes conn) taken.0 taken.1.took taken.2 order.0
-next_goes_by old new took now phases next refused (Ok event.Settles) taken order offset = frame_comes old new took phases refused event.Settles taken.0 taken.1.took taken.2 order.0
-next_goes_by old new took now phases next refused (Ok event.Ends) taken order offset = end_comes old new took phases refused taken.0 taken.1.took taken.2.0 taken.2.1
+next_goes_by old new took now phases next refused (Ok (event.Opens conn)) taken order offset = goes (told_coming old took phases true refused) (event.Opens conn) (frame_comes old new took phases refused (event.Opens conn) taken.0 taken.1.took taken.2 order.0)
+next_goes_by old new took now phases next refused (Ok (event.Piece conn bytes)) taken order offset = goes (told_coming old took phases true refused) (event.Piece conn bytes) (frame_comes old new took phases refused (event.Piece conn bytes) taken.0 taken.1.took taken.2 order.0)
+next_goes_by old new took now phases next refused (Ok (event.Closes conn)) taken order offset = goes (told_coming old took phases true refused) (event.Closes conn) (frame_comes old new took phases refused (event.Closes conn) taken.0 taken.1.took taken.2 order.0)
+next_goes_by old new took now phases next refused (Ok event.Settles) taken order offset = goes (told_coming old took phases true refused) event.Settles (frame_comes old new took phases refused event.Settles taken.0 taken.1.took taken.2 order.0)
+next_goes_by old new took now phases next refused (Ok event.Ends) taken order offset = goes (told_coming old took phases true refused) event.Ends (end_comes old new took phases refused taken.0 taken.1.took taken.2.0 taken.2.1)
 next_goes_by old new took now phases next refused (Err (Refused kind offset)) taken order at_offset = refusal_comes old new took kind offset phases refused taken.0 taken.1.took taken.2 at_offset
 next_goes_by old new took now phases next refused (Err ReadFault) taken order offset = tt
 next_goes_by old new took now phases next refused (Err Memory) taken order offset = tt

@@ -6,7 +6,7 @@ pub use Rattle.std.proofs.lemmas.Bool.Decides.{nat_tests}
 pub use Rattle.std.proofs.lemmas.List.{drop-append-le, length-take-le, nil_from_length, take-append-drop, take-append-le, take_all}
 pub use Rattle.std.proofs.lemmas.List.Elements.{All-cons, All-head, All-nil, All-tail}
 pub use Rattle.links.proofs.Growing.{grew_nothing}
-pub use Rattle.trunk_wire.specs.Terms.{All, Appends, CONNECTIONS, Closed, Comes, Cuts, Enters, Entry, Given, Gives, GoesBy, Gone, Grew, IoFault, IsDrained, IsFresh, IsInOrder, LinkEvent, LinkFault, Memory, Nexts, Open, Phase, Phases, Piece, Prefix, ReadFault, Refused, Refuses, Stream, Tells, Took, Unopened, WriteFault, cut_entries, events_in, phases_after, phases_in, pieces_in, with_phase}
+pub use Rattle.trunk_wire.specs.Terms.{All, Appends, CONNECTIONS, Closed, Comes, Coming, Cuts, Enters, Entry, Given, Gives, GoesBy, Gone, Grew, IoFault, IsDrained, IsFresh, IsInOrder, LinkEvent, LinkFault, Memory, Nexts, Open, Phase, Phases, Piece, Prefix, ReadFault, Refused, Refuses, Stream, Tells, Took, Unopened, WriteFault, cut_entries, events_in, phases_after, phases_in, pieces_in, with_phase}
 pub use Rattle.trunk_wire.specs.declared.header.Header.{Header}
 pub use Rattle.trunk_wire.specs.declared.header.TheConstants.{BYTES, CLOSE, OPEN, SETTLE}
 pub use Rattle.trunk_wire.specs.declared.refusal.Refusal.{Refusal}

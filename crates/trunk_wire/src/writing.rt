@@ -7,8 +7,10 @@ use crate::header::{BYTES, Header, bytes_from};
 use links::{Given, LinkFault};
 use rx_io::{IoFault, Sink};
 
-// How many bytes of a frame, its header among them, go by one write.
+// How many bytes of a frame, its header among them, go by one write; and how many by one from a short array.
 const JOINED: usize = 4096;
+
+const SHORT: usize = 256;
 
 // The fault of a sink, as that of a link.
 fn write_fault(fault: IoFault) -> LinkFault
@@ -47,18 +49,17 @@ fn put_behind(all: &mut [u8], at: usize, bytes: &[u8])
     all[at..at + bytes.len()].copy_from_slice(bytes);
 }
 
-// A header and the payload behind it, at the front of an array.
-fn joined(header: [u8; 5], bytes: &[u8]) -> [u8; JOINED]
-    requires { 5 + length bytes.now ≤ 4096 }
-    ensures { take (5 + length bytes.now) result ≡ header ++ bytes.now }
+// Puts a header and the payload behind it at the front of a buffer.
+fn join(all: &mut [u8], header: [u8; 5], bytes: &[u8])
+    requires { 5 + length bytes.now ≤ length all.old }
+    ensures length { length all.new ≡ length all.old }
+    ensures bytes { take (5 + length bytes.now) all.new ≡ header ++ bytes.now }
 {
-    let mut all = [0u8; JOINED];
-    put_behind(&mut all, 0, &header);
-    put_behind(&mut all, 5, bytes);
-    all
+    put_behind(all, 0, &header);
+    put_behind(all, 5, bytes);
 }
 
-// Gives a header and the payload behind it: at once, where an array holds them.
+// Gives a header and the payload behind it: at once, where an array holds them. Most frames are short, and so is their array.
 fn write_behind<K: Sink>(
     sink: &mut K,
     wrote: &mut u64,
@@ -71,8 +72,14 @@ fn write_behind<K: Sink>(
     ensures cause { HasCause (K.faults sink.old) (K.faults sink.new) result }
 {
     let whole = 5 + bytes.len();
+    if whole <= SHORT {
+        let mut short = [0u8; SHORT];
+        join(&mut short, header, bytes);
+        return write_all(sink, wrote, &short[..whole]);
+    }
     if whole <= JOINED {
-        let all = joined(header, bytes);
+        let mut all = [0u8; JOINED];
+        join(&mut all, header, bytes);
         return write_all(sink, wrote, &all[..whole]);
     }
     match write_all(sink, wrote, &header) {

@@ -181,7 +181,7 @@ adopted_serves {seen = seen} point cause adopted may is = record {
   cause = record { takes = omega arith; gives = omega arith; read_fault = λ is. absurd (let never : ⊥ = cc in never); write_fault = λ is. absurd (let never : ⊥ = cc in never) };
 }
 
--- malloc was answered, and the link wasn't called
+-- an ask was answered, and the link wasn't called
 pub chosen_serves : {seen : Seen} {ledger : Ledger} (result : Result (Unit {0}) Stop) → MayServe seen ledger → IsOkOrMemory result → LinkServes seen seen ledger result
 chosen_serves (Ok done) may memory = serves_well may (known_same refl) (omega arith) (omega arith)
 chosen_serves {seen = seen} {ledger = ledger} (Err why) may memory = subst (λ (w : Stop). LinkServes {X = Unit {0}} seen seen ledger (Err w)) (sym memory) (memory_serves may.gives.gives_still)

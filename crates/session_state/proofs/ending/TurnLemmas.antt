@@ -64,7 +64,7 @@ module _ {R : Type 0} where
       let from : old.cpu.slots.live.steps ≡ b.going.story.survivor.now.steps = ap (λ (s : Standing). s.steps) b.going.goes.guest in
       omega (arith, from, ap (λ (s : Standing). s.steps) runs.stands, runs.comes.6)
 
-  -- and by an answer of malloc
+  -- and by an answer of the allocator
   pub chooses_later : (permits : R → Heap → ℕ → ℕ → Bool) {env : Env} {image : Image} {began : Since} {seen : Seen} {old inside : SessionState R} (cpu : CpuState R) {choice : Choice} {found : Event} → env ≡ env_of old → inside ≡ old → found ≡ step.Chooses choice
       → IsBetween (rules_of old.options (permits old.cpu.rule)) image began seen old → Ran permits env inside cpu (Ok found) → old.cpu.slots.live.steps < cpu.slots.live.steps
   chooses_later permits {env = env} {old = old} {inside = inside} cpu force same is b ran =

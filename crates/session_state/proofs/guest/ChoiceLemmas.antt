@@ -5,7 +5,7 @@ use Rattle.run_history.proofs.Repeats.{repeated_keeps}
 use Rattle.session_state.proofs.Lemmas.{note_at_none, rings_kept, account_of, still_takes, broken_noting, notes_unhanded, received_is, taken_all, tables_here, told_unwatched, note_ends, note_handed}
 use Rattle.session_state.proofs.Terms.{Bool, Err, List, None, Option, Some, ap, arith, cond, drop, false, length, length-append, length-drop, map, refl, subst, sym, take, true, ℕ, ◌++◌, ◌+◌, ◌-◌, ◌∙◌, ◌≡◌, ◌≤◌, take-add, drop-drop, none-some, same_Some, is_some, option_map, slice_get, Item, grew_more, Grew, Seen, Choice, Log, Ledger, Image, State, after, Grant, Limits, Override, Path, Served, env_at, grant, guest_of, listed, longer, origin, planned_next, served_next, serves, SessionBreak, SessionEnd, Rules, Noted, Shown, noted, episode_of, can_forget, AreBehind, SessionState, FailsAtChoices, IsNoteFault, IsEnding, IsWaitingFor, Since, entries, WaitsBy}
 
--- a run used no more answers of malloc than it has instructions
+-- a run used no more answers of the allocator than it has instructions
 record IsFew (first second : Path) : Type 0 where
   few : length second.choices + first.steps ≤ length first.choices + second.steps
 
@@ -55,7 +55,7 @@ module _ {R : Type 0} where
         λ none. still_takes _ takes none,
       )
 
-  -- the answers of malloc up to a number are noted
+  -- the answers of the allocator up to a number are noted
   pub waits_noted : {rules : Rules} {image : Image} (began : Since) (before now : Noted) {seen : Seen} {old : SessionState R} {safe : ℕ} {left : List Choice}
       (w : IsWaitingFor rules image (record began { noted = before }) seen old) → AreBehind safe w.hearing.saved.paths → safe ≤ length w.hearing.story.survivor.now.choices → old.recorded ≤ safe
       → Grew before.choices now.choices (take (safe - old.recorded) old.choices) → now.episodes ≡ before.episodes → now.unnoted ≡ before.unnoted → left ≡ drop (safe - old.recorded) old.choices
@@ -148,7 +148,7 @@ module _ {R : Type 0} where
         due = w.due;
       }
 
-  -- the number of all answers of malloc at an end is one of 64 bits
+  -- the number of all answers of the allocator at an end is one of 64 bits
   pub ending_few : {rules : Rules} {image : Image} {began : Since} {seen : Seen} {session : SessionState R} {end : SessionEnd} → IsEnding rules image began seen session end → session.recorded + length session.choices ≤ session.steps
   ending_few {image = image} {session = session} e =
       let all = few_choices image e.told.serving.carries.served in

@@ -20,7 +20,7 @@ none_lost = let none : steps_of [] ≡ 0 = refl in omega (arith, none)
 pub received_is : {bounds : Bounds} {entries : List Entry} {log : Log} → KeepsItems bounds entries log → logs.received log ≡ received bounds entries
 received_is {bounds = bounds} {entries = entries} {log = log} keeps = (shown_items bounds.framing (events_in entries) log keeps.shows).0 ∙ ap (λ (events : List LinkEvent). length (items_of bounds.framing events)) (sym keeps.all_heeded)
 
--- what is recorded of a run's answers of malloc stays recorded where it uses more
+-- what is recorded of a run's answers of the allocator stays recorded where it uses more
 module _ {X : Type 0} where
   answers_low : (before : List X) {after : List X} (more : List X) {now was : ℕ} → now ≡ was → after ≡ before ++ more → was ≤ length before → now ≤ length after
   answers_low before more same goes low = let long = ap length goes ∙ length-append before more in omega (arith, same, long, low)
@@ -77,7 +77,7 @@ module _ {R : Type 0} where
     steps = steps ∙ answers.steps;
   }
 
-  -- it answers for a run that its guest is, and that used these answers of malloc more
+  -- it answers for a run that its guest is, and that used these answers of the allocator more
   pub answers_for : {began : Since} {story : Story} {old session : SessionState R} {to : Path} (more : List Choice) → AnswersFor began story old → session.recorded ≡ old.recorded → to.choices ≡ story.survivor.now.choices ++ more
       → session.choices ≡ old.choices ++ more → IsCounted session → session.cpu.slots.live ≡ standing_of to → AnswersFor began (on_story story to) session
   answers_for {began = began} {story = story} more answers recorded goes chosen counted stands = record {
@@ -103,7 +103,7 @@ module _ {R : Type 0} where
     phases_are = with.phases_are;
   }
 
-  -- where the survivor goes on, used these answers of malloc and sent nothing, the session goes on
+  -- where the survivor goes on, used these answers of the allocator and sent nothing, the session goes on
   pub going_on : {rules : Rules} {image : Image} {began : Since} {seen : Seen} {old new : SessionState R} (g : IsGoing rules image began seen old) {to : Path} (more : List Choice) → HasPassedDue rules g.story → HasSameParts old new
       → to.choices ≡ g.story.survivor.now.choices ++ more → new.choices ≡ old.choices ++ more → IsCounted new
       → GoesOn rules.limits (items_in rules.bounds (entries g.story)) g.story.survivor.plan g.story.survivor.now to → Writes rules.limits (items_in rules.bounds (entries g.story)) old.cpu.base g.story.survivor.now old.cpu.written to new.cpu.written
@@ -121,7 +121,7 @@ module _ {R : Type 0} where
         latest = subst (IsLatestBefore rules (moment g.story)) (sym goes.taken) g.latest;
       }
 
-  -- malloc was answered
+  -- an ask was answered
   pub chooses_between : {rules : Rules} {image : Image} {began : Since} {seen : Seen} {choice : Choice} {old new : SessionState R} (b : IsBetween rules image began seen old) → HasSameParts old new → new.choices ≡ old.choices ++ choice ∷ []
       → IsCounted new → RunsWriting rules.limits (items_in rules.bounds (entries b.going.story)) b.going.story.survivor.plan old.cpu.base b.going.story.survivor.now old.cpu.written (Ok (event.Chooses choice)) (live_of new.cpu) → IsBetween rules image began seen new
   unfolding going_on
@@ -226,7 +226,7 @@ module _ {R : Type 0} where
     episodes_noted = grew;
   }
 
-  -- so it is where noting answers of malloc failed
+  -- so it is where noting answers of the allocator failed
   abbrev pub notes_unhanded : {began : Since} {now : Noted} {story : Story} {session : SessionState R} {why : SessionBreak} {all : List Episode} → Grew began.noted_before.episodes began.noted.episodes all → AnswersFor began story session
       → IsNoteFault why → now.choices ≡ began.noted.choices → now.episodes ≡ began.noted.episodes → FailsAtChoices began.noted.unnoted now.unnoted session.choices
       → HasNoted began.noted_before now (stop.Breaks why) story.survivor.now.choices all session.recorded session.choices

@@ -14,7 +14,7 @@ module _ {X : Type 0} where
   taken_all count xs is low = omega (arith, ap length is, length-drop count xs, low)
 
 module _ {R : Type 0} where
-  -- at an end whose answers of malloc aren't all noted yet, where a fault takes its place
+  -- at an end whose answers of the allocator aren't all noted yet, where a fault takes its place
   abbrev pub notes_fault : {rules : Rules} {image : Image} {began : Since} {seen : Seen} {session : SessionState R} {end : SessionEnd} {fault : SessionBreak} {noted : Noted} (e : IsEnding rules image began seen session end)
       → noted.choices ≡ began.noted.choices → noted.episodes ≡ began.noted.episodes → IsHandedLast began.noted.unnoted noted.unnoted (stop.Breaks fault) session.choices []
       → HasNoted began.noted_before noted (stop.Breaks fault) e.story.survivor.now.choices (episodes_of e.story e.walk) session.recorded session.choices

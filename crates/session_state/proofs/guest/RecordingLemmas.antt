@@ -7,7 +7,7 @@ pub up_to_safe : {safe recorded later : ℕ} → recorded ≤ safe → later ≡
 up_to_safe low is = omega (arith, low, is)
 
 module _ {R : Type 0} where
-  -- the answers of malloc up to a number were noted, and the guest still waits
+  -- the answers of the allocator up to a number were noted, and the guest still waits
   pub waits_up_to : {rules : Rules} {image : Image} (began : Since) {seen : Seen} (shown now : Shown) {old : SessionState R} {safe recorded : ℕ} {left : List Choice}
       (w : IsWaitingFor rules image (record began { noted = shown.told }) seen old) → AreBehind safe w.hearing.saved.paths → safe ≤ length w.hearing.story.survivor.now.choices → old.recorded ≤ safe
       → NotesUpTo safe old.recorded old.choices shown now recorded left (Ok tt) → KeepsNotes shown now (Ok tt)

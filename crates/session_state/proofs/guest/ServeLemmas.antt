@@ -28,7 +28,7 @@ module _ {R : Type 0} where
       (answers_as (recorded ∙ ap (λ (s : SessionState R). s.recorded) h.same) (choices ∙ ap (λ (s : SessionState R). s.choices) h.same) (taken ∙ ap (λ (s : SessionState R). s.taken) h.same)
       (steps ∙ ap (λ (s : SessionState R). s.steps) h.same) going.answers) tt (λ some. absurd (some refl)) (rings_kept after (kept ∙ run_kept h) going.saved) (λ never. absurd (never tt)) (λ is. absurd is)
 
-  -- all but the replies, the answers of malloc and the counts is the same
+  -- all but the replies, the answers of the allocator and the counts is the same
   abbrev pub IsSameBut : SessionState R → SessionState R → Type 0
   IsSameBut session after = after ≡ record session { replies = after.replies; choices = after.choices; taken = after.taken; steps = after.steps }
 
@@ -51,7 +51,7 @@ module _ {R : Type 0} where
       → HasSameParts h.before after
   run_parts h same replies = record { side = run_side h same; replies = replies ∙ ap (λ (s : SessionState R). s.replies) h.same }
 
-  -- malloc was answered, and noted
+  -- an ask was answered, and noted
   pub run_chooses : {rules : Rules} {image : Image} {began : Since} {seen : Seen} {choice : Choice} {session after : SessionState R} (h : HasRun rules image began seen (step.Chooses choice) session)
       → IsSameBut session after → after.replies ≡ session.replies → after.choices ≡ session.choices ++ choice ∷ [] → IsCounted after → IsBetween rules image began seen after
   run_chooses {choice = choice} h same replies choices counted =

@@ -86,14 +86,14 @@ some_counts before lost began tried counted counts is same = omega (arith, count
 pub counts_seen : (lost began : ℕ) {steps live old seen : ℕ} (before after : ℕ) → lost + steps + before ≡ began + old + after → steps ≡ live → old ≡ seen → lost + live + before ≡ began + seen + after
 counts_seen lost began before after counts is same = omega (arith, counts, is, same)
 
--- checkpoints that stand still have used so many answers of malloc
+-- checkpoints that stand still have used so many answers of the allocator
 behind_drop : (count index : ℕ) (ring : List Path) → AreBehind count ring → AreBehind count (drop index ring)
 behind_drop count zero ring behind = behind
 behind_drop count (suc index) [] behind = behind
 behind_drop count (suc index) (newest ∷ older) behind = behind_drop count index older behind.1
 
 module _ {R : Type 0} where
-  -- the session answers for the run that it adopted, of which the first answers of malloc are those that are noted
+  -- the session answers for the run that it adopted, of which the first answers of the allocator are those that are noted
   answers_adopted : {began : Since} {noted : Noted} {story next : Story} {old new : SessionState R} → new.recorded ≡ old.recorded → new.recorded ≤ length next.survivor.now.choices → new.choices ≡ drop new.recorded next.survivor.now.choices
       → new.taken ≡ next.survivor.now.state.machine.taken → new.steps ≡ next.survivor.now.steps → take old.recorded next.survivor.now.choices ≡ take old.recorded story.survivor.now.choices → AnswersFor began story old
       → Grew began.noted.choices noted.choices [] → noted.unnoted ≡ began.noted.unnoted → (lost : ℕ) → AnswersFor (record began { lost = lost; noted = noted }) next new

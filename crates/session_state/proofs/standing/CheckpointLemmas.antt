@@ -17,7 +17,7 @@ past_on {limits = limits} {items = items} {plan = plan} {now = now} {to = to} {u
     ]
 
 module _ {R : Type 0} where
-  -- all but the live state of the guest, the replies, the counts and the answers of malloc that aren't noted is the same
+  -- all but the live state of the guest, the replies, the counts and the answers of the allocator that aren't noted is the same
   pub record HasSameSide (old new : SessionState R) : Type 0 where
     pub recorded : new.recorded ≡ old.recorded
     pub log : new.log ≡ old.log

@@ -46,3 +46,9 @@ returns-in-dirty-clause-known c = ((λ _. (13, lit< tt, sym c.in-dirty.is)), (λ
 
 pub returns-in-keys-clause-known : goal.returns-in-keys-clause-known
 returns-in-keys-clause-known c = ((λ _. (14, lit< tt, sym c.in-keys.is)), (λ _. refl))
+
+pub returns-in-grow-clause-known : goal.returns-in-grow-clause-known
+returns-in-grow-clause-known c = ((λ _. (15, lit< tt, sym c.in-grow.is)), (λ _. refl))
+
+pub returns-in-stale_grow-clause-known : goal.returns-in-stale_grow-clause-known
+returns-in-stale_grow-clause-known c = ((λ _. (16, lit< tt, sym c.in-stale_grow.is)), (λ _. refl))

@@ -68,11 +68,11 @@ returns-in-Err-send-clause-turned g c = λ limits rule early fetched.
     let lacks = c.in-Err-send.ensures.sent in
     (lacks.0, refl, subst (λ t. IsSend event.Emits t) (sym turns) (lacking_turn c.args.core.now c.in-Send.conn c.in-Send.at c.in-Send.len (flat c.args.space.now) lacks.1))
 
-pub returns-in-Malloc-clause-turned : goal.returns-in-Malloc-clause-turned
-returns-in-Malloc-clause-turned g c = λ limits rule early fetched.
-    let turns = turn_made limits c.args.env (standing c.args.core.now (flat c.args.space.now)) (g.R.AccessRule.rule c.args.rule.now) c.read_call.result c.in-Ok.call (kind.Malloc c.in-Malloc.size) c.check_call.result
-    rule early fetched c.read_call.ensures c.in-Ok.is c.in-Malloc.is c.check_call.ensures c.in_default.is in
-    subst (λ t. Turned t (Some c.malloc.result) (standing c.malloc.new.core (flat c.malloc.new.space)) c.args.space.now c.malloc.new.space) (sym turns) c.malloc.ensures.turned
+pub returns-in-Allocate-clause-turned : goal.returns-in-Allocate-clause-turned
+returns-in-Allocate-clause-turned g c = λ limits rule early fetched.
+    let turns = turn_made limits c.args.env (standing c.args.core.now (flat c.args.space.now)) (g.R.AccessRule.rule c.args.rule.now) c.read_call.result c.in-Ok.call (kind.Allocate c.in-Allocate.ask) c.check_call.result
+    rule early fetched c.read_call.ensures c.in-Ok.is c.in-Allocate.is c.check_call.ensures c.in_default.is in
+    subst (λ t. Turned t (Some c.allocate.result) (standing c.allocate.new.core (flat c.allocate.new.space)) c.args.space.now c.allocate.new.space) (sym turns) c.allocate.ensures.turned
 
 pub returns-in-Free-clause-turned : goal.returns-in-Free-clause-turned
 returns-in-Free-clause-turned g c = λ limits rule early fetched.

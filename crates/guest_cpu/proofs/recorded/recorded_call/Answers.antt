@@ -1,5 +1,5 @@
 use Rattle.call_gate.specs.declared.call.Call.TheVariants as kind
-use Rattle.guest_cpu.proofs.Terms.{None, Some, ap, refl, subst, sym, ◌∙◌, flat, standing, IsSend}
+use Rattle.guest_cpu.proofs.Terms.{None, Some, ap, refl, subst, sym, ◌∙◌, flat, standing, turn_to, IsSend}
 use Rattle.guest_cpu.specs.declared.event.Question.TheVariants as question
 use Rattle.guest_cpu.proofs.RecordTurns.{recorded_made, recorded_badly, recorded_refused, recorded_answered, recorded_emitted, recorded_lacking}
 use Rattle.guest_cpu.proofs.recorded.recorded_call.Goals as goal
@@ -29,12 +29,13 @@ returns-in-Recv-clause-turned g c = λ fetched.
       wrote = refl;
     }
 
-pub returns-in-Malloc-clause-turned : goal.returns-in-Malloc-clause-turned
-returns-in-Malloc-clause-turned g c = λ fetched.
+pub returns-in-Allocate-clause-turned : goal.returns-in-Allocate-clause-turned
+returns-in-Allocate-clause-turned g c = λ fetched.
     record {
       written = None;
-      turns = ap (λ t. Some t) (recorded_made (standing c.args.core.now (flat c.args.space.now)) c.read_call.result c.in-Ok.call (kind.Malloc c.in-Malloc.size) c.check_call.result
-          fetched c.read_call.ensures c.in-Ok.is c.in-Malloc.is c.check_call.ensures c.in_default.is);
+      turns = ap (λ t. Some t) (recorded_made (standing c.args.core.now (flat c.args.space.now)) c.read_call.result c.in-Ok.call (kind.Allocate c.in-Allocate.ask) c.check_call.result
+          fetched c.read_call.ensures c.in-Ok.is c.in-Allocate.is c.check_call.ensures c.in_default.is
+          ∙ ap (λ q. turn_to (Some q) (standing c.args.core.now (flat c.args.space.now)) None) (sym c.wanted.ensures));
       wrote = refl;
     }
 

@@ -1,5 +1,5 @@
-use Rattle.schedule_file.proofs.Lines.{is_line-head, is_line-choice, is_line-end}
+use Rattle.schedule_file.proofs.Cutting.{is_line-head, is_line-line, is_line-end}
 use Rattle.schedule_file.proofs.laws.lines_are_lines.Goals as goal
 
 pub returns : goal.returns
-returns c = (is_line-head, is_line-choice, is_line-end)
+returns c = (is_line-head, is_line-line, is_line-end)

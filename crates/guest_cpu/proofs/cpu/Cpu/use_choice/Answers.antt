@@ -1,4 +1,4 @@
-use Rattle.guest_cpu.proofs.Terms.{subst, ◌≡◌, flat, size_asked, standing, zeroed_range, chosen_standing, live_with_choice, CpuState, cpu_state, live_of}
+use Rattle.guest_cpu.proofs.Terms.{subst, ◌≡◌, flat, live_blocks, set_range, standing, chosen_standing, live_with_choice, CpuState, cpu_state, live_of}
 use Rattle.guest_cpu.proofs.CpuLemmas.{moved_cpu}
 use Rattle.guest_cpu.proofs.cpu.Cpu.use_choice.Goals as goal
 
@@ -6,7 +6,7 @@ pub invariant_of-self-2 : goal.invariant_of-self-2
 invariant_of-self-2 g c =
     let done = rw c.if-not-choose.false at c.choose.ensures.done in
     let wrote = rw c.if-not-choose.false at c.choose.ensures.wrote in
-    (moved_cpu c.self.inside.rule _ _ _ _ _ _ (chosen_standing c.args.choice (standing c.self.inside.core (flat c.self.inside.space))) (zeroed_range c.args.choice (size_asked c.self.inside.core))
+    (moved_cpu c.self.inside.rule _ _ _ _ _ _ (chosen_standing c.args.choice (standing c.self.inside.core (flat c.self.inside.space))) (set_range (live_blocks c.self.inside.core.book.blocks) c.args.choice)
     c.self.invariant c.sound.ensures done wrote c.choose.ensures.keeps).2
 
 pub returns-clause-live : goal.returns-clause-live
@@ -15,5 +15,5 @@ returns-clause-live g c =
     let wrote = rw c.if-not-choose.false at c.choose.ensures.wrote in
     subst (λ (state : CpuState _). live_of (cpu_state c.self.inside.rule c.choose.new.core c.choose.new.space c.self.inside.saved.items c.self.inside.line) ≡ live_with_choice state.base c.args.choice (live_of state))
     c.self.view_is
-    (moved_cpu c.self.inside.rule _ _ _ _ _ _ (chosen_standing c.args.choice (standing c.self.inside.core (flat c.self.inside.space))) (zeroed_range c.args.choice (size_asked c.self.inside.core))
+    (moved_cpu c.self.inside.rule _ _ _ _ _ _ (chosen_standing c.args.choice (standing c.self.inside.core (flat c.self.inside.space))) (set_range (live_blocks c.self.inside.core.book.blocks) c.args.choice)
     c.self.invariant c.sound.ensures done wrote c.choose.ensures.keeps).0

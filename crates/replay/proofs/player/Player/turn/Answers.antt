@@ -1,7 +1,7 @@
 use Rattle.guest_cpu.specs.declared.event.Question.TheVariants as question
 use Rattle.replay.proofs.Terms.{arith, subst, sym, ◌+◌, ◌<◌, ◌∙◌, ◌≡◌, Err, Answer, CpuState, live_of, IsLastSend, IsWholeEnd, stage_of}
 use Rattle.replay.proofs.RunLemmas.{same_sends, ComesTo, comes_by}
-use Rattle.replay.proofs.QuestionLemmas.{reached_end, exits_end, failed_end, memory_end, asks_waiting, wants_wanting, emits_sending, comes_to, wants_first, rises_behind, ok_always, whole_end, whole_goes}
+use Rattle.replay.proofs.QuestionLemmas.{reached_end, exits_end, failed_end, memory_end, asks_waiting, wants_wanting, emits_sending, comes_to, rises_behind, ok_always, whole_end, whole_goes}
 use Rattle.replay.proofs.player.Player.turn.Goals as goal
 use Rattle.std.proofs.lemmas.Result.{IfOk-weaker}
 
@@ -33,22 +33,22 @@ send-requires g c =
 pub choose-requires-clause-wants : goal.choose-requires-clause-wants
 choose-requires-clause-wants g c =
     let until = c.args.recorded.now.steps in
-    let comes : ComesTo until c.args.self.now.cpu.slots.live (question.Wants c.in-Ok-Wants.field-0-0) c.run_recorded.new.self.slots.live =
+    let comes : ComesTo until c.args.self.now.cpu.slots.live (question.Wants c.in-Ok-Wants.ask) c.run_recorded.new.self.slots.live =
     comes_to until c.requires.stands.is.lives c.in-Ok-Wants.field-0-is c.in-Ok-Wants.ensures.question in
-    wants_first comes
+    comes.3
 
 pub choose-requires-clause-bare : goal.choose-requires-clause-bare
 choose-requires-clause-bare g c =
     let k = c.requires.stands in
     let until = c.args.recorded.now.steps in
-    let comes : ComesTo until c.args.self.now.cpu.slots.live (question.Wants c.in-Ok-Wants.field-0-0) c.run_recorded.new.self.slots.live =
+    let comes : ComesTo until c.args.self.now.cpu.slots.live (question.Wants c.in-Ok-Wants.ask) c.run_recorded.new.self.slots.live =
     comes_to until k.is.lives c.in-Ok-Wants.field-0-is c.in-Ok-Wants.ensures.question in
     comes.0.bare k.is.playing.base.bare
 
 pub choose-requires-clause-room : goal.choose-requires-clause-room
 choose-requires-clause-room g c =
     let until = c.args.recorded.now.steps in
-    let comes : ComesTo until c.args.self.now.cpu.slots.live (question.Wants c.in-Ok-Wants.field-0-0) c.run_recorded.new.self.slots.live =
+    let comes : ComesTo until c.args.self.now.cpu.slots.live (question.Wants c.in-Ok-Wants.ask) c.run_recorded.new.self.slots.live =
     comes_to until c.requires.stands.is.lives c.in-Ok-Wants.field-0-is c.in-Ok-Wants.ensures.question in
     omega (arith, comes.1, c.requires.short)
 
@@ -103,7 +103,7 @@ returns-in-Ok-Emits-clause-steps g c =
 pub returns-in-Ok-Wants-clause-turns : goal.returns-in-Ok-Wants-clause-turns
 returns-in-Ok-Wants-clause-turns g c image began between =
     let until = c.args.recorded.now.steps in
-    let comes : ComesTo until c.args.self.now.cpu.slots.live (question.Wants c.in-Ok-Wants.field-0-0) c.run_recorded.new.self.slots.live =
+    let comes : ComesTo until c.args.self.now.cpu.slots.live (question.Wants c.in-Ok-Wants.ask) c.run_recorded.new.self.slots.live =
     comes_to until between.lives c.in-Ok-Wants.field-0-is c.in-Ok-Wants.ensures.question in
     whole_goes image c.args.recorded.now began (g.K.Link.seen c.args.link.now) (IsLastSend began (g.K.Link.seen c.args.link.now).told (g.G.Giver.Gave c.args.link.now c.args.link.now)) (stage_of c.choose.new.self) c.choose.result c.requires.stands.gives
     (c.choose.ensures.turns image began (g.K.Link.seen c.args.link.now) c.requires.stands.takes
@@ -112,7 +112,7 @@ returns-in-Ok-Wants-clause-turns g c image began between =
 pub returns-in-Ok-Wants-clause-steps : goal.returns-in-Ok-Wants-clause-steps
 returns-in-Ok-Wants-clause-steps g c =
     let until = c.args.recorded.now.steps in
-    let comes : ComesTo until c.args.self.now.cpu.slots.live (question.Wants c.in-Ok-Wants.field-0-0) c.run_recorded.new.self.slots.live =
+    let comes : ComesTo until c.args.self.now.cpu.slots.live (question.Wants c.in-Ok-Wants.ask) c.run_recorded.new.self.slots.live =
     comes_to until c.requires.stands.is.lives c.in-Ok-Wants.field-0-is c.in-Ok-Wants.ensures.question in
     record {
       later = IfOk-weaker c.choose.result (λ _. c.run_recorded.new.self.slots.live.steps < c.choose.new.self.cpu.slots.live.steps) (λ _. c.args.self.now.cpu.slots.live.steps < c.choose.new.self.cpu.slots.live.steps)

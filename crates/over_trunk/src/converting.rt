@@ -1,0 +1,79 @@
+// A record is converted: its run is executed over the same events, and its text says what was asked of the allocator.
+ghost use Rattle.std.specs.Prelude.{◌≡◌, ℕ, ◌+◌, ◌*◌, ◌≤◌, ◌++◌, OnOk};
+ghost use Rattle.schedule_file.specs.Answers.{Writes};
+ghost use Rattle.schedule_file.specs.Lines.{choice_lines};
+ghost use Rattle.schedule_file.specs.Records.{IsRecord};
+ghost use Rattle.over_trunk.specs.Converting.{converted, Concludes, ConvertsTrunk, HasConvertCause};
+
+use crate::discard::Discard;
+use crate::frame_giver::FrameGiver;
+use block_book::Choice;
+use elf_image::Image;
+use replay::{Filled, fill_by};
+use run_history::Answer;
+use rx_io::{Bytes, Source, Steps};
+use schedule_file::{Recorded, add_choice, end_line, head_line};
+use std::alloc::{AllocError, Global};
+use std::sync::ledger::Ledger;
+use trunk_wire::TrunkLink;
+
+// The lines of some answers of the allocator, behind bytes that stand there.
+fn add_choices(bytes: &mut Vec<u8>, list: &[Choice]) -> Result<(), AllocError>
+    ensures { OnOk result (bytes.new.items ≡ bytes.old.items ++ choice_lines list.now) }
+{
+    'choices: for choice in list {
+        add_choice(bytes, *choice)?;
+    }
+    Ok(())
+}
+
+// The text of a record in version 2, by the answers of the allocator that its run used.
+fn text_of(alloc: Global, recorded: &Recorded, choices: &[Choice]) -> Result<Bytes, AllocError>
+    requires { IsRecord recorded.now }
+    ensures { Writes (converted recorded.now choices.now) result }
+{
+    let head = head_line(alloc, recorded.window, recorded.frame)?;
+    let end = end_line(alloc, recorded.steps, recorded.taken)?;
+    let mut bytes = Vec::new(alloc);
+    bytes.extend_from_slice(head.as_slice())?;
+    add_choices(&mut bytes, choices)?;
+    bytes.extend_from_slice(end.as_slice())?;
+    Ok(Bytes::from_vec(bytes))
+}
+
+// What a conversion answers, by what its replay comes to.
+fn outcome(alloc: Global, recorded: &Recorded, filled: &Filled) -> Result<Bytes, Answer>
+    requires { IsRecord recorded.now }
+    ensures { Concludes recorded.now filled.now.answer filled.now.choices result }
+{
+    match filled.answer {
+        Answer::Finished => match text_of(alloc, recorded, filled.choices.as_slice()) {
+            Ok(text) => Ok(text),
+            Err(AllocError) => Err(Answer::Memory),
+        },
+        answer => Err(answer),
+    }
+}
+
+/// Runs as a replay does over the events of a source, gives nothing, and answers the text in version 2 of the run that the record tells
+/// of. A line of version 1 doesn't say what was asked of the allocator; the text does. No byte is taken of `input` that a replay doesn't
+/// take, and at `Ok` it has come to the record's end.
+pub fn convert_trunk<S: Source, L: Ledger>(
+    alloc: Global,
+    image: &Image,
+    recorded: &Recorded,
+    input: &mut S,
+    steps: &mut Steps<L>,
+) -> Result<Bytes, Answer>
+    requires window { image.now.window ≡ recorded.now.window * 1048576 }
+    requires lawful { IsRecord recorded.now }
+    ensures converted { (counted : ℕ) → steps.new ≡ steps.old + counted → ConvertsTrunk image.now recorded.now (S.told input.old) (S.told input.new) result counted }
+    ensures counted_more { steps.old ≤ steps.new }
+    ensures cause { HasConvertCause (S.faults input.old) (S.faults input.new) result }
+    ensures outside { S.fixed input.new ≡ S.fixed input.old }
+{
+    let mut output = Discard;
+    let mut link = TrunkLink::make(alloc, &mut *input, &mut output);
+    let filled = fill_by(alloc, image, recorded, &FrameGiver, &mut link, steps);
+    outcome(alloc, recorded, &filled)
+}

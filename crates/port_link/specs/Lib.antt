@@ -1,0 +1,9 @@
+pub mod Terms
+pub mod Stages
+pub mod Ports
+pub mod Standing
+pub mod Steps
+pub mod Gives
+pub mod PortLinks
+pub mod CallLaws
+pub mod PortLaws

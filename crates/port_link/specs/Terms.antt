@@ -1,0 +1,17 @@
+-- The words that this crate's definitions are written in: those of crates below, and types of its code.
+pub use Rattle.rx_io.specs.declared.fault.IoFault.{IoFault}
+pub use Rattle.rx_io.specs.declared.listener.Listener.{Ghosts}
+pub use Rattle.rx_io.specs.declared.listener_calls.ListenEntry.{ListenEntry}
+pub use Rattle.rx_io.specs.Faults.{HasCause, Rose}
+pub use Rattle.rx_io.specs.Listening.{Accepts, Logs}
+pub use Rattle.rx_io.specs.Planned.{one_more}
+pub use Rattle.rx_io.specs.Prefix.{Prefix}
+pub use Rattle.links.specs.declared.journal.Entry.{Entry}
+pub use Rattle.links.specs.declared.journal.Given.{Given}
+pub use Rattle.links.specs.declared.journal.Given.TheVariants.{All, Gone}
+pub use Rattle.links.specs.declared.journal.LinkEvent.{LinkEvent}
+pub use Rattle.links.specs.declared.journal.LinkFault.{LinkFault}
+pub use Rattle.links.specs.declared.journal.LinkFault.TheVariants.{Memory, ReadFault, Refused, WriteFault}
+pub use Rattle.links.specs.LinkForms.{handed_by, told_by}
+pub use Rattle.links.specs.Links.{ComesUntold, Counts, Enters, Gives, GivesAtClose, GoesBy, Handed, HasEnded, HasGiveCause, IsGone, Phase, Phases, Tells, TellsHanded, Told, cut_entries, last_taken}
+pub use Rattle.links.specs.Seen.{IsSound, Seen}

@@ -1,0 +1,140 @@
+// The listener over the system's TCP.
+ghost use Rattle.std.specs.Prelude.{◌≡◌, None, false, is_some};
+
+use rx_io::{IoFault, Listener, TRIES, read_some, write_some};
+use std::io::ErrorKind;
+use std::net::{Ipv4Addr, Net, OpenListener, OpenStream, TcpListener};
+use std::time::Duration;
+
+/// A port of 127.0.0.1, of which nothing is told. A call that was interrupted is tried again, a bounded number of times.
+#[derive(Drop)]
+pub struct TcpListenerEdge<'a, R: Net> {
+    net: &'a R,
+    patience: Option<Duration>,
+    listener: Option<R::Listener>,
+    stream: Option<R::Stream>,
+    faults: u64,
+    connection_faults: u64,
+}
+
+impl<'a, R: Net> TcpListenerEdge<'a, R> {
+    /// It listens at no port yet. A take or a give that waits longer than `patience` seconds fails; at 0 it waits without limit.
+    pub fn make(net: &'a R, patience: u64) -> TcpListenerEdge<'a, R>
+        ensures present { ⟦<TcpListenerEdge<'a, R> as Listener>⟧.present result ≡ false }
+        ensures faults { ⟦<TcpListenerEdge<'a, R> as Listener>⟧.faults result ≡ 0 }
+        ensures connection_faults { ⟦<TcpListenerEdge<'a, R> as Listener>⟧.connection_faults result ≡ 0 }
+    {
+        let patience = if patience == 0 {
+            None
+        } else {
+            Some(Duration::from_secs(patience))
+        };
+        TcpListenerEdge {
+            net,
+            patience,
+            listener: None,
+            stream: None,
+            faults: 0,
+            connection_faults: 0,
+        }
+    }
+}
+
+// The next connection, or none where there is none. One that its client gave up before it was accepted is passed over.
+fn accept_some<L: OpenListener>(listener: &L) -> Option<L::Stream> {
+    'tries: for _ in 0..TRIES {
+        match listener.accept() {
+            Ok((stream, _)) => return Some(stream),
+            Err(e) => match e.kind() {
+                ErrorKind::Interrupted | ErrorKind::ConnectionAborted => {}
+                _ => return None,
+            },
+        }
+    }
+    None
+}
+
+// Sets how long a stream waits for its client, and that small replies aren't held back. A stream that can't be set so waits as
+// the system has it.
+fn set_up<S: OpenStream>(stream: &S, patience: Option<Duration>) {
+    let _ = stream.set_nodelay(true);
+    let _ = stream.set_read_timeout(patience);
+    let _ = stream.set_write_timeout(patience);
+}
+
+impl<R: Net> Listener for TcpListenerEdge<'_, R> {
+    ghost told = { λ _. None };
+
+    ghost present = { λ s. is_some s.stream };
+
+    ghost faults = { λ s. s.faults };
+
+    ghost connection_faults = { λ s. s.connection_faults };
+
+    ghost Fixed = { Unit {0} };
+
+    ghost fixed = { λ _. tt };
+
+    fn bind(&mut self, port: u16) -> Result<(), IoFault> {
+        match TcpListener::bind(self.net, (Ipv4Addr::LOCALHOST, port)) {
+            Ok(listener) => {
+                self.listener = Some(listener);
+                Ok(())
+            }
+            Err(_) => {
+                self.faults = self.faults.saturating_add(1);
+                Err(IoFault::Failed)
+            }
+        }
+    }
+
+    fn accept(&mut self) -> Result<(), IoFault> {
+        let accepted = match &self.listener {
+            Some(listener) => accept_some(listener),
+            None => None,
+        };
+        match accepted {
+            Some(stream) => {
+                set_up(&stream, self.patience);
+                self.stream = Some(stream);
+                Ok(())
+            }
+            None => {
+                self.faults = self.faults.saturating_add(1);
+                Err(IoFault::Failed)
+            }
+        }
+    }
+
+    fn take(&mut self, buf: &mut [u8]) -> Result<usize, IoFault> {
+        let taken = match &mut self.stream {
+            Some(stream) => read_some(stream, buf),
+            None => None,
+        };
+        match taken {
+            Some(count) => Ok(count),
+            None => {
+                self.connection_faults = self.connection_faults.saturating_add(1);
+                Err(IoFault::Failed)
+            }
+        }
+    }
+
+    fn give(&mut self, bytes: &[u8]) -> Result<usize, IoFault> {
+        let given = match &mut self.stream {
+            Some(stream) => write_some(stream, bytes),
+            None => None,
+        };
+        match given {
+            Some(count) => Ok(count),
+            None => {
+                self.connection_faults = self.connection_faults.saturating_add(1);
+                Err(IoFault::Failed)
+            }
+        }
+    }
+
+    fn close(&mut self) {
+        self.stream = None;
+    }
+}
