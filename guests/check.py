@@ -139,11 +139,17 @@ OPEN, CLOSE = "open", "close"
 
 
 class Talk:
-    """What clients do and are replied: (connection, OPEN or CLOSE or a message, the reply to it or None)."""
+    """What clients do and are replied: (connection, OPEN or CLOSE or a message, the reply to it or None, or several replies)."""
 
     def __init__(self, *turns):
         self.frames = b"".join(self.frame_of(connection, does) for connection, does, _ in turns)
-        self.replies = b"".join(piece_frame(connection, reply) for connection, _, reply in turns if reply is not None)
+        self.replies = b"".join(piece_frame(connection, reply) for connection, _, replies in turns for reply in self.replies_of(replies))
+
+    @staticmethod
+    def replies_of(replies):
+        if replies is None:
+            return []
+        return replies if isinstance(replies, list) else [replies]
 
     @staticmethod
     def frame_of(connection, does):
@@ -155,6 +161,44 @@ class Talk:
 def alone(*turns):
     """A talk on connection 0 alone: messages and the replies to them."""
     return Talk((0, OPEN, None), *[(0, message, reply) for message, reply in turns])
+
+
+PLAIN, HTML, BYTES = b"text/plain; charset=utf-8", b"text/html; charset=utf-8", b"application/octet-stream"
+
+
+def http(status, content=None, kind=PLAIN, fields=b"", is_head=False):
+    """A reply of HTTP, and of a short one without content its status as a text."""
+    content = status + b"\n" if content is None else content
+    head = b"HTTP/1.1 %s\r\nContent-Type: %s\r\nContent-Length: %d\r\n%s\r\n" % (status, kind, len(content), fields)
+    return head if is_head else head + content
+
+
+def asks(what, fields=b"Host: localhost\r\n", content=b""):
+    """A request of HTTP/1.1."""
+    return b"%s HTTP/1.1\r\n%s\r\n%s" % (what, fields, content)
+
+
+def posts(form):
+    """The request that posts a form to `board`."""
+    fields = b"Host: localhost\r\nContent-Type: application/x-www-form-urlencoded\r\nContent-Length: %d\r\n" % len(form)
+    return asks(b"POST /post", fields, form)
+
+
+CLOSES_IT = b"Connection: close\r\n"
+POSTED = http(b"303 See Other", fields=b"Location: /\r\n")
+COUNT = asks(b"GET /count")
+
+
+def board(*notes):
+    """The page of `board` with these messages."""
+    content = b"".join([
+        b"<!DOCTYPE html>\n<html lang=\"en\">\n<head><meta charset=\"utf-8\"><title>Board</title></head>\n<body>\n<h1>Board</h1>\n",
+        b"<form method=\"post\" action=\"/post\">\n<input name=\"name\" placeholder=\"name\" maxlength=\"32\">\n",
+        b"<input name=\"text\" placeholder=\"text\" maxlength=\"160\" size=\"60\" required>\n<button>Post</button>\n</form>\n<ul>\n",
+        *[b"<li><b>%s</b>: %s</li>\n" % note for note in notes],
+        b"</ul>\n</body>\n</html>\n",
+    ])
+    return http(b"200 OK", content, HTML, b"Cache-Control: no-store\r\n")
 
 
 ENVIRONMENTS = ["pad", "zero", "isolate", "delay", "all"]  # in the order in which they are tried
@@ -238,6 +282,36 @@ GUESTS = [
         (0, CLOSE, None),
         (2, OPEN, None),
         (2, b"count\n", b"values 0, yours 0\n"))),
+    # Requests in pieces, on two connections in turns; several in one piece; what isn't read any more.
+    Guest("http", "whole", [LINES, REALLOC], Talk(
+        (0, OPEN, None),
+        (1, OPEN, None),
+        (0, asks(b"GET /hello?name=J%C3%BCrgen+M"), http(b"200 OK", "Hello, Jürgen M!\n".encode())),
+        (0, b"POST /echo HTTP/1.1\r\nHost: localhost\r\nContent-Le", None),
+        (1, b"GET /count HTTP/1.0\r\n\r\n", http(b"200 OK", b"request 1\n", fields=CLOSES_IT)),
+        (0, b"ngth: 5\r\n\r\nab", None),
+        (1, COUNT, None),
+        (1, CLOSE, None),
+        (0, b"c\0\xff" + COUNT * 2 + b"HE", [http(b"200 OK", b"abc\0\xff", BYTES), http(b"200 OK", b"request 2\n"), http(b"200 OK", b"request 3\n")]),
+        (0, b"AD /count HTTP/1.1\nhost:\n\n", http(b"200 OK", b"request 4\n", is_head=True)),
+        (0, asks(b"GET /nothing?"), http(b"404 Not Found")),
+        (0, asks(b"GET http://localhost/echo"), http(b"405 Method Not Allowed", fields=b"Allow: POST\r\n")),
+        (0, asks(b"DELETE /%63ount"), http(b"405 Method Not Allowed", fields=b"Allow: GET, HEAD\r\n")),
+        (0, asks(b"BREW /count"), http(b"501 Not Implemented")),
+        (0, asks(b"POST /echo", b"Host: x\r\nTransfer-Encoding: chunked\r\n", b"3;x=y\r\nabc\r\n0A\r\n0123456789\r\n0\r\n\r\n"),
+         http(b"200 OK", b"abc0123456789", BYTES)),
+        (0, asks(b"POST /echo", b"Host: x\r\nExpect: 100-continue\r\nContent-Length: 3\r\n"), b"HTTP/1.1 100 Continue\r\n\r\n"),
+        (0, b"abc", http(b"200 OK", b"abc", BYTES)),
+        (0, asks(b"GET /count", b""), http(b"400 Bad Request", fields=CLOSES_IT)),
+        (0, COUNT, None),
+        (0, CLOSE, None),
+        (2, OPEN, None),
+        (2, asks(b"POST /echo", b"Host: x\r\nContent-Length: 8193\r\n"), http(b"413 Content Too Large", fields=CLOSES_IT)),
+        (2, CLOSE, None),
+        (3, OPEN, None),
+        (3, b"GET / HTTP/1.1\r\nX: " + b"x" * 4076, None),
+        (3, b"x" * 4095, None),
+        (3, b"xxx", http(b"431 Request Header Fields Too Large", fields=CLOSES_IT)))),
     Guest("overrun", "line", [LINES, MALLOC, RECOVERY], alone(
         (b"name,material,price\n", b"<tr><td>name</td><td>material</td><td>price</td></tr>\n"),
         (b"saw 12\",steel,24.90\n", b"<tr><td>saw 12&quot;</td><td>steel</td><td>24.90</td></tr>\n"),
@@ -283,6 +357,20 @@ GUESTS = [
         (b"add 9\n", b"numbers 3\n"),
         (b"show\n", b"numbers 3, least 5, most 9, mean 7.33, above it 2\n")),
         0, [(6, "AssertFailed 1", tries("AssertFailed 1", 5) + survives("AssertFailed 1", 4, "zero"))]),
+    # It fails at the second message. Of 21 messages the first one is dropped.
+    Guest("board", "whole", [LINES, REALLOC, RECOVERY], alone(
+        (asks(b"GET /"), board()),
+        (posts(b"name=Ann&text=I+%3C3+it"), POSTED),
+        (posts(b"name=Cid+%26+Co&text=%3C3+%3C3+%3C3+%3C3+%3C3"), POSTED),
+        (asks(b"GET /"), board((b"Cid &amp; Co", b"&lt;3 &lt;3 &lt;3 &lt;3 &lt;3"), (b"Ann", b"I &lt;3 it"))),
+        (posts(b"name=&text=caf%C3%A9"), POSTED),
+        (posts(b"name=Ann&text="), http(b"400 Bad Request")),
+        (posts(b"text=" + b"%3c" * 161), http(b"400 Bad Request")),
+        (asks(b"POST /post", b"Host: x\r\nContent-Type: text/plain\r\nContent-Length: 6\r\n", b"text=x"), http(b"415 Unsupported Media Type")),
+        *[(posts(b"name=Bob&text=%d" % number), POSTED) for number in range(18)],
+        (asks(b"GET /"), board(*[(b"Bob", b"%d" % number) for number in reversed(range(18))],
+                               (b"somebody", "café".encode()), (b"Cid &amp; Co", b"&lt;3 &lt;3 &lt;3 &lt;3 &lt;3")))),
+        0, [(4, "AssertFailed 1", survives("", 3, "pad"))]),
     Guest("hopeless", "whole", [], alone(
         (b"90 min in h\n", b"1.50 h\n"),
         (b"1 w in d\n", b"7.00 d\n"),

@@ -141,6 +141,10 @@ HALL = out((0, b"hall: users 1\n"), (0, b"hall: users 1\n"), (0, b"hall: users 1
 FOUR = out((0, b"ann 30, bob 12, cid 7, dan 9; most ann\n"))
 NUMBERS = out((0, b"numbers 70\n"), (0, b"numbers 0\n"), (0, b"numbers 2\n"))
 
+# `%3C` takes three bytes in a form, and `&lt;` four: five of them and a space between leave no byte of a block.
+HEARTS = b"POST /post HTTP/1.1\r\nHost: x\r\nContent-Type: application/x-www-form-urlencoded\r\nContent-Length: 29\r\n\r\ntext=%3C3+%3C3+%3C3+%3C3+%3C3"
+POSTED = out((0, b"HTTP/1.1 303 See Other\r\nContent-Type: text/plain; charset=utf-8\r\nContent-Length: 14\r\nLocation: /\r\n\r\n303 See Other\n"))
+
 IN_C = [
     Run("C echo", "--frame whole", lines_in(b"hi\n", b"\0\xff"), out((0, b"hi\n"), (0, b"\0\xff"))),
     Run("C upper", "", lines_in(b"two words\n"), out((0, b"TWO WORDS\nmessage 1: 2 words of 4.00 letters; in all 2 words, "
@@ -148,6 +152,9 @@ IN_C = [
     Run("C store", "", opens(0, 1) + piece(0, b"set city Rome\n") + piece(1, b"get city\n") + piece(0, b"set city Oslo\n")
         + piece(1, b"get city\n") + frame(CLOSES, 0) + piece(1, b"get city\n"),
         out((0, b"ok\n"), (1, b"Rome\n"), (0, b"ok\n"), (1, b"Oslo\n"), (1, b"none\n"))),
+    Run("C http", "--frame whole", lines_in(b"GET /hello?name=%41nn+B HTTP/1.1\r\nHo", b"st: x\r\n\r\nHEAD / HTTP/1.0\r\n\r\n"),
+        out((0, b"HTTP/1.1 200 OK\r\nContent-Type: text/plain; charset=utf-8\r\nContent-Length: 14\r\n\r\nHello, Ann B!\n"),
+            (0, b"HTTP/1.1 200 OK\r\nContent-Type: text/html; charset=utf-8\r\nContent-Length: 316\r\nConnection: close\r\n\r\n"))),
     Run("C overrun", "", lines_in(b"saw 12\",steel,24.90\n", b"hand saw 12\",steel,19.90\n"),
         SAW, gave_up(3, "AssertFailed 1"), (SAW + HAND_SAW, FINISHED)),
     Run("C dangling", "", lines_in(b"enter hall\n", b"enter hall\n", b"look\n", b"leave\n"), HALL, gave_up(5, "BadFree"),
@@ -156,6 +163,7 @@ IN_C = [
         gave_up(3, "AssertFailed 1"), (FOUR + out((0, b"ann 30, bob 32, cid 7, dan 9, eve 5; most bob\n")), FINISHED)),
     Run("C unset", "", lines_in(SEVENTY, b"clear\n", b"add 5 8\n", b"show\n"), NUMBERS, gave_up(5, "AssertFailed 1"),
         (NUMBERS + out((0, b"numbers 2, least 5, most 8, mean 6.50, above it 1\n")), FINISHED)),
+    Run("C board", "--frame whole", lines_in(HEARTS), b"", gave_up(2, "AssertFailed 1"), (POSTED, FINISHED)),
     Run("C hopeless", "", lines_in(b"90 min in h\n", b"90 min in fortnights\n"), out((0, b"1.50 h\n")), gave_up(3, "BadAccess")),
 ]
 

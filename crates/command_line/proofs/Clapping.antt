@@ -1,12 +1,11 @@
 -- clap takes the words that our own check takes, and reads their values.
 use Rattle.std.proofs.Math.Nat.{le_refl}
-use Rattle.std.proofs.lemmas.Option.{slice_get-get_or, unwrap_or-slice_get}
 use Rattle.clap.specs.Walk.{Row, Text}
 use Rattle.clap.proofs.WalkLemmas.{first_value-rows}
 use Rattle.clap.specs.Simple.{App, is_simple, matches_of}
 use Rattle.clap.specs.Takes.{takes}
 use Rattle.clap.proofs.TakesLemmas.{leaf_takes}
-use Rattle.command_line.proofs.Terms.{List, None, Some, [], ap, ap₂, eqb-true, false, fold, is_some, length, map, refl, subst, sym, true, unwrap_or, ℕ, ◌<◌, ◌||◌, ◌∙◌, ◌∷◌, ◌≡◌, and_from, and_parts, list_all, slice_get, ArgMatches, first_value, found_of, argument_words, built, label_of, names_of, built_takes, default_passes, is_valid, level_passes, finished, first_of, nothing_held, rows_after, rows_of, walk, with_default, are_positionals, parts, CommandForm, are_options, given, has_option, has_required, value_of, fits, positional, EachRow}
+use Rattle.command_line.proofs.Terms.{List, None, Some, [], ap, ap₂, eqb-true, false, fold, is_some, length, map, refl, subst, sym, true, unwrap_or, ℕ, ◌<◌, ◌||◌, ◌∙◌, ◌∷◌, ◌≡◌, and_from, and_parts, slice_get-get_or, unwrap_or-slice_get, list_all, slice_get, ArgMatches, first_value, found_of, argument_words, built, label_of, names_of, built_takes, default_passes, is_valid, level_passes, finished, first_of, nothing_held, rows_after, rows_of, walk, with_default, are_positionals, parts, CommandForm, are_options, given, has_option, has_required, value_of, fits, positional, EachRow}
 use Rattle.command_line.specs.Table.{Row as TableRow}
 use Rattle.command_line.proofs.Cutting.{Cut, IsTaken, cut, no_such_option}
 use Rattle.command_line.proofs.Finding.{NameAt, Shows, name_at_the_end, name_shown, option_at_the_end, option_shown}

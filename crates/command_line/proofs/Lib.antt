@@ -11,4 +11,4 @@ mod Rows
 mod Finding
 mod Clapping
 mod Readable
-mod Ranges
+pub mod Ranges

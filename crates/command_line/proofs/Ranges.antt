@@ -1,7 +1,7 @@
 -- The numbers of words that are taken are in the ranges of their rows. No row of the table is named here.
-use Rattle.command_line.proofs.Terms.{Bool, List, None, Option, Some, [], ap, cond, false, leb-true, length, map, nat_le, not, refl, subst, sym, true, true≢false, unwrap_or, ℕ, ◌&&◌, ◌||◌, ◌∙◌, ◌∷◌, ◌≡◌, ◌≤◌, and_parts, not-true, filter, find, list_all, option_map, option_map_or, bytes_eq, Name, Number, OneOf, Text, is_name, number_of, Parts, are_positionals, Row, Takes, Options, are_options, default_of, has_option, is_between, is_for, is_taken, number_at, takes_of, value_of, fits, is_run, run_form, run_value, EachRow}
-use Rattle.command_line.specs.Ranges.{AreInRange, EachInRange, IsInRange, NumbersOf, RangesOf, takes_numbers}
-use Rattle.command_line.proofs.Asking.{asked_run}
+use Rattle.command_line.proofs.Terms.{Bool, List, None, Option, Some, [], ap, arith, cond, false, leb-true, length, map, nat_le, not, refl, subst, sym, true, true≢false, unwrap_or, ℕ, ◌&&◌, ◌||◌, ◌∙◌, ◌∷◌, ◌≡◌, ◌≤◌, and_parts, not-true, filter, find, list_all, option_map, option_map_or, bytes_eq, Name, Number, OneOf, Text, is_name, number_of, Parts, are_positionals, Row, Takes, conns_row, port_row, Options, are_options, default_of, has_option, is_between, is_for, is_taken, number_at, takes_of, value_of, CommandValue, ServeValue, fits, is_run, is_serve, positional, run, run_form, run_value, serve, serve_form, serve_value, EachRow}
+use Rattle.command_line.specs.Ranges.{AreInRange, EachInRange, HasRanges, IsInRange, NumbersOf, RangesOf, takes_numbers}
+use Rattle.command_line.proofs.Asking.{IsAsked, asked}
 use Rattle.command_line.proofs.Pieces.{is_row}
 use Rattle.command_line.proofs.Rows.{apart, each_both}
 use Rattle.command_line.proofs.Cutting.{each_of_none, equal_text, row_found, swapped_text}
@@ -91,11 +91,39 @@ in_ranges p e =
     let taken = (and_parts (are_options run_form.options p.options) _ names.1).0 in
     each_in_range run_form.options p.options taken run_form.options (each_alone run_form.options refl) refl
 
+serve_in_ranges : (p : Parts) → is_serve p ≡ true → HasRanges (serve (serve_value p))
+unfolding is_serve serve_value serve_form port_row conns_row
+serve_in_ranges p e =
+    let parts = and_parts (fits serve_form p) _ e in
+    let names = and_parts (are_positionals (length serve_form.positionals) p.positionals) _ parts.0 in
+    let taken = (and_parts (are_options serve_form.options p.options) _ names.1).0 in
+    let port = and_parts (takes_of port_row.takes (positional 1 p)) _ parts.1 in
+    let conns = and_parts (takes_of conns_row.takes (positional 2 p)) _ port.1 in (
+      (
+        number_ranges port_row.takes (positional 1 p) refl port.0,
+        (
+          number_ranges conns_row.takes (positional 2 p) refl conns.0,
+          each_in_range serve_form.options p.options taken serve_form.options (each_alone serve_form.options refl) refl,
+        ),
+      ),
+      refl,
+    )
+
+of_asked : (command : CommandValue) → IsAsked command → HasRanges command
+of_asked (run value) found = subst (λ v. AreInRange v) found.value_is (in_ranges found.parts_are found.is)
+of_asked (serve value) found = subst (λ (v : ServeValue). HasRanges (serve v)) found.value_is (serve_in_ranges found.parts_are found.is)
+of_asked _ found = tt
+
 pub ranges_of : RangesOf
-ranges_of words value asked =
-    let found = asked_run words value asked in
-    subst (λ v. AreInRange v) found.value_is (in_ranges found.parts_are found.is)
+ranges_of words command is = of_asked command (asked words command is)
+
+-- the session of `serve` is in the ranges of `run`
+pub session_in_range : (value : ServeValue) → HasRanges (serve value) → AreInRange value.session
+session_in_range value ((port, (conns, (window, (ring, (every, (frames, (budget, others))))))), none) =
+    let least : 0 ≤ value.session.hold = omega arith in
+    let most : value.session.hold ≤ 1000 = omega arith in
+    (window, ((least, most), (ring, (every, (frames, (budget, tt))))))
 
 pub numbers_of : NumbersOf
-unfolding run_form
-numbers_of value = refl
+unfolding run_form serve_form
+numbers_of = (λ value. refl, λ value. refl)

@@ -3,6 +3,7 @@ pub use Rattle.std.proofs.Common.{Bool, Bor, Err, List, None, Option, Some, [], 
 pub use Rattle.std.proofs.lemmas.Bool.{and_from, and_parts, and_right, not-true, or_from, or_parts}
 pub use Rattle.std.proofs.lemmas.Bool.Decides.{Decides-like, nat_tests, same_from_decides}
 pub use Rattle.std.proofs.lemmas.List.{at_drop_more, take_rest}
+pub use Rattle.std.proofs.lemmas.Option.{same_Some, slice_get-get_or, unwrap_or-slice_get}
 pub use Rattle.std.proofs.lemmas.Result.{IfErr-weaker, IfOk-weaker}
 pub use Rattle.std.proofs.lemmas.Slice.Eq.{bytes_eq-Decides}
 pub use Rattle.std.specs.Prelude.{String, slice_get, string_bytes}
@@ -14,8 +15,8 @@ pub use Rattle.command_line.specs.Texts.{Text, is_dashed, is_name, is_numeral, n
 pub use Rattle.command_line.specs.Parts.{Parts, StartsWith, are_positionals, nothing, parts, parts_of, texts_of, with_option, with_positional}
 unfoldable pub use Rattle.command_line.specs.Parts.{parts_behind}
 pub use Rattle.command_line.specs.Table.{CommandForm, Row, Takes, row_read, rows_read}
-unfoldable pub use Rattle.command_line.specs.Table.{form_row, frame_row, record_row, report_row}
+unfoldable pub use Rattle.command_line.specs.Table.{conns_row, form_row, frame_row, port_row, record_row, report_row}
 pub use Rattle.command_line.specs.Options.{Options, are_options, default_of, given, has_option, has_required, is_between, is_for, is_taken, number_at, takes_of, value_of}
-pub use Rattle.command_line.specs.Commands.{RunValue, asm, asm_of, command_of, convert, convert_of, fits, form_of, frame_of, positional, replay, replay_of, run, run_of, run_shown}
-unfoldable pub use Rattle.command_line.specs.Commands.{asm_form, asm_value, convert_form, convert_value, is_asm, is_convert, is_replay, is_run, replay_form, replay_value, run_form, run_value}
+pub use Rattle.command_line.specs.Commands.{CommandValue, RunValue, ServeValue, asm, asm_of, command_of, convert, convert_of, fits, form_of, frame_of, positional, replay, replay_of, run, run_of, run_shown, serve, serve_of, serve_shown, session_value}
+unfoldable pub use Rattle.command_line.specs.Commands.{asm_form, asm_value, convert_form, convert_value, is_asm, is_convert, is_replay, is_run, is_serve, replay_form, replay_value, run_form, run_value, serve_form, serve_value}
 pub use Rattle.command_line.specs.Reading.{EachName, EachRow, HasRead, app_of_form, defaults_of, option_rule}

@@ -2,8 +2,8 @@
 use Rattle.std.specs.Prelude.{◌≡◌, ℕ, ◌≤◌, Bool, true, false, List, [], ◌∷◌, Some, filter, map}
 use Rattle.command_line.specs.declared.options.TakesOf.TheVariants.{Name, OneOf, Number}
 use Rattle.command_line.specs.Texts.{Text}
-use Rattle.command_line.specs.Table.{Row, Takes}
-use Rattle.command_line.specs.Commands.{CommandValue, RunValue, command_of, numbers, run, run_form}
+use Rattle.command_line.specs.Table.{Row, Takes, conns_row, port_row}
+use Rattle.command_line.specs.Commands.{CommandValue, RunValue, ServeValue, command_of, numbers, run, run_form, serve, serve_form, serve_numbers}
 
 -- a row takes numbers
 abbrev pub takes_numbers : Takes → Bool
@@ -26,15 +26,24 @@ EachInRange (number ∷ rest) = IsInRange number.0.takes number.1 × EachInRange
 abbrev pub AreInRange : RunValue → Type 0
 AreInRange value = EachInRange (numbers value)
 
--- the same of a command; the others have no numbers
+-- the numbers of a command are in the ranges of their rows, and the session of `serve` holds nothing; the others have no numbers
 abbrev pub HasRanges : CommandValue → Type 0
 HasRanges (run value) = AreInRange value
+HasRanges (serve value) = EachInRange (serve_numbers value) × (value.session.hold ≡ 0)
 HasRanges _ = Unit {0}
 
--- the numbers of words that are a `run` are in the ranges of their rows
+-- so has each command that words ask for
 abbrev pub RangesOf : Type 0
-RangesOf = (words : List Text) (value : RunValue) → command_of words ≡ Some (run value) → AreInRange value
+RangesOf = (words : List Text) (command : CommandValue) → command_of words ≡ Some command → HasRanges command
+
+abbrev pub rows_among : List (Row × ℕ) → List Row
+rows_among numbered = map (λ (number : Row × ℕ). number.0) numbered
+
+abbrev pub numeric : List Row → List Row
+numeric rows = filter (λ (row : Row). takes_numbers row.takes) rows
 
 -- and each row of the table that takes numbers is among those
 abbrev pub NumbersOf : Type 0
-NumbersOf = (value : RunValue) → map (λ (number : Row × ℕ). number.0) (numbers value) ≡ filter (λ (row : Row). takes_numbers row.takes) run_form.options
+NumbersOf =
+    ((value : RunValue) → rows_among (numbers value) ≡ numeric run_form.options)
+    × ((value : ServeValue) → rows_among (serve_numbers value) ≡ port_row ∷ conns_row ∷ numeric serve_form.options)

@@ -4,7 +4,8 @@ use Rattle.clap.specs.Words.{first_value, found_of}
 use Rattle.clap.specs.Simple.{App, new_rule, with_rule}
 use Rattle.command_line.specs.Terms.{option_map_or, ArgMatches, new_app, Rule}
 use Rattle.command_line.specs.Texts.{Text}
-use Rattle.command_line.specs.Table.{CommandForm, Row}
+use Rattle.command_line.specs.Table.{CommandForm, Row, static_row, record_row, report_row, form_row, frame_row}
+use Rattle.command_line.specs.declared.run_words.TheConstants as table
 use Rattle.command_line.specs.Parts.{Parts}
 use Rattle.command_line.specs.Options.{value_of}
 use Rattle.command_line.specs.Commands.{positional}
@@ -38,3 +39,22 @@ EachName P place (name ∷ rest) = P place name × EachName P (place + 1) rest
 pub record HasRead (command : CommandForm) (parts : Parts) (m : ArgMatches) : Type 0 where
   pub names : EachName (λ place name. first_value (found_of m) name ≡ Some (positional place parts)) 0 command.positionals
   pub options : EachRow (λ row. first_value (found_of m) row.name ≡ Some (value_of row parts.options)) command.options
+
+-- the options that the command of each session has
+abbrev pub session_rows : List Row
+session_rows =
+    record_row
+    ∷ report_row
+    ∷ form_row
+    ∷ frame_row
+    ∷ static_row table.WINDOW
+    ∷ static_row table.RING
+    ∷ static_row table.EVERY
+    ∷ static_row table.FRAMES
+    ∷ static_row table.BUDGET
+    ∷ []
+
+-- clap has read the program's name and these options
+pub record HasReadSession (parts : Parts) (m : ArgMatches) : Type 0 where
+  pub program : first_value (found_of m) table.PROGRAM.now ≡ Some (positional 0 parts)
+  pub options : EachRow (λ row. first_value (found_of m) row.name ≡ Some (value_of row parts.options)) session_rows

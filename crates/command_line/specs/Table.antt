@@ -7,6 +7,7 @@ use Rattle.command_line.specs.declared.options.RowOf.{RowOf}
 use Rattle.command_line.specs.declared.options.TakesOf.{TakesOf}
 use Rattle.command_line.specs.declared.options.TakesOf.TheVariants.{Name, OneOf, Number}
 use Rattle.command_line.specs.declared.run_words.TheConstants as table
+use Rattle.command_line.specs.declared.serve_words.TheConstants as serve_table
 
 -- what an option takes, a row of the table, and a command with its rows
 abbrev pub Takes : Type 0
@@ -77,3 +78,9 @@ form_row = static_row table.FORM
 
 unfoldable pub frame_row : Row
 frame_row = static_row table.FRAME
+
+unfoldable pub port_row : Row
+port_row = static_row serve_table.PORT
+
+unfoldable pub conns_row : Row
+conns_row = static_row serve_table.CONNS

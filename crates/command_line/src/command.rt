@@ -1,7 +1,7 @@
 // The commands, and the one that the words ask for.
 ghost use Rattle.std.specs.Prelude.{◌≡◌, Ok, None, IfOk, IfSome, MatchOption, is_some, option_map};
 ghost use Rattle.command_line.specs.Parts.{texts_of};
-ghost use Rattle.command_line.specs.Commands.{Asks, asm_form, command_of, convert_form, replay_form, run_form, shown};
+ghost use Rattle.command_line.specs.Commands.{Asks, asm_form, command_of, convert_form, replay_form, run_form, serve_form, shown};
 ghost use Rattle.command_line.specs.Ranges.{HasRanges};
 
 use crate::asm_words::{ASM, ASM_NAME, AsmCommand, are_asm_words, asm_command};
@@ -11,12 +11,13 @@ use crate::convert_words::{
 use crate::options::CommandRow;
 use crate::replay_words::{REPLAY, REPLAY_NAME, ReplayCommand, are_replay_words, replay_command};
 use crate::run_words::{RUN, RUN_NAME, RunCommand, are_run_words, run_command};
+use crate::serve_words::{SERVE, SERVE_NAME, ServeCommand, are_serve_words, serve_command};
 use std::alloc::{AllocError, Global};
 
 /// The commands.
-pub const COMMANDS: [CommandRow; 4] = [RUN, ASM, REPLAY, CONVERT];
+pub const COMMANDS: [CommandRow; 5] = [RUN, ASM, REPLAY, CONVERT, SERVE];
 
-static ALL: [CommandRow; 4] = COMMANDS;
+static ALL: [CommandRow; 5] = COMMANDS;
 
 // The commands, as the sentences about them want them.
 pub(crate) fn commands() -> &'static [CommandRow] {
@@ -30,6 +31,7 @@ pub enum Command<'a> {
     Asm(AsmCommand<'a>),
     Replay(ReplayCommand<'a>),
     Convert(ConvertCommand<'a>),
+    Serve(ServeCommand<'a>),
 }
 
 /// Which command the words ask for, with the words behind its name.
@@ -39,6 +41,7 @@ pub enum Asked<'a> {
     Asm(&'a [String]),
     Replay(&'a [String]),
     Convert(&'a [String]),
+    Serve(&'a [String]),
 }
 
 /// The command that the words ask for, if they are those of one.
@@ -72,6 +75,12 @@ pub(crate) fn find_command<'a>(words: &'a [String]) -> Option<Asked<'a>>
         }
         return Some(Asked::Convert(rest));
     }
+    if command.as_str() == SERVE_NAME {
+        if !are_serve_words(rest) {
+            return None;
+        }
+        return Some(Asked::Serve(rest));
+    }
     None
 }
 
@@ -85,6 +94,7 @@ pub fn is_command(words: &[String]) -> bool
         Some(Asked::Asm(_)) => true,
         Some(Asked::Replay(_)) => true,
         Some(Asked::Convert(_)) => true,
+        Some(Asked::Serve(_)) => true,
     }
 }
 
@@ -114,6 +124,10 @@ pub fn read_command<'a>(
         },
         Some(Asked::Convert(rest)) => match convert_command(alloc, rest) {
             Ok(convert) => Ok(Some(Command::Convert(convert))),
+            Err(error) => Err(error),
+        },
+        Some(Asked::Serve(rest)) => match serve_command(alloc, rest) {
+            Ok(serve) => Ok(Some(Command::Serve(serve))),
             Err(error) => Err(error),
         },
     }

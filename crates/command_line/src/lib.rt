@@ -15,6 +15,7 @@ mod options;
 mod parts;
 mod replay_words;
 mod run_words;
+mod serve_words;
 mod texts;
 mod wording;
 
@@ -25,5 +26,6 @@ pub use laws::{numbers_of, ranges_of};
 pub use options::{CommandOf, CommandRow, OptionRow, RowOf, Takes, TakesOf, takes_value};
 pub use replay_words::{REPLAY, REPLAY_OPTIONS, ReplayCommand};
 pub use run_words::{Form, RUN, RUN_OPTIONS, RunCommand};
+pub use serve_words::{SERVE, SERVE_NUMBERS, SERVE_OPTIONS, ServeCommand};
 pub use texts::{is_name, number};
 pub use wording::{complaint, range_of, usage};

@@ -1,5 +1,5 @@
-// The command `run`: its options, and what its words come to. One more option is a row, its place among the others, a field of
-// `RunCommand` and a line of `run_from`.
+// The command `run`: its options, and what its words come to; and what `serve` shares with it. One more option of both is a row, its place
+// among the others of each, a field of `RunCommand` and a line of `session_from`.
 ghost use Rattle.std.specs.Prelude.{◌≡◌, true, IfOk, IfErr, unwrap_or};
 ghost use Rattle.clap.specs.Words.{kind_of};
 ghost use Rattle.clap.specs.declared.error.kind.ErrorKind.TheVariants.{OutOfMemory};
@@ -7,8 +7,8 @@ ghost use Rattle.command_line.specs.Texts.{number_of};
 ghost use Rattle.command_line.specs.Options.{value_of};
 ghost use Rattle.command_line.specs.Parts.{Parts, parts_of};
 ghost use Rattle.command_line.specs.Table.{record_row, report_row};
-ghost use Rattle.command_line.specs.Commands.{differ, fits, form_of, frame_of, is_run, run_form, run_shown, run_value};
-ghost use Rattle.command_line.specs.Reading.{HasRead};
+ghost use Rattle.command_line.specs.Commands.{differ, fits, form_of, frame_of, have_names, is_run, run_form, run_shown, run_value, session_value};
+ghost use Rattle.command_line.specs.Reading.{HasRead, HasReadSession};
 
 use crate::accepted::{have_form, name_at, value};
 use crate::matching::{out_of_memory, parser, value_in};
@@ -115,7 +115,8 @@ pub enum Form {
     Json,
 }
 
-/// A session of a program: the names of the program, of the record and of the report, no two of them alike, and the settings.
+/// A session of a program: the names of the program, of the record and of the report, no two of them alike, and the settings. That of
+/// `serve` holds nothing.
 #[derive(Clone, Copy, Debug)]
 pub struct RunCommand<'a> {
     pub program: &'a str,
@@ -153,7 +154,7 @@ fn frame_of(text: &str) -> Framing
 }
 
 // The number that a text writes, or 0.
-fn number_or_zero(text: &str) -> u32
+pub(crate) fn number_or_zero(text: &str) -> u32
     ensures { result ≡ unwrap_or (number_of text.now) 0 }
 {
     match number(text) {
@@ -199,6 +200,13 @@ fn differ(first: &str, second: &str, third: &str) -> bool
     second != third
 }
 
+// Whether the program, the record and the report have three names.
+pub(crate) fn have_names(words: &[String]) -> bool
+    ensures { result ≡ have_names (parts_of words.now) }
+{
+    differ(name_at(words, 0), recording(words), report(words))
+}
+
 // Whether these are the words behind `run`.
 #[tactic(auto, unfolding(crate::specs::Commands::is_run))]
 pub(crate) fn are_run_words(words: &[String]) -> bool
@@ -207,7 +215,7 @@ pub(crate) fn are_run_words(words: &[String]) -> bool
     if !fit_run(words) {
         return false;
     }
-    differ(name_at(words, 0), recording(words), report(words))
+    have_names(words)
 }
 
 // The words behind `run`, read by clap. What our own check takes has no fault there: only memory may be wanted.
@@ -220,9 +228,9 @@ fn read_run<'a>(alloc: Global, words: &'a [String]) -> Result<ArgMatches<'a>, Er
     command.try_get_matches_from(words)
 }
 
-// The names and numbers of `run`, once clap has read the words.
-fn run_from<'a>(matches: &ArgMatches<'a>) -> RunCommand<'a>
-    ensures { (p : Parts) → HasRead run_form p matches.now → run_shown result ≡ run_value p }
+// The names and numbers of a session, once clap has read the words, with the hold that its command gives it.
+pub(crate) fn session_from<'a>(matches: &ArgMatches<'a>, hold: u32) -> RunCommand<'a>
+    ensures { (p : Parts) → HasReadSession p matches.now → run_shown result ≡ session_value hold p }
 {
     RunCommand {
         program: value_in(matches, PROGRAM),
@@ -231,12 +239,19 @@ fn run_from<'a>(matches: &ArgMatches<'a>) -> RunCommand<'a>
         form: form_of(value_in(matches, FORM.name)),
         frame: frame_of(value_in(matches, FRAME.name)),
         window: number_or_zero(value_in(matches, WINDOW.name)),
-        hold: number_or_zero(value_in(matches, HOLD.name)),
+        hold,
         ring: number_or_zero(value_in(matches, RING.name)),
         every: number_or_zero(value_in(matches, EVERY.name)),
         frames: number_or_zero(value_in(matches, FRAMES.name)),
         budget: number_or_zero(value_in(matches, BUDGET.name)),
     }
+}
+
+// The names and numbers of `run`, once clap has read the words.
+fn run_from<'a>(matches: &ArgMatches<'a>) -> RunCommand<'a>
+    ensures { (p : Parts) → HasRead run_form p matches.now → run_shown result ≡ run_value p }
+{
+    session_from(matches, number_or_zero(value_in(matches, HOLD.name)))
 }
 
 // The command that the words behind `run` are.

@@ -7,6 +7,7 @@ use crate::options::{CommandRow, OptionRow, Takes, TakesOf, is_named, takes_valu
 use crate::parts::{Part, given, is_there, next_part, positional};
 use crate::replay_words::RECORDED;
 use crate::run_words::{PROGRAM, RUN_NAME, recording, report};
+use crate::serve_words::{SERVE_NAME, SERVE_NUMBERS};
 use crate::texts::is_name;
 use std::alloc::{AllocError, Global};
 
@@ -25,6 +26,16 @@ fn row_named(rows: &[OptionRow], word: &str) -> Option<OptionRow> {
     for row in rows {
         if is_named(word, row) {
             return Some(*row);
+        }
+    }
+    None
+}
+
+// The row of a positional that is a number.
+fn number_named(name: &str) -> Option<OptionRow> {
+    for row in SERVE_NUMBERS {
+        if row.name == name {
+            return Some(row);
         }
     }
     None
@@ -107,13 +118,24 @@ fn wrong_name(
             command.name
         ));
     }
-    if is_name(word) {
+    wrong_word(alloc, command.positionals[seen], place, word)
+}
+
+// What is wrong with a positional of this name.
+fn wrong_word(
+    alloc: Global,
+    name: &str,
+    place: usize,
+    word: &str,
+) -> Result<Option<String>, AllocError> {
+    let takes = match number_named(name) {
+        Some(row) => row.takes,
+        None => TakesOf::Name,
+    };
+    if is_name(word) && takes_value(&takes, word) {
         return Ok(None);
     }
-    told(format!(in alloc;
-        "word {place}: {} is a name, not nothing",
-        command.positionals[seen]
-    ))
+    wrong_value(alloc, &takes, place, name, word)
 }
 
 // What is wrong with the first part that is wrong. The words stand behind the command.
@@ -218,8 +240,8 @@ fn alike(
     told(format!(in alloc; "word {place}: {first} and {second} are two names, not {one} twice"))
 }
 
-// Which names of `run` are alike.
-fn alike_of_run(alloc: Global, words: &[String]) -> Result<Option<String>, AllocError> {
+// Which names of a session are alike.
+fn alike_of_session(alloc: Global, words: &[String]) -> Result<Option<String>, AllocError> {
     let program = name_at(words, 0);
     let to_record = recording(words);
     let to_report = report(words);
@@ -254,8 +276,8 @@ fn alike_of(
     command: &CommandRow,
     words: &[String],
 ) -> Result<Option<String>, AllocError> {
-    if command.name == RUN_NAME {
-        return alike_of_run(alloc, words);
+    if command.name == RUN_NAME || command.name == SERVE_NAME {
+        return alike_of_session(alloc, words);
     }
     if command.name == ASM_NAME {
         return alike_of_asm(alloc, words);
@@ -332,12 +354,23 @@ fn option_line(alloc: Global, row: &OptionRow) -> Result<String, AllocError> {
     }
 }
 
+// A positional in such a line, with its range where it is a number.
+fn usage_word(alloc: Global, name: &str) -> Result<String, AllocError> {
+    match number_named(name) {
+        None => format!(in alloc; " {name}"),
+        Some(row) => {
+            let range = range_of(alloc, &row.takes)?;
+            format!(in alloc; " {name} ({range})")
+        }
+    }
+}
+
 // The lines of a command: its names, and then its options.
 fn usage_of(alloc: Global, command: &CommandRow) -> Result<String, AllocError> {
     let mut lines = format!(in alloc; "{}", command.name)?;
     for name in command.positionals {
-        lines.push_str(" ")?;
-        lines.push_str(name)?;
+        let word = usage_word(alloc, name)?;
+        lines.push_str(word.as_str())?;
     }
     if command.options.is_empty() {
         lines.push_str("\n")?;

@@ -72,7 +72,10 @@ const ACCEPTED: &str = "\
     replay run run => Some(Replay(ReplayCommand { program: \"run\", recording: \"run\" }))\n\
     convert p r o => Some(Convert(ConvertCommand { program: \"p\", recording: \"r\", out: \"o\" }))\n\
     convert p p q => Some(Convert(ConvertCommand { program: \"p\", recording: \"p\", out: \"q\" }))\n\
-    convert p r p => Some(Convert(ConvertCommand { program: \"p\", recording: \"r\", out: \"p\" }))\n";
+    convert p r p => Some(Convert(ConvertCommand { program: \"p\", recording: \"r\", out: \"p\" }))\n\
+    serve p 80 1 --record r --report t => Some(Serve(ServeCommand { session: RunCommand { program: \"p\", recording: \"r\", report: \"t\", form: Text, frame: Line, window: 4, hold: 0, ring: 8, every: 1, frames: 4, budget: 1000000 }, port: 80, conns: 1, patience: 60 }))\n\
+    serve --patience 0 p --record 80 --report 1 65535 --frame whole 4096 --form json --window 64 --ring 16 --every 64 --frames 16 --budget 16777216 => Some(Serve(ServeCommand { session: RunCommand { program: \"p\", recording: \"80\", report: \"1\", form: Json, frame: Whole, window: 64, hold: 0, ring: 16, every: 64, frames: 16, budget: 16777216 }, port: 65535, conns: 4096, patience: 0 }))\n\
+    serve 1 1 1 --record r --report t --patience 3600 => Some(Serve(ServeCommand { session: RunCommand { program: \"1\", recording: \"r\", report: \"t\", form: Text, frame: Line, window: 4, hold: 0, ring: 8, every: 1, frames: 4, budget: 1000000 }, port: 1, conns: 1, patience: 3600 }))\n";
 
 // Refused behind `run p --record r --report t `.
 const REFUSED_ENDS: &str = "\
@@ -148,7 +151,7 @@ const REFUSED: &str = "\n \n\
     p run --record r --report t\n\
     Run p --record r --report t\n\
     runs p --record r --report t\n\
-    serve p 80 1 --record r --report t\n\
+    drill p 80 1 --record r --report t\n\
     -h\n\
     asm\n\
     asm a\n\
@@ -174,10 +177,41 @@ const REFUSED: &str = "\n \n\
     convert p r o --ring 2\n\
     convert p r -o\n\
     convert p r \n\
-    converts p r o\n";
+    converts p r o\n\
+    run p --record r --report t --patience 5\n\
+    serve\n\
+    serve p 80 --record r --report t\n\
+    serve p 80 1 2 --record r --report t\n\
+    serve p 0 1 --record r --report t\n\
+    serve p 080 1 --record r --report t\n\
+    serve p 65536 1 --record r --report t\n\
+    serve p +1 1 --record r --report t\n\
+    serve p x 1 --record r --report t\n\
+    serve p 80 0 --record r --report t\n\
+    serve p 80 4097 --record r --report t\n\
+    serve p 80 01 --record r --report t\n\
+    serve 80 p 1 --record r --report t\n\
+    serve p 80 1 --record r\n\
+    serve p 80 1 --record r --report r\n\
+    serve p 80 1 --record p --report t\n\
+    serve p 80 1 --record r --report t --hold 0\n\
+    serve p 80 1 --record r --report t --patience 3601\n\
+    serve p 80 1 --record r --report t --patience 05\n\
+    serve p 80 1 --record r --report t --patience 5 --patience 5\n\
+    serve p 80 1 --record r --report t --at-once 1\n";
 
-const COMPLAINTS: &str = " => word 1: the command is missing, run or asm or replay or convert\n\
-    serve p => word 1: the command is run or asm or replay or convert, not serve\n\
+const COMPLAINTS: &str =
+    " => word 1: the command is missing, run or asm or replay or convert or serve\n\
+    drill p => word 1: the command is run or asm or replay or convert or serve, not drill\n\
+    serve p => word 3: PORT is missing\n\
+    serve p 65536 => word 3: PORT is 1 to 65535, not 65536\n\
+    serve p --record r 80 0 => word 6: CONNS is 1 to 4096, not 0\n\
+    serve p 80  => word 4: CONNS is 1 to 4096, not nothing\n\
+    serve p 80 1 q => word 5: q is one name too many for serve\n\
+    serve p 80 1 --hold 0 => word 5: --hold is no option of serve\n\
+    serve p 80 1 --patience 3601 => word 6: --patience is 0 to 3600, not 3601\n\
+    serve p 80 1 --record p --report t => word 6: PROGRAM and --record are two names, not p twice\n\
+    serve p 80 1 --record r --report t => \n\
     run p --ring 08 --record r --report t => word 4: --ring is 1 to 16, not 08\n\
     run p --hold=2 => word 3: --hold=2 is no option of run\n\
     run --hold 1001 => word 3: --hold is 0 to 1000, not 1001\n\
@@ -217,6 +251,20 @@ const RUN_USAGE: &str = "run PROGRAM and in any place, each once:
   --budget 1 to 16777216 (1000000)
 ";
 
+const SERVE_USAGE: &str =
+    "serve PROGRAM PORT (1 to 65535) CONNS (1 to 4096) and in any place, each once:
+  --record a name, always
+  --report a name, always
+  --form text or json (text)
+  --frame line or length or whole (line)
+  --window 1 to 64 (4)
+  --ring 1 to 16 (8)
+  --every 1 to 64 (1)
+  --frames 2 to 16 (4)
+  --budget 1 to 16777216 (1000000)
+  --patience 0 to 3600 (60)
+";
+
 #[test]
 fn words_are_read_and_a_person_is_told(rt: HostRuntime) -> Result<(), Fail> {
     for (usual, table) in [
@@ -232,18 +280,20 @@ fn words_are_read_and_a_person_is_told(rt: HostRuntime) -> Result<(), Fail> {
 
 #[test]
 fn usage_is_told(rt: HostRuntime) -> Result<(), Fail> {
-    for (command, first, rest) in [
-        ("run", RUN_USAGE, ""),
-        ("asm", "", "asm SOURCE OUT\n"),
-        ("convert", "", "convert PROGRAM RECORD OUT\n"),
+    for (command, first, rest, last) in [
+        ("run", RUN_USAGE, "", ""),
+        ("asm", "", "asm SOURCE OUT\n", ""),
+        ("convert", "", "convert PROGRAM RECORD OUT\n", ""),
+        ("serve", "", "", SERVE_USAGE),
         (
-            "serve",
+            "drill",
             RUN_USAGE,
             "asm SOURCE OUT\nreplay PROGRAM RECORD\nconvert PROGRAM RECORD OUT\n",
+            SERVE_USAGE,
         ),
     ] {
         let told = usage(rt.alloc(), command)?;
-        let expected = format!(in rt.alloc(); "{first}{rest}")?;
+        let expected = format!(in rt.alloc(); "{first}{rest}{last}")?;
         assert_eq!(rt; told.as_str(), expected.as_str(), "{command}");
     }
     Ok(())

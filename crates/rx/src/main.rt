@@ -1,5 +1,5 @@
-//! `rx`: runs a guest program on the frames of standard input, and writes what it sends as frames on standard output;
-//! assembles programs, replays records, and converts them.
+//! `rx`: runs a guest program on the frames of standard input, and writes what it sends as frames on standard output; or serves the
+//! clients of a port with it; assembles programs, replays records, and converts them.
 #![tactic(auto)]
 
 ghost use Rattle.std.specs.Prelude.{◌≡◌, ◌<◌};
@@ -8,12 +8,14 @@ ghost use Rattle.rx_serve.specs.Status.{status_of};
 mod message;
 mod telling;
 
-use rx_io::{StdFiles, StdSink, StdSource, Steps, TameListener};
+use command_line::{Command, read_command};
+use rx_io::{StdFiles, StdSink, StdSource, Steps};
 use rx_serve::{End, run_rx};
 use std::env;
 use std::marker::Brand;
 use std::process::ExitCode;
 use std::sync::ledger::{Blank, Ledger};
+use tcp_edge::TcpListenerEdge;
 use telling::{tell, tell_memory, tell_not_utf8};
 
 // The status where memory ran out, and where the words are those of no command.
@@ -21,7 +23,15 @@ const NO_MEMORY: u8 = 10;
 
 const BAD_WORDS: u8 = 2;
 
-// Runs the command of these words over the real streams and files.
+// For how many seconds a client is waited for: what the words of `serve` say. 0 is without limit, and stands where no client comes.
+fn patience_of(rt: &HostRuntime, words: &[String]) -> u64 {
+    match read_command(rt.alloc(), words) {
+        Ok(Some(Command::Serve(serve))) => u64::from(serve.patience),
+        _ => 0,
+    }
+}
+
+// Runs the command of these words over the real streams, files and ports.
 fn run<L: Ledger>(rt: &HostRuntime, words: &[String], blank: Blank) -> End
     requires name { blank.name ≡ L.name }
     requires parts { blank.parts ≡ L.parts }
@@ -32,7 +42,7 @@ fn run<L: Ledger>(rt: &HostRuntime, words: &[String], blank: Blank) -> End
     let mut files = StdFiles::make(rt, alloc);
     let mut input = StdSource::make(rt);
     let mut output = StdSink::make(rt);
-    let mut listener = TameListener::make(alloc, Vec::new(alloc), 1);
+    let mut listener = TcpListenerEdge::make(rt, patience_of(rt, words));
     let mut steps = Steps::<L>::start(blank);
     run_rx(
         alloc,

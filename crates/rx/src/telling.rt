@@ -1,12 +1,13 @@
 // Standard error: what was wrong, where, and what would be right. A part for each command, and the choice among them at the end.
 ghost use Rattle.std.specs.Prelude.{◌≡◌, IfSome};
 ghost use Rattle.elf_image.specs.Layout.{IsWindow};
-ghost use Rattle.command_line.specs.Commands.{run_shown};
-ghost use Rattle.command_line.specs.Ranges.{AreInRange};
+ghost use Rattle.command_line.specs.Commands.{run_shown, serve, serve_shown};
+ghost use Rattle.command_line.specs.Ranges.{AreInRange, HasRanges};
 
 use crate::message::{write_outside, write_refused};
 use command_line::{
-    AsmCommand, Command, ConvertCommand, ReplayCommand, RunCommand, complaint, read_command, usage,
+    AsmCommand, Command, ConvertCommand, ReplayCommand, RunCommand, ServeCommand, complaint,
+    read_command, usage,
 };
 use elf_image::{RefusedField, field_of_refusal};
 use run_history::{Answer, Cause};
@@ -162,16 +163,69 @@ fn window_bytes(run: &RunCommand<'_>) -> u32
     run.window << 20
 }
 
-fn tell_run(rt: &HostRuntime, answer: Answer, run: &RunCommand<'_>)
-    requires { AreInRange (run_shown run.now) }
+// The sentence for an answer to a session of a program, in a window of so many bytes.
+fn run_message<'a>(
+    rt: &HostRuntime,
+    answer: Answer,
+    run: &RunCommand<'a>,
+    window: u32,
+) -> RunMessage<'a>
+    requires { IsWindow window }
 {
-    let message = RunMessage {
+    RunMessage {
         answer,
         program: run.program,
         recording: run.recording,
         report: run.report,
         budget: run.budget,
-        field: refused_field(rt, answer, run.program, window_bytes(run)),
+        field: refused_field(rt, answer, run.program, window),
+    }
+}
+
+fn tell_run(rt: &HostRuntime, answer: Answer, run: &RunCommand<'_>)
+    requires { AreInRange (run_shown run.now) }
+{
+    let message = run_message(rt, answer, run, window_bytes(run));
+    let _ = eprintln!(rt; "rx: {message}");
+}
+
+// ---- serve
+
+// The sentence for an answer to `serve`: that of a session, but for what comes of its port.
+#[derive(Debug, Drop)]
+struct ServeMessage<'a> {
+    session: RunMessage<'a>,
+    port: u32,
+}
+
+impl fmt::Display for ServeMessage<'_> {
+    fn fmt<W: fmt::Write>(&self, f: &mut fmt::Formatter<W>) -> fmt::Result {
+        let port = self.port;
+        match self.session.answer {
+            Answer::ReadFault => write!(
+                f,
+                "the port {port} can't be bound on 127.0.0.1, or no connection could be accepted there: it has to be one that is free and that this user may have"
+            ),
+            _ => write!(f, "{}", self.session),
+        }
+    }
+}
+
+// The bytes of the window of a program that serves a port.
+fn served_window(command: &ServeCommand<'_>) -> u32
+    requires { HasRanges (serve (serve_shown command.now)) }
+    ensures { IsWindow result }
+{
+    command.session.window << 20
+}
+
+fn tell_serve(rt: &HostRuntime, answer: Answer, command: &ServeCommand<'_>)
+    requires { HasRanges (serve (serve_shown command.now)) }
+{
+    let window = served_window(command);
+    let message = ServeMessage {
+        session: run_message(rt, answer, &command.session, window),
+        port: command.port,
     };
     let _ = eprintln!(rt; "rx: {message}");
 }
@@ -358,6 +412,7 @@ pub fn tell(rt: &HostRuntime, answer: Answer, words: &[String]) {
         Ok(Some(Command::Asm(asm))) => tell_asm(rt, answer, &asm),
         Ok(Some(Command::Replay(replay))) => tell_replay(rt, answer, &replay),
         Ok(Some(Command::Convert(convert))) => tell_convert(rt, answer, &convert),
+        Ok(Some(Command::Serve(serve))) => tell_serve(rt, answer, &serve),
         Ok(None) => tell_words(rt, words),
         Err(_) => tell_memory(rt),
     }

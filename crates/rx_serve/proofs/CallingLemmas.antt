@@ -93,12 +93,12 @@ module _ (value : RunValue) where
   run_all old mid new one two = calls_then old mid new (Loaded value.program ∷ []) (starting (names_of value)) one two
 
   -- and a session was served
-  pub run_served : (old mid started served new : Option (List FileCall)) (ended end : Answer) → Calls old mid (Loaded value.program ∷ []) → Calls mid started (starting (names_of value))
+  pub run_served : (old started served new : Option (List FileCall)) (ended end : Answer) → Calls old started (before_session value)
       → AddsAlone (names_of value) started served → CallsEnding value served new ended end → CallsServed value old new ended end
-  run_served old mid started served new ended end one two adds ends = record {
+  run_served old started served new ended end one adds ends = record {
     added = adds.added;
     each = adds.each;
     last = ends.last;
     is = ends.is;
-    made = calls_then old started new (before_session value) (adds.added ++ ends.last) (run_all old mid started one two) (calls_then started served new adds.added ends.last adds.made ends.made);
+    made = calls_then old started new (before_session value) (adds.added ++ ends.last) one (calls_then started served new adds.added ends.last adds.made ends.made);
   }

@@ -7,7 +7,8 @@ use Rattle.schedule_file.specs.Laws.{OneReading}
 use Rattle.schedule_file.specs.Lines.{line_of}
 use Rattle.replay.specs.Laws.{HasSession}
 use Rattle.over_trunk.specs.Laws.{IsWithin, IsAsRecorded, IsConverted, ConvertsToItself, SameBytesAreReplayed, SessionIsConverted}
-use Rattle.rx_serve.proofs.Terms.{List, None, Ok, Option, Result, Some, [], ap, append-nil, arith, inl, inr, length, map, refl, subst, sym, take, true, ℕ, ◌++◌, ◌<◌, ◌∙◌, ◌≡◌, ◌≤◌, take-append-drop, none-some, same_Some, All, Err, IsSomeAnd, Contents, Stream, Image, IsImage, refusal, Answer, journal_of, IsEnd, items_in, NoneFailed, noted, Recorded, IsChoice, IsRecord, record_of, text_of, AreAsks, unnoted_of, keeping_for, bounds_of, ConvertsTrunk, ReplaysTrunk, WritesSends, ConvertValue, ReplayValue, RunValue, End, program_limit, Outside, Writes, options_of, rules_of_run, window_of, replayed, HasBeenReplayed, HasRecord, HasRecording, HasReplayCause, window_in, LeavesText, HasServed, HasSameOutside, IsReplayedBy, RecordsAreConverted, RecordsAreReplayed, SecondVersionStays}
+use Rattle.rx_serve.proofs.Terms.{List, None, Ok, Option, Result, Some, [], ap, append-nil, arith, inl, inr, length, map, refl, subst, sym, take, true, ℕ, ◌++◌, ◌<◌, ◌∙◌, ◌≡◌, ◌≤◌, take-append-drop, none-some, same_Some, All, Err, IsSomeAnd, Contents, Stream, Image, IsImage, refusal, Answer, journal_of, IsEnd, items_in, NoneFailed, noted, Recorded, IsChoice, IsRecord, record_of, text_of, AreAsks, unnoted_of, keeping_for, bounds_of, ConvertsTrunk, ReplaysTrunk, WritesSends, ConvertValue, ReplayValue, RunValue, End, program_limit, Outside, Writes, options_of, rules_of_run, window_of, trunk_of, replayed, HasServed, HasBeenReplayed, HasRecord, HasRecording, HasReplayCause, window_in, LeavesText, HasSameOutside, IsReplayedBy, RecordsAreConverted, RecordsAreReplayed, SecondVersionStays}
+use Rattle.rx_serve.proofs.RouteLemmas.{to_trunk}
 use Rattle.rx_serve.proofs.ConvertLemmas.{as_replay}
 use Rattle.rx_serve.proofs.ChoiceRanges.{choices_fine}
 use Rattle.rx_serve.proofs.NotingLemmas.{few_counts}
@@ -29,7 +30,7 @@ not_large None file there small large = absurd (none-some file there)
 not_large (Some bytes) file there small large = omega (arith, small, large, ap length (same_Some bytes file there))
 
 module _ (value : RunValue) (replaying : ReplayValue) (files files_later again : Contents) (input input_again : Stream) (old new : Outside) (end : End)
-    (served : HasServed value (record old { files = Some files; input = Some input }) (record new { files = Some files_later }) end) (ranges : AreInRange value) (ends : IsEnd end.answer)
+    (served : HasServed value (trunk_of (record old { input = Some input }) new) (record old { files = Some files; input = Some input }) (record new { files = Some files_later }) end) (ranges : AreInRange value) (ends : IsEnd end.answer)
     (outside : HasSameOutside value replaying files files_later again input input_again) where
   -- the record that the run left
   abbrev left : Recorded
@@ -107,7 +108,7 @@ module _ (value : RunValue) (replaying : ReplayValue) (files files_later again :
       (subst (λ (i : Image). ReplaysTrunk i has.recorded (Some input_again) new_again.input old_again.output new_again.output answered has.counted) same.1 has.replays) in
       let both =
       law (rules_of_run value) (keeping_for (options_of value)) served.image input input_again new.input new_again.input old.output new.output old_again.output new_again.output (record { stop = served.why; recorded = end.recorded; tail = end.tail; taken = end.taken; steps = end.steps }) answered
-      (noted (Some []) (Some []) (Some NoneFailed)) (noted (Some served.noted.choices) (Some served.noted.episodes) (Some (unnoted_of served.noted.left))) served.noted.counted has.counted left served.noted.serves replays has_session within outside.bytes in
+      (noted (Some []) (Some []) (Some NoneFailed)) (noted (Some served.noted.choices) (Some served.noted.episodes) (Some (unnoted_of served.noted.left))) served.noted.counted has.counted left (to_trunk _ _ _ _ _ _ _ _ _ _ _ served.noted.serves) replays has_session within outside.bytes in
       (as_replayed again replaying answered both.0, both.1)
 
   -- a conversion of it has its text
@@ -120,7 +121,7 @@ module _ (value : RunValue) (replaying : ReplayValue) (files files_later again :
       (subst (λ (i : Image). ConvertsTrunk i recorded (Some input_again) later text counted) same.1 converts) in
       let both =
       law (rules_of_run value) (keeping_for (options_of value)) served.image input input_again new.input later old.output new.output (record { stop = served.why; recorded = end.recorded; tail = end.tail; taken = end.taken; steps = end.steps }) text
-      (noted (Some []) (Some []) (Some NoneFailed)) (noted (Some served.noted.choices) (Some served.noted.episodes) (Some (unnoted_of served.noted.left))) served.noted.counted counted left served.noted.serves own has_session within outside.bytes in
+      (noted (Some []) (Some []) (Some NoneFailed)) (noted (Some served.noted.choices) (Some served.noted.episodes) (Some (unnoted_of served.noted.left))) served.noted.counted counted left (to_trunk _ _ _ _ _ _ _ _ _ _ _ served.noted.serves) own has_session within outside.bytes in
       (both.0, λ bytes is. both.1 bytes is ∙ ap (λ choices. text_of (record_of value.window value.frame choices end.steps end.taken)) (sym all_choices))
 
   -- which the record's file has

@@ -1,8 +1,6 @@
 -- The command `convert`: what it leaves, from the calls that make it.
 use Rattle.run_history.specs.declared.answer.Answer.TheVariants as answer
-use Rattle.command_line.specs.Commands.{CommandValue}
-use Rattle.rx_serve.specs.Commands.{Ends}
-use Rattle.rx_serve.proofs.Terms.{List, None, Ok, Option, Result, Some, inl, inr, subst, sym, ℕ, ◌∙◌, ◌≡◌, ◌≢◌, Err, Contents, Stream, Image, Answer, Recorded, EndsBy, ConvertsTrunk, ReplaysTrunk, ConvertValue, convert, End, HasNoSession, Outside, Writes, CallsConvert, replayed, HasReplayCause, ConvertsFile, LeavesText}
+use Rattle.rx_serve.proofs.Terms.{List, None, Ok, Option, Result, inl, inr, subst, sym, ℕ, ◌∙◌, ◌≡◌, ◌≢◌, Err, Contents, Stream, Image, Answer, Recorded, EndsBy, ConvertsTrunk, ReplaysTrunk, ConvertValue, Outside, Writes, replayed, HasReplayCause, ConvertsFile, LeavesText}
 
 -- a run's text was written, or a part of it
 pub leaves_text : (value : ConvertValue) (old new : Outside) {mid : Option Contents} {slice text : List ℕ} (end : Answer) → mid ≡ old.files → slice ≡ text → Writes mid new.files value.out slice end
@@ -46,14 +44,3 @@ convert_not_refused_by value old new end image recorded counted (Err why) conver
 pub convert_not_refused : (value : ConvertValue) (old new : Outside) (end : Answer) → ConvertsFile value old new end → end ≡ answer.BadWords → ⊥
 convert_not_refused value old new end (inl begun) is = subst (HasReplayCause old.files (replayed value)) is begun.cause
 convert_not_refused value old new end (inr done) is = convert_not_refused_by value old new end done.image done.recorded done.counted done.text done.converts done.leaves is
-
--- so it is what the words leave
-pub convert_ends : {asked : Option CommandValue} (value : ConvertValue) (old new : Outside) (answered : Answer) (end : End) → asked ≡ Some (convert value) → ConvertsFile value old new answered
-    → CallsConvert value old.calls new.calls answered → new.output ≡ old.output → end.answer ≡ answered → HasNoSession end → Ends asked old new end
-convert_ends value old new answered end asked_is converts called same is nothing =
-    subst (λ a. Ends a old new end) (sym asked_is) (record {
-      converts = subst (λ (a : Answer). ConvertsFile value old new a) (sym is) converts;
-      called = subst (λ (a : Answer). CallsConvert value old.calls new.calls a) (sym is) called;
-      same_output = same;
-      nothing = nothing;
-    })

@@ -3,7 +3,6 @@ use Rattle.session_history.specs.declared.ends.SessionBreak.TheVariants as sessi
 use Rattle.session_history.specs.declared.ends.SessionEnd.TheVariants as session_end
 use Rattle.session_history.specs.declared.ends.Stop.TheVariants as stop
 use Rattle.links.specs.declared.journal.Entry.{Entry}
-use Rattle.links.specs.Links.{events_in}
 use Rattle.run_history.specs.declared.answer.Answer.TheVariants as answer
 use Rattle.run_history.specs.Run.{run}
 use Rattle.session_history.specs.Owing.{OwesNothing}
@@ -12,7 +11,9 @@ use Rattle.session_history.proofs.Endings.{passed_all, received_at_end}
 use Rattle.session_history.specs.declared.ends.SessionEnd.{SessionEnd}
 use Rattle.session_history.specs.Ends.{EndsBy}
 use Rattle.over_trunk.specs.Trunk.{StopsTrunk, Carries}
-use Rattle.rx_serve.proofs.Terms.{IfSome, List, None, Option, Some, [], ap, append-nil, arith, drop, length, refl, subst, suc, sym, true, zero, ℕ, ◌++◌, ◌∙◌, ◌≡◌, ◌≤◌, length-take-le, take-append-drop, none-some, option_and_then_some, same_Some, Item, IsDrained, Stream, Prefix, Choice, Image, Answer, next_parts, Chooses, Effect, Emits, Ends, Fails, Goes, State, Wants, start, Run, after, effect, next, output, Stop, at_its_end, came_to, holds_at_end, is_end_answer, HasPassedAll, IsAccount, Session, journal_of, AtEnd, EndsAt, HasComeTo, IsEnd, answer_of, end_answer, Rules, entries_of, Episode, Unnoted, noted, Keeping, HasNoted, ServesTrunk, End, Outside, Headline, LastExits, Passed, received_items}
+use Rattle.rx_io.specs.Sends.{sent_to}
+use Rattle.session_history.specs.Passing.{passed_in}
+use Rattle.rx_serve.proofs.Terms.{IfSome, List, None, Option, Some, [], ap, append-nil, arith, drop, length, refl, subst, suc, sym, true, zero, ℕ, ◌++◌, ◌∙◌, ◌≡◌, ◌≤◌, length-take-le, take-append-drop, none-some, option_and_then_some, same_Some, Item, ListenEntry, IsDrained, Stream, Prefix, Coming, events_in, Choice, payload, Image, Answer, next_parts, Chooses, Effect, Emits, Ends, Fails, Goes, State, Wants, start, Run, after, effect, next, output, Stop, at_its_end, came_to, holds_at_end, is_end_answer, HasPassedAll, IsAccount, Session, journal_of, AtEnd, EndsAt, HasComeTo, IsEnd, answer_of, end_answer, Rules, entries_of, Episode, Unnoted, noted, Keeping, HasNoted, IsOutcome, Telling, given_to, EndsAfter, GoesOverPort, End, GoesOver, IsDone, IsServed, Passed, PassedOver, PassedPort, PassedTrunk, Port, Route, Serves, Trunk, Headline, LastExits, received_items}
 
 ended_of : Option State → Option ℕ
 ended_of None = None
@@ -87,21 +88,50 @@ passed_at_end : (rules : Rules) (session : Session) {image : Image} (why : Stop)
 passed_at_end rules session (stop.Ends end) account ends = all_at_end account (at_its_end rules session end ends)
 passed_at_end rules session (stop.Breaks fault) account ends = tt
 
--- what was written, by what was passed
-passed_bytes : (rules : Rules) (image : Image) (sink sink_later : Option (List ℕ)) (session : Session) (end : Answer) → IsAccount rules image session → (IsEnd end → HasPassedAll rules session)
-    → Carries rules.bounds sink sink_later (journal_of session) → IfSome sink (λ before. Passed rules session end before sink_later)
-passed_bytes rules image None later session end account all carries = tt
-passed_bytes rules image (Some before) later session end account all carries = record {
+-- what came to each connection, by what was passed
+passed_by : (rules : Rules) (image : Image) (session : Session) (end : Answer) (bytes : ℕ → List ℕ) → ((conn : ℕ) → bytes conn ≡ sent_to conn (passed_in rules.bounds (journal_of session))) → IsAccount rules image session
+    → (IsEnd end → HasPassedAll rules session) → Passed rules session end bytes
+passed_by rules image session end bytes are account all = record {
+  fronts = λ conn. subst (λ list. Prefix list (output session.survivor.now.state conn)) (sym (are conn)) (account.passed conn);
+  all = λ is conn opened. are conn ∙ all is conn opened;
+}
+
+-- what was written to a sink
+passed_trunk : (rules : Rules) (image : Image) (sink sink_later : Option (List ℕ)) (session : Session) (end : Answer) → IsAccount rules image session → (IsEnd end → HasPassedAll rules session)
+    → Carries rules.bounds sink sink_later (journal_of session) → IfSome sink (λ before. PassedTrunk rules session end before sink_later)
+passed_trunk rules image None later session end account all carries = tt
+passed_trunk rules image (Some before) later session end account all carries = record {
   written = carries.written;
   wrote = carries.wrote;
-  fronts = λ conn. subst (λ bytes. Prefix bytes (output session.survivor.now.state conn)) (sym (carries.payload_is conn)) (account.passed conn);
-  all = λ is conn opened. carries.payload_is conn ∙ all is conn opened;
+  passed = passed_by rules image session end (λ conn. payload conn carries.written) carries.payload_is account all;
+}
+
+-- and given to the connections of a port
+passed_port : (conns : ℕ) (rules : Rules) (image : Image) (calls calls_later : Option (List ListenEntry)) (session : Session) (end : Answer) → IsAccount rules image session → (IsEnd end → HasPassedAll rules session)
+    → GoesOverPort conns rules calls calls_later session → IfSome calls (λ before. PassedPort rules session end before calls_later)
+passed_port conns rules image None later session end account all goes = tt
+passed_port conns rules image (Some before) None session end account all goes = absurd goes
+passed_port conns rules image (Some before) (Some later) session end account all goes = record {
+  calls = goes.calls;
+  made = ap Some goes.grew;
+  passed = passed_by rules image session end (λ conn. given_to conn goes.calls) goes.moved.given account all;
 }
 
 -- at Finished the source has no byte left
 drained : (source source_later : Option Stream) (events : List _) → StopsTrunk source source_later events session_end.Finished → IfSome source (λ _. IsDrained source_later)
 drained None later events stops = tt
 drained (Some stream) later events stops = stops.1
+
+-- and each connection of a port was accepted and closed
+served_all : (conns : ℕ) (rules : Rules) (calls calls_later : Option (List ListenEntry)) (session : Session) → session.came ≡ Some session_end.Finished → GoesOverPort conns rules calls calls_later session
+    → IfSome calls (λ before. IsServed conns before calls_later)
+served_all conns rules None later session came goes = tt
+served_all conns rules (Some before) None session came goes = absurd goes
+served_all conns rules (Some before) (Some later) session came goes = record {
+  calls = goes.calls;
+  made = ap Some goes.grew;
+  ends = subst (λ (end : Option SessionEnd). IfSome end (EndsAfter conns goes.calls)) came goes.ends;
+}
 
 -- of the answers of the allocator of a run the first ones stand in the record, and the others are the tail
 record Recorded (session : Session) (end : End) (recording : List Choice) : Type 0 where
@@ -118,35 +148,56 @@ recorded_in session end why recording told episodes has = record {
       ∙ ap (λ list. recording ++ list) (sym has.tail_is);
 }
 
-pub headline : (rules : Rules) (keeping : Keeping) (image : Image) (old new : Outside) (why : Stop) (end : End) (recording : List Choice) (told : List Episode) {before now : Option Unnoted}
+headline_by : (rules : Rules) (keeping : Keeping) (image : Image) (route : Route) (why : Stop) (end : End) (recording : List Choice) (told : List Episode) {before now : Option Unnoted} (coming : Option Coming) (telling : Telling)
     → (IsEnd end.answer → end.answer ≡ answer_of why) → (counted : ℕ)
-    (s : ServesTrunk rules keeping image old.input new.input old.output new.output (record { stop = why; recorded = end.recorded; tail = end.tail; taken = end.taken; steps = end.steps }) (noted (Some []) (Some []) before) (noted (Some recording) (Some told) now) counted)
-    → Headline rules image s.telling.account recording old new end
-headline rules keeping image old new why end recording told same counted s =
-    let session : Session = s.telling.account in
+    (is : IsOutcome rules image keeping coming telling (record { stop = why; recorded = end.recorded; tail = end.tail; taken = end.taken; steps = end.steps }) (noted (Some []) (Some []) before) (noted (Some recording) (Some told) now) counted)
+    → (IsAccount rules image telling.account → (IsEnd end.answer → HasPassedAll rules telling.account) → PassedOver route rules telling.account end.answer) → (telling.account.came ≡ Some session_end.Finished → IsDone route)
+    → Headline rules image telling.account recording route end
+headline_by rules keeping image route why end recording told coming telling same counted is passed done =
+    let session : Session = telling.account in
     let items : List Item = received_items rules session in
     let state : State = session.survivor.now.state in
-    let is = s.is.is.ended in
-    let recorded : Recorded session end recording = recorded_in session end why recording told _ s.is.notes in
+    let its = is.is.ended in
+    let recorded : Recorded session end recording = recorded_in session end why recording told _ is.notes in
     let ran : Run image items (recording ++ end.tail) end.steps state =
-    subst (λ n. Run image items (recording ++ end.tail) n state) s.is.steps_are (subst (λ list. Run image items list session.survivor.now.steps state) recorded.all is.account.ran) in
+    subst (λ n. Run image items (recording ++ end.tail) n state) is.steps_are (subst (λ list. Run image items list session.survivor.now.steps state) recorded.all its.account.ran) in
     let ends_at : (e : SessionEnd) → end.answer ≡ end_answer e → EndsAt rules session e =
-    λ e answered. at_its_end rules session e (subst (EndsBy rules session) (stops_with why e (sym (same (subst IsEnd (sym answered) (is_end_answer e))) ∙ answered)) is.ends) in
+    λ e answered. at_its_end rules session e (subst (EndsBy rules session) (stops_with why e (sym (same (subst IsEnd (sym answered) (is_end_answer e))) ∙ answered)) its.ends) in
     record {
       recorded = recorded.count;
       ran = ran;
-      all_recorded = λ is_end. holds_at_end why (subst IsEnd (same is_end) is_end) s.is.notes.all_recorded;
-      taken = s.is.taken_is;
-      received = subst (λ n. n ≤ length items) s.is.taken_is is.account.taken;
-      passed = passed_bytes rules image old.output new.output session end.answer is.account (λ is_end. holds_at_end why (subst IsEnd (same is_end) is_end) (passed_at_end rules session why is.account is.ends)) s.bytes.carried;
+      all_recorded = λ is_end. holds_at_end why (subst IsEnd (same is_end) is_end) is.notes.all_recorded;
+      taken = is.taken_is;
+      received = subst (λ n. n ≤ length items) is.taken_is its.account.taken;
+      passed = passed its.account (λ is_end. holds_at_end why (subst IsEnd (same is_end) is_end) (passed_at_end rules session why its.account its.ends));
       finished = λ e.
           let ends : EndsAt rules session session_end.Finished = ends_at session_end.Finished e in
-          let to : HasComeTo rules s.coming session session_end.Finished = came_to is.comes ends.came in (
-            sym s.is.taken_is ∙ to.stands.0.taken ∙ sym (ap (λ (list : List Item). length list) (received_at_end rules.bounds session is.pieces (subst AreGiven (sym ends.unbroken) tt))),
-            drained old.input new.input _ (subst (λ (came : Option SessionEnd). IfSome came (StopsTrunk old.input new.input (events_in (journal_of session)))) ends.came s.bytes.stops),
+          let to : HasComeTo rules coming session session_end.Finished = came_to its.comes ends.came in (
+            sym is.taken_is ∙ to.stands.0.taken ∙ sym (ap (λ (list : List Item). length list) (received_at_end rules.bounds session its.pieces (subst AreGiven (sym ends.unbroken) tt))),
+            done ends.came,
           );
       exited = λ code e.
           let ends : EndsAt rules session (session_end.Exited code) = ends_at (session_end.Exited code) e in
-          let to : HasComeTo rules s.coming session (session_end.Exited code) = came_to is.comes ends.came in
+          let to : HasComeTo rules coming session (session_end.Exited code) = came_to its.comes ends.came in
           last_exits image items (recording ++ end.tail) end.steps state code ran.ran to.stands;
     }
+
+-- what was passed, and what is done at Finished, by what came and went
+passed_over : (route : Route) (rules : Rules) (image : Image) (coming : Option Coming) (session : Session) (why : Stop) (end : Answer) → GoesOver route rules coming session why → IsAccount rules image session
+    → (IsEnd end → HasPassedAll rules session) → PassedOver route rules session end
+passed_over (Trunk source source_later sink sink_later) rules image coming session why end goes account all = passed_trunk rules image sink sink_later session end account all goes.carried
+passed_over (Port conns calls calls_later) rules image coming session why end goes account all = passed_port conns rules image calls calls_later session end account all goes.1
+
+done_over : (route : Route) (rules : Rules) (coming : Option Coming) (session : Session) (why : Stop) → GoesOver route rules coming session why → session.came ≡ Some session_end.Finished → IsDone route
+done_over (Trunk source source_later sink sink_later) rules coming session why goes came =
+    drained source source_later _ (subst (λ (end : Option SessionEnd). IfSome end (StopsTrunk source source_later (events_in (journal_of session)))) came goes.stops)
+done_over (Port conns calls calls_later) rules coming session why goes came = served_all conns rules calls calls_later session came goes.1
+
+pub headline : (rules : Rules) (keeping : Keeping) (image : Image) (route : Route) (why : Stop) (end : End) (recording : List Choice) (told : List Episode) (before now : Option Unnoted)
+    → (IsEnd end.answer → end.answer ≡ answer_of why) → (counted : ℕ)
+    (s : Serves route rules keeping image (record { stop = why; recorded = end.recorded; tail = end.tail; taken = end.taken; steps = end.steps }) (noted (Some []) (Some []) before) (noted (Some recording) (Some told) now) counted)
+    → Headline rules image s.telling.account recording route end
+headline rules keeping image route why end recording told before now same counted s =
+    headline_by rules keeping image route why end recording told s.coming s.telling same counted s.is
+    (passed_over route rules image s.coming s.telling.account why end.answer s.goes)
+    (done_over route rules s.coming s.telling.account why s.goes)

@@ -5,6 +5,7 @@ pub mod FewSteps
 pub mod NamesLemmas
 pub mod NotingLemmas
 pub mod CallingLemmas
+pub mod RouteLemmas
 pub mod HeadlineLemmas
 pub mod RunLemmas
 mod RecordLemmas
@@ -14,3 +15,4 @@ mod ChoiceRanges
 mod CommandLemmas
 mod EndsLemmas
 pub mod SessionLaws
+pub mod Lemmas

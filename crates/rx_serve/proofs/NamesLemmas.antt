@@ -2,10 +2,9 @@
 use Rattle.std.proofs.lemmas.Slice.Eq.{bytes_eq-Decides}
 use Rattle.std.specs.Str.{bytes_eq}
 use Rattle.command_line.specs.Texts.{Text}
-use Rattle.command_line.specs.Table.{record_row, report_row}
-use Rattle.command_line.specs.Options.{value_of}
-use Rattle.command_line.proofs.Asking.{asked_run}
-use Rattle.rx_serve.proofs.Terms.{List, Some, false, not, refl, subst, sym, true, true≢false, ◌&&◌, ◌∙◌, ◌≡◌, ◌≢◌, and_parts, AreTwo, RunValue, command_of, differ, fits, is_run, positional, run, run_form, run_value, Parts, names_of}
+use Rattle.command_line.specs.Options.{takes_of, value_of}
+use Rattle.command_line.proofs.Asking.{asked_run, asked_serve}
+use Rattle.rx_serve.proofs.Terms.{List, Some, false, not, refl, subst, sym, true, true≢false, ◌&&◌, ◌∙◌, ◌≡◌, ◌≢◌, and_parts, AreTwo, RunValue, ServeValue, command_of, fits, have_names, is_run, is_serve, positional, run, run_form, run_value, serve, serve_form, serve_value, Parts, conns_row, port_row, record_row, report_row, names_of}
 
 not_alike : (a b : Text) → not (bytes_eq a b) ≡ true → a ≢ b
 not_alike a b differs same = elim (bytes_eq a b) as (λ t. bytes_eq a b ≡ t → not t ≡ true → ⊥) [
@@ -13,16 +12,32 @@ not_alike a b differs same = elim (bytes_eq a b) as (λ t. bytes_eq a b ≡ t �
   | false ↦ λ e h. absurd (true≢false (sym ((bytes_eq-Decides a b).1 same) ∙ e))
 ] refl differs
 
-of_value : (p : Parts) → is_run p ≡ true → AreTwo (names_of (run_value p))
-unfolding is_run run_value
-of_value p is =
+of_names : (p : Parts) → have_names p ≡ true → AreTwo (record { record_name = value_of record_row p.options; report_name = value_of report_row p.options })
+of_names p are =
     let program : Text = positional 0 p in
     let recording : Text = value_of record_row p.options in
     let report : Text = value_of report_row p.options in
-    let others = (and_parts (not (bytes_eq program recording)) (not (bytes_eq program report) && not (bytes_eq recording report)) (and_parts (fits run_form p) (differ program recording report) is).1).1 in
+    let others = (and_parts (not (bytes_eq program recording)) (not (bytes_eq program report) && not (bytes_eq recording report)) are).1 in
     not_alike recording report (and_parts (not (bytes_eq program report)) (not (bytes_eq recording report)) others).1
+
+of_value : (p : Parts) → is_run p ≡ true → AreTwo (names_of (run_value p))
+unfolding is_run run_value
+of_value p is = of_names p (and_parts (fits run_form p) (have_names p) is).1
 
 pub names_differ : (words : List Text) (value : RunValue) → command_of words ≡ Some (run value) → AreTwo (names_of value)
 names_differ words value asked =
     let found = asked_run words value asked in
     subst (λ v. AreTwo (names_of v)) found.value_is (of_value found.parts_are found.is)
+
+-- so they have behind `serve`
+of_session : (p : Parts) → is_serve p ≡ true → AreTwo (names_of (serve_value p).session)
+unfolding is_serve serve_value
+of_session p is =
+    let behind = (and_parts (fits serve_form p) (takes_of port_row.takes (positional 1 p) && (takes_of conns_row.takes (positional 2 p) && have_names p)) is).1 in
+    let others = (and_parts (takes_of port_row.takes (positional 1 p)) (takes_of conns_row.takes (positional 2 p) && have_names p) behind).1 in
+    of_names p (and_parts (takes_of conns_row.takes (positional 2 p)) (have_names p) others).1
+
+pub port_names_differ : (words : List Text) (value : ServeValue) → command_of words ≡ Some (serve value) → AreTwo (names_of value.session)
+port_names_differ words value asked =
+    let found = asked_serve words value asked in
+    subst (λ (v : ServeValue). AreTwo (names_of v.session)) found.value_is (of_session found.parts_are found.is)

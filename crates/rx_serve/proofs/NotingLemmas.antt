@@ -3,7 +3,7 @@ use Rattle.std.proofs.lemmas.Nat.{mul-le}
 use Rattle.file_notes.proofs.LawLemmas.{whole_texts}
 use Rattle.rx_io.specs.declared.fault.IoFault.TheVariants as fault
 use Rattle.run_history.specs.declared.answer.Answer.TheVariants as answer
-use Rattle.rx_serve.proofs.Terms.{Bool, List, None, Ok, Option, Some, [], arith, inl, inr, refl, subst, sym, ℕ, ◌*◌, ◌+◌, ◌<◌, ◌^◌, ◌∙◌, ◌≡◌, ◌≤◌, IoFault, FileCall, Contents, Stream, Choice, Heap, Image, Answer, Stop, Session, journal_of, IsEnd, answer_of, Rules, Episode, NoneFailed, noted, Keeping, Form, MAX_TAKEN, AreAsks, InRecord, InReport, Left, Nothing, unnoted_of, Names, Stands, Options, AreInRange, keeping_for, rules_of, IsHandedLast, IsNoteStop, Outcome, ServesTrunk, RunValue, Outside, outside, status_of, ClosesFiles, EndsFiles, HaveTexts, IsFilesAnswer, ServesNoted, StartsFiles, names_of, report_form}
+use Rattle.rx_serve.proofs.Terms.{Bool, List, None, Ok, Option, Some, [], arith, inl, inr, refl, subst, sym, ℕ, ◌*◌, ◌+◌, ◌<◌, ◌^◌, ◌∙◌, ◌≡◌, ◌≤◌, IoFault, FileCall, Contents, Stream, Choice, Heap, Image, Answer, Stop, Session, journal_of, IsEnd, answer_of, Rules, Episode, NoneFailed, noted, Keeping, Form, MAX_TAKEN, AreAsks, InRecord, InReport, Left, Nothing, unnoted_of, Names, Stands, Options, AreInRange, keeping_for, rules_of, IsHandedLast, IsNoteStop, Outcome, RunValue, Outside, outside, status_of, Route, Serves, ClosesFiles, EndsFiles, HaveTexts, IsFilesAnswer, ServesNoted, StartsFiles, names_of, report_form}
 use Rattle.rx_serve.proofs.FewSteps.{few_steps}
 use Rattle.recovery.proofs.Few.{few_items}
 use Rattle.session_history.specs.declared.ends.SessionBreak.TheVariants as session_break
@@ -79,22 +79,22 @@ closes_whole value choices episodes left taken steps before started noted now en
 -- ---- the notes
 
 -- a session served with notes that were new, and that stand in its files
-pub serves_noted : {rules : Rules} {keeping : Keeping} {image : Image} (value : RunValue) (old new : Outside) {outcome : Outcome} {counted : ℕ}
+pub serves_noted : {rules : Rules} {keeping : Keeping} {image : Image} (value : RunValue) (route : Route) (old new : Outside) {outcome : Outcome} {counted : ℕ}
     → (names : Names) (wanted : Form) (told : Option Contents) (choices_before choices : List Choice) (episodes_before episodes : List Episode) (left_before left : Left)
     → choices_before ≡ [] → episodes_before ≡ [] → left_before ≡ Nothing → new.counter ≡ old.counter + counted
-    → ServesTrunk rules keeping image old.input new.input old.output new.output outcome (noted (Some choices_before) (Some episodes_before) (Some (unnoted_of left_before))) (noted (Some choices) (Some episodes) (Some (unnoted_of left))) counted
+    → Serves route rules keeping image outcome (noted (Some choices_before) (Some episodes_before) (Some (unnoted_of left_before))) (noted (Some choices) (Some episodes) (Some (unnoted_of left))) counted
     → names ≡ names_of value → wanted ≡ report_form value.form → told ≡ old.files → Stands names wanted told new.files choices episodes left → AreAsks choices
-    → ServesNoted rules keeping image value old new outcome
-serves_noted {rules = rules} {keeping = keeping} {image = image} value old new {outcome = outcome} {counted = counted} names wanted told choices_before choices episodes_before episodes left_before left none none_told none_left count serves names_are form_is told_is stands asks = record {
+    → ServesNoted rules keeping image value route old new outcome
+serves_noted {rules = rules} {keeping = keeping} {image = image} value route old new {outcome = outcome} {counted = counted} names wanted told choices_before choices episodes_before episodes left_before left none none_told none_left count serves names_are form_is told_is stands asks = record {
   choices = choices;
   episodes = episodes;
   left = left;
   counted = counted;
   counts = count;
   serves =
-      subst (λ part. ServesTrunk rules keeping image old.input new.input old.output new.output outcome (noted (Some []) (Some []) (Some (unnoted_of part))) (noted (Some choices) (Some episodes) (Some (unnoted_of left))) counted) none_left
-      (subst (λ list. ServesTrunk rules keeping image old.input new.input old.output new.output outcome (noted (Some []) (Some list) (Some (unnoted_of left_before))) (noted (Some choices) (Some episodes) (Some (unnoted_of left))) counted) none_told
-      (subst (λ list. ServesTrunk rules keeping image old.input new.input old.output new.output outcome (noted (Some list) (Some episodes_before) (Some (unnoted_of left_before))) (noted (Some choices) (Some episodes) (Some (unnoted_of left))) counted) none serves));
+      subst (λ part. Serves route rules keeping image outcome (noted (Some []) (Some []) (Some (unnoted_of part))) (noted (Some choices) (Some episodes) (Some (unnoted_of left))) counted) none_left
+      (subst (λ list. Serves route rules keeping image outcome (noted (Some []) (Some list) (Some (unnoted_of left_before))) (noted (Some choices) (Some episodes) (Some (unnoted_of left))) counted) none_told
+      (subst (λ list. Serves route rules keeping image outcome (noted (Some list) (Some episodes_before) (Some (unnoted_of left_before))) (noted (Some choices) (Some episodes) (Some (unnoted_of left))) counted) none serves));
   stands =
       subst (λ before. Stands (names_of value) (report_form value.form) before new.files choices episodes left) told_is
       (subst (λ f. Stands (names_of value) f told new.files choices episodes left) form_is (subst (λ n. Stands n wanted told new.files choices episodes left) names_are stands));
@@ -102,18 +102,18 @@ serves_noted {rules = rules} {keeping = keeping} {image = image} value old new {
 }
 
 -- the same, of what the files tell by another name
-pub noted_at : {rules : Rules} {keeping : Keeping} {image : Image} {value : RunValue} {old : Outside} {outcome : Outcome} {files files_now : Option Contents} {calls calls_now : Option (List FileCall)}
+pub noted_at : {rules : Rules} {keeping : Keeping} {image : Image} {value : RunValue} {route : Route} {old : Outside} {outcome : Outcome} {files files_now : Option Contents} {calls calls_now : Option (List FileCall)}
     {input : Option Stream} {output : Option (List ℕ)} {counter : ℕ} → files ≡ files_now → calls ≡ calls_now
-    → ServesNoted rules keeping image value old (outside files calls input output counter) outcome → ServesNoted rules keeping image value old (outside files_now calls_now input output counter) outcome
-noted_at {rules = rules} {keeping = keeping} {image = image} {value = value} {old = old} {outcome = outcome} {files_now = files_now} {calls = calls} {input = input} {output = output} {counter = counter} same same_calls noted =
-    subst (λ c. ServesNoted rules keeping image value old (outside files_now c input output counter) outcome) same_calls
-    (subst (λ f. ServesNoted rules keeping image value old (outside f calls input output counter) outcome) same noted)
+    → ServesNoted rules keeping image value route old (outside files calls input output counter) outcome → ServesNoted rules keeping image value route old (outside files_now calls_now input output counter) outcome
+noted_at {rules = rules} {keeping = keeping} {image = image} {value = value} {route = route} {old = old} {outcome = outcome} {files_now = files_now} {calls = calls} {input = input} {output = output} {counter = counter} same same_calls noted =
+    subst (λ c. ServesNoted rules keeping image value route old (outside files_now c input output counter) outcome) same_calls
+    (subst (λ f. ServesNoted rules keeping image value route old (outside f calls input output counter) outcome) same noted)
 
 -- ---- the counts
 
 -- an account of a session within its bounds: few items were taken, and few instructions done
-pub few_counts : (options : Options) → AreInRange options → (permits : Heap → ℕ → ℕ → Bool) {image : Image} {value : RunValue} {old new : Outside} {outcome : Outcome}
-    → ServesNoted (rules_of options permits) (keeping_for options) image value old new outcome → (outcome.taken ≤ MAX_TAKEN) × (outcome.steps < 2 ^ 63)
+pub few_counts : (options : Options) → AreInRange options → (permits : Heap → ℕ → ℕ → Bool) {image : Image} {value : RunValue} {route : Route} {old new : Outside} {outcome : Outcome}
+    → ServesNoted (rules_of options permits) (keeping_for options) image value route old new outcome → (outcome.taken ≤ MAX_TAKEN) × (outcome.steps < 2 ^ 63)
 few_counts options ranges permits {image = image} noted =
     let s = noted.serves in
     let session : Session = s.telling.account in

@@ -1,7 +1,7 @@
 -- The settings of a session, by the ranges of its command's numbers.
 use Rattle.command_line.specs.Ranges.{AreInRange as RangesHold}
 use Rattle.elf_image.specs.Layout.{IsWindow}
-use Rattle.rx_serve.proofs.Terms.{arith, subst, sym, ◌≡◌, ◌≤◌, Options, AreInRange, RunValue, options_of}
+use Rattle.rx_serve.proofs.Terms.{arith, subst, sym, ◌<◌, ◌^◌, ◌≡◌, ◌≤◌, Options, AreInRange, RunValue, ServeValue, serve, HasRanges, conns_row, port_row, options_of}
 
 pub window_few : (value : RunValue) → RangesHold value → value.window ≤ 64
 window_few value (window, others) = window.1
@@ -29,3 +29,14 @@ options_in_range value (window, (hold, (ring, (every, (frames, (budget, others))
       some_events = omega arith;
       few_events = omega arith;
     })
+
+-- a port, and a number of connections
+pub port_few : (value : ServeValue) → HasRanges (serve value) → value.port < 2 ^ 16
+unfolding port_row
+port_few value ((port, others), none) =
+    let most = port.1 in
+    omega arith
+
+pub conns_few : (value : ServeValue) → HasRanges (serve value) → (1 ≤ value.conns) × (value.conns ≤ 4096)
+unfolding conns_row
+conns_few value ((port, (conns, others)), none) = conns

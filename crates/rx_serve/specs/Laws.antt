@@ -1,15 +1,17 @@
 -- What holds of a `run`, and of a `replay` and a `convert` of the record that it left.
-use Rattle.std.specs.Prelude.{[], ◌≡◌, Option, Some, None}
-use Rattle.rx_serve.specs.Terms.{Contents, Stream, Answer, Stop, IsComplete, IsEnd, answer_of, Recorded, VERSION, AreAllHeeded, WritesSends, CommandValue, ConvertValue, ReplayValue, RunValue}
+use Rattle.std.specs.Prelude.{[], ◌≡◌, List, Option, Some, None}
+use Rattle.rx_serve.specs.Terms.{ListenEntry, Contents, Stream, Answer, Stop, IsComplete, IsEnd, answer_of, Recorded, VERSION, AreAllHeeded, WritesSends, CommandValue, ConvertValue, ReplayValue, RunValue}
 use Rattle.rx_serve.specs.Settings.{rules_of_run}
 use Rattle.command_line.specs.Ranges.{AreInRange}
 use Rattle.run_history.specs.declared.answer.Answer.TheVariants as answer
 use Rattle.rx_serve.specs.declared.ending.End.{End}
 use Rattle.rx_serve.specs.Calling.{replayed}
-use Rattle.rx_serve.specs.Commands.{HasServed, ConvertEnds, ReplayEnds, Ends}
+use Rattle.rx_serve.specs.Running.{HasServed}
+use Rattle.rx_serve.specs.Commands.{ConvertEnds, ReplayEnds, Ends}
 use Rattle.rx_serve.specs.Limits.{record_limit}
 use Rattle.rx_serve.specs.Loading.{IsTooLarge}
 use Rattle.rx_serve.specs.Outside.{Outside}
+use Rattle.rx_serve.specs.Route.{trunk_of}
 use Rattle.rx_serve.specs.Replaying.{HasRecord}
 
 -- A `replay` has what a `run` had: the same bytes as its program, as its record those that the run left, and the same input from its first byte.
@@ -33,7 +35,7 @@ IsReplayedBy again replaying _ = ⊥
 abbrev pub RecordsAreReplayed : Type 0
 RecordsAreReplayed =
     (value : RunValue) (replaying : ReplayValue) (files files_later files_again : Contents) (input input_again : Stream) (old new again again_later : Outside) (end end_again : End)
-    (served : HasServed value (record old { files = Some files; input = Some input }) (record new { files = Some files_later }) end) →
+    (served : HasServed value (trunk_of (record old { input = Some input }) new) (record old { files = Some files; input = Some input }) (record new { files = Some files_later }) end) →
     ReplayEnds replaying (record again { files = Some files_again; input = Some input_again }) again_later end_again →
     AreInRange value → IsEnd end.answer → HasSameOutside value replaying files files_later files_again input input_again →
     IsReplayedBy files_again replaying end_again.answer × (end_again.answer ≡ answer.Finished → WritesSends again.output again_later.output served.noted.serves.telling.account.survivor.now.state.sends)
@@ -49,25 +51,25 @@ SecondVersionStays =
 abbrev pub RecordsAreConverted : Type 0
 RecordsAreConverted =
     (value : RunValue) (converting : ConvertValue) (files files_later files_again files_converted : Contents) (input input_again : Stream) (old new again again_later : Outside) (end end_again : End)
-    (served : HasServed value (record old { files = Some files; input = Some input }) (record new { files = Some files_later }) end) →
+    (served : HasServed value (trunk_of (record old { input = Some input }) new) (record old { files = Some files; input = Some input }) (record new { files = Some files_later }) end) →
     ConvertEnds converting (record again { files = Some files_again; input = Some input_again }) (record again_later { files = Some files_converted }) end_again →
     AreInRange value → IsEnd end.answer → HasSameOutside value (replayed converting) files files_later files_again input input_again →
     IsReplayedBy files_again (replayed converting) end_again.answer × (end_again.answer ≡ answer.Finished → files_converted converting.out ≡ files_later value.recording)
 
 -- BadWords is answered to words of no command alone.
 abbrev pub OnlyBadWordsAreRefused : Type 0
-OnlyBadWordsAreRefused = (asked : Option CommandValue) (old new : Outside) (end : End) → Ends asked old new end → end.answer ≡ answer.BadWords → asked ≡ None
+OnlyBadWordsAreRefused = (asked : Option CommandValue) (calls calls_later : Option (List ListenEntry)) (old new : Outside) (end : End) → Ends asked calls calls_later old new end → end.answer ≡ answer.BadWords → asked ≡ None
 
 -- Where the input of a `run` has the frames of events that the session heeds, each of them, no answer says that the input is refused: at Finished
 -- every item was taken; else the program ended itself or failed, or there was a fault or want of memory.
 abbrev pub GoodInputIsTaken : Type 0
 GoodInputIsTaken =
-    (value : RunValue) (input : Stream) (old new : Outside) (end : End) (served : HasServed value (record old { input = Some input }) new end) →
+    (value : RunValue) (input : Stream) (old new : Outside) (end : End) (served : HasServed value (trunk_of (record old { input = Some input }) new) (record old { input = Some input }) new end) →
     AreAllHeeded (rules_of_run value).bounds input.left → (why : Stop) × (end.answer ≡ answer_of why) × IsComplete (rules_of_run value) served.noted.serves.telling.account why
 
 -- At an end of a `run` that holds nothing back, and that needed no recovery, the frames of its run's sends were written, in order, each whole, and no
 -- byte more.
 abbrev pub AllSendsAreWritten : Type 0
 AllSendsAreWritten =
-    (value : RunValue) (input : Stream) (old new : Outside) (end : End) (served : HasServed value (record old { input = Some input }) new end) →
+    (value : RunValue) (input : Stream) (old new : Outside) (end : End) (served : HasServed value (trunk_of (record old { input = Some input }) new) (record old { input = Some input }) new end) →
     IsEnd end.answer → value.hold ≡ 0 → served.noted.serves.telling.account.earlier ≡ [] → WritesSends old.output new.output served.noted.serves.telling.account.survivor.now.state.sends

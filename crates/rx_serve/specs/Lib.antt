@@ -6,9 +6,13 @@ pub mod Assembly
 pub mod Status
 pub mod Settings
 pub mod Ended
+pub mod Route
 pub mod Noting
 pub mod Calling
 pub mod Headline
+pub mod Beginning
+pub mod Running
+pub mod Serving
 pub mod Replaying
 pub mod Converting
 pub mod Commands

@@ -9,8 +9,9 @@ use Rattle.rx_io.specs.declared.fault.IoFault.TheVariants as fault
 use Rattle.run_report.specs.declared.form.Form.TheVariants as form
 use Rattle.run_report.specs.Report as report
 use Rattle.schedule_file.specs.Lines as recording
-use Rattle.rx_serve.specs.Terms.{IoFault, Contents, Choice, Image, Answer, IsEnd, Rules, Episode, NoneFailed, noted, Keeping, Form, VERSION, record_of, text_of, AreAsks, Left, unnoted_of, Names, Stands, Outcome, ServesTrunk, RunValue}
+use Rattle.rx_serve.specs.Terms.{IoFault, Contents, Choice, Image, Answer, IsEnd, Rules, Episode, NoneFailed, noted, Keeping, Form, VERSION, record_of, text_of, AreAsks, Left, unnoted_of, Names, Stands, Outcome, RunValue}
 use Rattle.rx_serve.specs.Outside.{Outside}
+use Rattle.rx_serve.specs.Route.{Route, Serves}
 use Rattle.rx_serve.specs.Status.{status_of}
 
 -- a fault of a session's files, as its answer
@@ -39,17 +40,17 @@ abbrev pub HaveTexts : RunValue → List Choice → List Episode → Answer → 
 HaveTexts value choices episodes ended taken steps files files_later =
     StartsBoth (names_of value) (text_of (record_of value.window value.frame choices steps taken)) (report_text (report_form value.form) episodes (status_of ended) taken steps) files files_later (Ok tt)
 
--- A session served a trunk, and what it noted stands in its two files behind their first lines: a line of each answer of the allocator that can't be
+-- A session served, and what it noted stands in its two files behind their first lines: a line of each answer of the allocator that can't be
 -- rolled back, and the text of each episode. What is left behind them is a part of what the call of its notes that broke it off was handed, so of lines of
 -- its own answers of the allocator, or of the text of its own last episode; else nothing is. The numbers of what was asked have 32 bits each. So many
 -- instructions were counted.
-pub record ServesNoted (rules : Rules) (keeping : Keeping) (image : Image) (value : RunValue) (old new : Outside) (outcome : Outcome) : Type 0 where
+pub record ServesNoted (rules : Rules) (keeping : Keeping) (image : Image) (value : RunValue) (route : Route) (old new : Outside) (outcome : Outcome) : Type 0 where
   pub choices : List Choice
   pub episodes : List Episode
   pub left : Left
   pub counted : ℕ
   pub counts : new.counter ≡ old.counter + counted
-  pub serves : ServesTrunk rules keeping image old.input new.input old.output new.output outcome (noted (Some []) (Some []) (Some NoneFailed)) (noted (Some choices) (Some episodes) (Some (unnoted_of left))) counted
+  pub serves : Serves route rules keeping image outcome (noted (Some []) (Some []) (Some NoneFailed)) (noted (Some choices) (Some episodes) (Some (unnoted_of left))) counted
   pub stands : Stands (names_of value) (report_form value.form) old.files new.files choices episodes left
   pub asks : AreAsks choices
 

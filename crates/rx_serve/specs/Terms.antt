@@ -3,13 +3,16 @@ pub use Rattle.rx_io.specs.declared.bytes.Item.{Item}
 pub use Rattle.rx_io.specs.declared.fault.IoFault.{IoFault}
 pub use Rattle.rx_io.specs.declared.file_calls.FileCall.{FileCall}
 pub use Rattle.rx_io.specs.declared.file_calls.FileCall.TheVariants.{Added, Loaded, Started}
+pub use Rattle.rx_io.specs.declared.listener_calls.ListenEntry.{ListenEntry}
 pub use Rattle.rx_io.specs.Calling.{Calls}
-pub use Rattle.rx_io.specs.Faults.{Rose}
+pub use Rattle.rx_io.specs.Faults.{HasCause, Rose}
 pub use Rattle.rx_io.specs.Named.{Contents, Holds}
 pub use Rattle.rx_io.specs.Outside.{IsDrained, Stream}
 pub use Rattle.rx_io.specs.Prefix.{Prefix}
+pub use Rattle.links.specs.Links.{ComesUntold, Coming, events_in}
 pub use Rattle.block_book.specs.declared.choice.Choice.{Choice}
 pub use Rattle.block_book.specs.Heap.{Heap}
+pub use Rattle.trunk_wire.specs.Pieces.{payload}
 pub use Rattle.elf_image.specs.declared.image.Image.{Image}
 pub use Rattle.elf_image.specs.Image.{heap_end, heap_start, written}
 pub use Rattle.elf_image.specs.Refusals.{IsImage}
@@ -24,11 +27,11 @@ unfoldable pub use Rattle.run_history.specs.Run.{does, next}
 pub use Rattle.session_history.specs.declared.ends.Stop.{Stop}
 pub use Rattle.session_history.specs.Account.{HasPassedAll, IsAccount, Session, journal_of}
 pub use Rattle.session_history.specs.AccountLaws.{IsComplete}
-pub use Rattle.session_history.specs.Ends.{AtEnd, EndsAt, HasComeTo, IsEnd, answer_of, end_answer}
+pub use Rattle.session_history.specs.Ends.{AtBreak, AtEnd, EndsAt, HasComeTo, IsEnd, answer_of, end_answer}
 pub use Rattle.session_history.specs.Heeding.{items_in}
 pub use Rattle.session_history.specs.Lawful.{Rules, entries_of}
 pub use Rattle.session_notes.specs.declared.episode.Episode.{Episode}
-pub use Rattle.session_notes.specs.Noting.{NoneFailed, Unnoted, noted}
+pub use Rattle.session_notes.specs.Noting.{NoneFailed, Noted, Unnoted, noted}
 pub use Rattle.recovery.specs.Handling.{Keeping}
 pub use Rattle.run_report.specs.declared.form.Form.{Form}
 pub use Rattle.schedule_file.specs.declared.recorded.Recorded.{Recorded}
@@ -44,12 +47,17 @@ pub use Rattle.file_notes.specs.Names.{AreTwo, Names}
 pub use Rattle.file_notes.specs.Standing.{Stands}
 pub use Rattle.session_state.specs.declared.options.Options.{Options}
 pub use Rattle.session_state.specs.Options.{AreInRange, keeping_for, rules_of}
-pub use Rattle.session_state.specs.Recovered.{HasNoted, IsHandedLast, IsNoteStop, Outcome}
+pub use Rattle.session_state.specs.Recovered.{HasNoted, IsHandedLast, IsNoteStop, IsOutcome, Outcome, Telling}
+pub use Rattle.session_state.specs.Sessions.{IsBegun, SessionState}
 pub use Rattle.replay.specs.Replaying.{EndsBy, bounds_of}
 pub use Rattle.over_trunk.specs.Converting.{ConvertsTrunk}
 pub use Rattle.over_trunk.specs.EndLaws.{AreAllHeeded, NoOtherEnd, SendsAreWritten}
 pub use Rattle.over_trunk.specs.Replaying.{ReplaysTrunk, WritesSends}
-pub use Rattle.over_trunk.specs.Serving.{ServesTrunk}
-pub use Rattle.command_line.specs.Commands.{AsmValue, CommandValue, ConvertValue, ReplayValue, RunValue, asm, command_of, convert, convert_shown, differ, fits, positional, replay, replay_shown, run, run_shown}
-unfoldable pub use Rattle.command_line.specs.Commands.{is_run, run_form, run_value}
+pub use Rattle.over_trunk.specs.Serving.{GoesOverTrunk, IsRecordedUpTo, IsTrunkFault, ServesTrunk}
+pub use Rattle.over_port.specs.Calls.{given_to}
+pub use Rattle.over_port.specs.Serving.{EndsAfter, GoesOverPort, ServesPort}
+pub use Rattle.command_line.specs.Commands.{AsmValue, CommandValue, ConvertValue, ReplayValue, RunValue, ServeValue, asm, command_of, convert, convert_shown, fits, have_names, positional, replay, replay_shown, run, run_shown, serve, serve_shown, session_value}
+unfoldable pub use Rattle.command_line.specs.Commands.{is_run, is_serve, run_form, run_value, serve_form, serve_value}
 pub use Rattle.command_line.specs.Parts.{Parts, texts_of}
+pub use Rattle.command_line.specs.Ranges.{HasRanges}
+unfoldable pub use Rattle.command_line.specs.Table.{conns_row, port_row, record_row, report_row}

@@ -2,6 +2,7 @@
 //!
 //! It knows the outside by traits alone: whatever its clauses say holds of real streams and files as far as these tell.
 //! Memory may come in place of any answer but BadWords, and what was done before it is said.
+//! Which calls on files and on the listener were made, in order, is said of each command.
 //! That the same words, files and input come to the same answer no clause says.
 //! Which sentences are written on standard error is no part of it: `rx` writes them.
 #![tactic(auto)]
@@ -12,6 +13,7 @@ mod ending;
 pub mod laws;
 mod loading;
 mod noting;
+mod port_serving;
 mod replaying;
 mod run;
 mod serving;

@@ -17,6 +17,7 @@ ghost use Rattle.session_history.specs.declared.ends.Stop.{Stop};
 ghost use Rattle.rx_serve.specs.Calling.{CallsEnding};
 ghost use Rattle.rx_serve.specs.Noting.{IsFilesAnswer, names_of, report_form, StartsFiles, ServesNoted, ClosesFiles};
 ghost use Rattle.rx_serve.specs.Outside.{outside, faults, HasFaults};
+ghost use Rattle.rx_serve.specs.Route.{Trunk};
 
 use crate::ending::status_of_answer;
 use command_line::RunCommand;
@@ -31,7 +32,7 @@ use std::alloc::Global;
 use std::sync::ledger::Ledger;
 
 // The form of a report, as a command names it.
-fn report_form(form: command_line::Form) -> Form
+pub(crate) fn report_form(form: command_line::Form) -> Form
     ensures { result ≡ report_form form }
 {
     match form {
@@ -103,7 +104,7 @@ pub(crate) fn serve_noted<R: AccessRule, F: Files, S: Source, K: Sink, L: Ledger
     requires two { AreTwo (names_of (run_shown run.now)) }
     requires begun { IsReadyToServe session.old }
     ensures serves { (why : Stop) × (result ≡ answer_of why) × ((image : Image) → IsBegun image session.old.options session.old.cpu.rule session.old
-        → ServesNoted (rules_of session.old.options (R.rule session.old.cpu.rule)) (keeping_for session.old.options) image (run_shown run.now) (outside (F.told files.old) (F.calls files.old) (S.told input.old) (K.told output.old) steps.old) (outside (F.told files.new) (F.calls files.new) (S.told input.new) (K.told output.new) steps.new) (outcome_of why session.new)) }
+        → ServesNoted (rules_of session.old.options (R.rule session.old.cpu.rule)) (keeping_for session.old.options) image (run_shown run.now) (Trunk (S.told input.old) (S.told input.new) (K.told output.old) (K.told output.new)) (outside (F.told files.old) (F.calls files.old) (S.told input.old) (K.told output.old) steps.old) (outside (F.told files.new) (F.calls files.new) (S.told input.new) (K.told output.new) steps.new) (outcome_of why session.new)) }
     ensures adds { AddsAlone (names_of (run_shown run.now)) (F.calls files.old) (F.calls files.new) }
     ensures later { F.faults files.old ≤ F.faults files.new }
     ensures faults { HasFaults (faults (F.faults files.old) (S.faults input.old) (K.faults output.old)) (faults (F.faults files.new) (S.faults input.new) (K.faults output.new)) result }

@@ -2,13 +2,14 @@
 ghost use Rattle.std.specs.Prelude.{◌≡◌, ◌+◌, ◌≤◌};
 ghost use Rattle.command_line.specs.Parts.{texts_of};
 ghost use Rattle.command_line.specs.Commands.{command_of};
-ghost use Rattle.rx_serve.specs.Commands.{Ends};
+ghost use Rattle.rx_serve.specs.Commands.{Ends, Listens, heard_by};
 ghost use Rattle.rx_serve.specs.Outside.{outside, faults, HasFaults};
 ghost use Rattle.rx_serve.specs.Status.{status_of};
 
 use crate::assembly::assemble_file;
 use crate::converting::convert_file;
 use crate::ending::End;
+use crate::port_serving::serve_program;
 use crate::replaying::replay_file;
 use crate::serving::run_program;
 use command_line::{Command, read_command};
@@ -25,6 +26,8 @@ use std::sync::ledger::Ledger;
 /// assembles it in a window of 1 MiB, and writes its executable. `replay PROGRAM RECORD` loads a program and a record of it, and does
 /// the recorded run again over the trunk of `input` and `output`: its sends are frames, and events are taken only where it asks for an item.
 /// `convert PROGRAM RECORD OUT` does the recorded run again over `input`, gives nothing, and writes the record of version 2 of that run.
+/// `serve PROGRAM PORT CONNS --record RECORD --report REPORT` lets the program serve so many connections of `listener` at a port, one after
+/// another, with a record and a report as of `run`.
 pub fn run_rx<F: Files, S: Source, K: Sink, N: Listener, L: Ledger>(
     alloc: Global,
     words: &[String],
@@ -35,20 +38,19 @@ pub fn run_rx<F: Files, S: Source, K: Sink, N: Listener, L: Ledger>(
     steps: &mut Steps<L>,
 ) -> End
     // What is left, by cases on the command that the words ask for. `run`: the headline, with the account that it is true of; or no session began, by its
-    // cause. `asm`: the executable of the text's image, and nothing else is touched. `replay`: the recorded run is done again, or no replay began,
+    // cause. `serve`: the same, over the calls on the listener. `asm`: the executable of the text's image, and nothing else is touched. `replay`: the recorded run is done again, or no replay began,
     // by its cause. `convert`: the recorded run is done again, and at its end its record of version 2 is written; or no run began or came to its end, by
     // its cause. Words of no command are refused, and nothing is touched.
-    ensures ends { Ends (command_of (texts_of words.now)) (outside (F.told files.old) (F.calls files.old) (S.told input.old) (K.told output.old) steps.old) (outside (F.told files.new) (F.calls files.new) (S.told input.new) (K.told output.new) steps.new) result }
+    ensures ends { Ends (command_of (texts_of words.now)) (N.told listener.old) (N.told listener.new) (outside (F.told files.old) (F.calls files.old) (S.told input.old) (K.told output.old) steps.old) (outside (F.told files.new) (F.calls files.new) (S.told input.new) (K.told output.new) steps.new) result }
 
     // A fault is answered only where the count of that object's own faults rose.
-    ensures faults { HasFaults (faults (F.faults files.old) (S.faults input.old) (K.faults output.old)) (faults (F.faults files.new) (S.faults input.new) (K.faults output.new)) result.answer }
+    ensures faults { HasFaults (faults (F.faults files.old) (heard_by (command_of (texts_of words.now)) (S.faults input.old) (N.faults listener.old)) (K.faults output.old)) (faults (F.faults files.new) (heard_by (command_of (texts_of words.now)) (S.faults input.new) (N.faults listener.new)) (K.faults output.new)) result.answer }
 
-    ensures listener { listener.new ≡ listener.old }
+    // Only `serve` calls the listener.
+    ensures listener { (Listens (command_of (texts_of words.now)) → ⊥) → listener.new ≡ listener.old }
     ensures status { result.status ≡ status_of result.answer }
     ensures counted_at_least { steps.old + result.steps ≤ steps.new }
 {
-    // `run` has one trunk, its input and output: no command of today listens.
-    let _ = listener;
     match read_command(alloc, words) {
         Ok(Some(Command::Run(run))) => run_program(alloc, &run, files, input, output, steps),
         Ok(Some(Command::Asm(asm))) => {
@@ -63,6 +65,7 @@ pub fn run_rx<F: Files, S: Source, K: Sink, N: Listener, L: Ledger>(
             let answer = convert_file(alloc, &convert, files, input, steps);
             End::without_session(alloc, answer)
         }
+        Ok(Some(Command::Serve(serve))) => serve_program(alloc, &serve, files, listener, steps),
         Ok(None) => End::without_session(alloc, Answer::BadWords),
         Err(_) => End::without_session(alloc, Answer::Memory),
     }

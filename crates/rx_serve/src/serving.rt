@@ -1,8 +1,11 @@
 // The command `run`: a program is loaded, and serves the trunk of input and output.
-ghost use Rattle.std.specs.Prelude.{◌≡◌, ◌+◌, ◌≤◌};
+ghost use Rattle.std.specs.Prelude.{◌≡◌, ◌+◌, ◌≤◌, Err};
 ghost use Rattle.command_line.specs.Commands.{run_shown};
 ghost use Rattle.command_line.specs.Ranges.{AreInRange};
 ghost use Rattle.file_notes.specs.Names.{AreTwo};
+ghost use Rattle.rx_io.specs.Faults.{Rose};
+ghost use Rattle.run_history.specs.declared.answer.Answer.TheVariants as answer;
+ghost use Rattle.rx_serve.specs.Beginning.{BeginsSession, CallsBegin};
 ghost use Rattle.rx_serve.specs.Commands.{RunEnds};
 ghost use Rattle.rx_serve.specs.Noting.{names_of};
 ghost use Rattle.rx_serve.specs.Outside.{outside, faults, HasFaults};
@@ -20,6 +23,34 @@ use rx_io::{Files, Sink, Source, Steps};
 use std::alloc::Global;
 use std::sync::ledger::Ledger;
 
+// Loads the program of a command, starts its record and its report, and begins its session.
+pub(crate) fn begin_session<F: Files>(
+    alloc: Global,
+    run: &RunCommand<'_>,
+    files: &mut F,
+) -> Result<Session<AllMapped>, Answer>
+    requires in_range { AreInRange (run_shown run.now) }
+    requires two { AreTwo (names_of (run_shown run.now)) }
+    ensures begins { BeginsSession (run_shown run.now) (F.told files.old) (F.told files.new) result }
+    ensures calls { CallsBegin (run_shown run.now) (F.calls files.old) (F.calls files.new) result }
+    ensures later { F.faults files.old ≤ F.faults files.new }
+    ensures file_fault { result ≡ Err answer.FileFault → Rose (F.faults files.old) (F.faults files.new) }
+    ensures no_other { (result ≡ Err answer.ReadFault → ⊥) × (result ≡ Err answer.WriteFault → ⊥) }
+{
+    let options = options_of(run);
+    let image = match load_image(alloc, files, run.program, options.window) {
+        Ok(image) => image,
+        Err(answer) => return Err(answer),
+    };
+    if let Err(fault) = start_notes(alloc, files, run) {
+        return Err(note_answer(fault));
+    }
+    match Session::begin(alloc, &image, &options, AllMapped) {
+        Ok(session) => Ok(session),
+        Err(_) => Err(Answer::Memory),
+    }
+}
+
 /// Loads the program of a command and lets it serve, with a record and a report of it in two files.
 pub fn run_program<F: Files, S: Source, K: Sink, L: Ledger>(
     alloc: Global,
@@ -36,17 +67,9 @@ pub fn run_program<F: Files, S: Source, K: Sink, L: Ledger>(
     ensures status { result.status ≡ status_of result.answer }
     ensures counted_at_least { steps.old + result.steps ≤ steps.new }
 {
-    let options = options_of(run);
-    let image = match load_image(alloc, files, run.program, options.window) {
-        Ok(image) => image,
-        Err(answer) => return End::without_session(alloc, answer),
-    };
-    if let Err(fault) = start_notes(alloc, files, run) {
-        return End::without_session(alloc, note_answer(fault));
-    }
-    let mut session = match Session::begin(alloc, &image, &options, AllMapped) {
+    let mut session = match begin_session(alloc, run, files) {
         Ok(session) => session,
-        Err(_) => return End::without_session(alloc, Answer::Memory),
+        Err(answer) => return End::without_session(alloc, answer),
     };
     let ended = serve_noted(alloc, run, &mut session, files, input, output, steps);
     let answer = end_notes(alloc, files, run, ended, session.taken(), session.steps());

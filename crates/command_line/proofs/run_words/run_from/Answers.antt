@@ -1,22 +1,16 @@
-use Rattle.command_line.proofs.Terms.{ap, unwrap_or, ℕ, ◌∙◌, Text, number_of, form_row, frame_row, record_row, report_row, form_of, frame_of, run_form, run_value}
+use Rattle.command_line.proofs.Terms.{ap, unwrap_or, ℕ, ◌∙◌, Text, number_of, form_row, frame_row, record_row, report_row, run_form, run_value, session_value}
 use Rattle.command_line.proofs.run_words.run_from.Goals as goal
 
-abbrev number_read : Text → ℕ
-number_read text = unwrap_or (number_of text) 0
+abbrev hold_read : Text → ℕ
+hold_read text = unwrap_or (number_of text) 0
 
 pub returns : goal.returns
 unfolding run_value run_form form_row frame_row record_row report_row
 returns c =
-    λ p read i. record {
-      program = c.value_in.ensures _ read.names.0 i;
-      recording = c.value_in-2.ensures _ read.options.0 i;
-      report = c.value_in-3.ensures _ read.options.1.0 i;
-      form = (c.form_of.ensures ∙ ap form_of (c.value_in-4.ensures _ read.options.1.1.0)) i;
-      frame = (c.frame_of.ensures ∙ ap frame_of (c.value_in-5.ensures _ read.options.1.1.1.0)) i;
-      window = (c.number_or_zero.ensures ∙ ap number_read (c.value_in-6.ensures _ read.options.1.1.1.1.0)) i;
-      hold = (c.number_or_zero-2.ensures ∙ ap number_read (c.value_in-7.ensures _ read.options.1.1.1.1.1.0)) i;
-      ring = (c.number_or_zero-3.ensures ∙ ap number_read (c.value_in-8.ensures _ read.options.1.1.1.1.1.1.0)) i;
-      every = (c.number_or_zero-4.ensures ∙ ap number_read (c.value_in-9.ensures _ read.options.1.1.1.1.1.1.1.0)) i;
-      frames = (c.number_or_zero-5.ensures ∙ ap number_read (c.value_in-10.ensures _ read.options.1.1.1.1.1.1.1.1.0)) i;
-      budget = (c.number_or_zero-6.ensures ∙ ap number_read (c.value_in-11.ensures _ read.options.1.1.1.1.1.1.1.1.1.0)) i;
-    }
+    λ p read.
+    let options = read.options in
+    c.session_from.ensures p (record {
+      program = read.names.0;
+      options = (options.0, (options.1.0, (options.1.1.0, (options.1.1.1.0, (options.1.1.1.1.0, (options.1.1.1.1.1.1.0, (options.1.1.1.1.1.1.1.0, (options.1.1.1.1.1.1.1.1.0, (options.1.1.1.1.1.1.1.1.1.0, tt)))))))));
+    })
+    ∙ ap (λ hold. session_value hold p) (c.number_or_zero.ensures ∙ ap hold_read (c.value_in.ensures _ options.1.1.1.1.1.0))

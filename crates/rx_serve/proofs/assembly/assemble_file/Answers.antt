@@ -1,5 +1,5 @@
+use Rattle.rx_serve.proofs.Lemmas.{asm_refused, asm_written}
 use Rattle.rx_serve.proofs.Terms.{subst, ◌∙◌, Writes}
-use Rattle.rx_serve.proofs.CallingLemmas.{asm_refused, asm_written}
 use Rattle.rx_serve.proofs.AssemblyLemmas.{assembles, writes_cause}
 use Rattle.rx_serve.proofs.assembly.assemble_file.Goals as goal
 

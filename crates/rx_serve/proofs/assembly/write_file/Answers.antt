@@ -1,4 +1,4 @@
-use Rattle.rx_serve.proofs.CallingLemmas.{write_fails}
+use Rattle.rx_serve.proofs.Lemmas.{write_fails}
 use Rattle.rx_serve.proofs.assembly.write_file.Goals as goal
 
 pub returns-in-Err-Failed-add-clause-calls : goal.returns-in-Err-Failed-add-clause-calls

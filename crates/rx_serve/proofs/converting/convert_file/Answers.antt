@@ -1,7 +1,5 @@
+use Rattle.rx_serve.proofs.Lemmas.{convert_broken, convert_none, convert_written, no_read_cause, no_write_cause, as_replay, leaves_text, not_file_fault, not_read_of_writes, not_write_of_writes}
 use Rattle.rx_serve.proofs.Terms.{Ok, arith, inl, inr, refl, rules, ℕ, ◌-◌, Err, convert_shown, outside}
-use Rattle.rx_serve.proofs.CallingLemmas.{convert_none, convert_broken, convert_written}
-use Rattle.rx_serve.proofs.ReplayLemmas.{no_read_cause, no_write_cause}
-use Rattle.rx_serve.proofs.ConvertLemmas.{as_replay, leaves_text, not_file_fault, not_read_of_writes, not_write_of_writes}
 use Rattle.rx_serve.proofs.converting.convert_file.Goals as goal
 
 -- ---- no run began

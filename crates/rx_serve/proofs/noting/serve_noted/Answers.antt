@@ -1,6 +1,5 @@
-use Rattle.rx_serve.proofs.Terms.{ap, arith, rules, ℕ, ◌+◌, ◌-◌, ◌∙◌, ◌≡◌, run_shown, outside}
-use Rattle.rx_serve.proofs.CallingLemmas.{adds_of}
-use Rattle.rx_serve.proofs.NotingLemmas.{noted_at, serves_noted}
+use Rattle.rx_serve.proofs.Lemmas.{noted_at, serves_noted, adds_of, of_trunk}
+use Rattle.rx_serve.proofs.Terms.{ap, arith, rules, ℕ, ◌+◌, ◌-◌, ◌∙◌, ◌≡◌, run_shown, outside, Trunk}
 use Rattle.rx_serve.proofs.noting.serve_noted.Goals as goal
 
 pub returns-clause-serves : goal.returns-clause-serves
@@ -15,8 +14,8 @@ returns-clause-serves g c =
       has.is,
       λ image begun.
           let serves =
-          serves_noted (run_shown c.args.run.now) (outside (g.F.Files.told c.args.files.now) (g.F.Files.calls c.args.files.now) (g.S.Source.told c.args.input.now) (g.K.Sink.told c.args.output.now) c.args.steps.now)
-          (outside (g.F.Files.told c.serve_trunk-answer.new.notes.files.now) (g.F.Files.calls c.serve_trunk-answer.new.notes.files.now) (g.S.Source.told c.serve_trunk-answer.new.input) (g.K.Sink.told c.serve_trunk-answer.new.output) c.serve_trunk-answer.new.steps) _ _ _ _ _ _ _ _ _ made.choices made.episodes made.left count (has.served image begun)
+          serves_noted (run_shown c.args.run.now) (Trunk (g.S.Source.told c.args.input.now) (g.S.Source.told c.serve_trunk-answer.new.input) (g.K.Sink.told c.args.output.now) (g.K.Sink.told c.serve_trunk-answer.new.output)) (outside (g.F.Files.told c.args.files.now) (g.F.Files.calls c.args.files.now) (g.S.Source.told c.args.input.now) (g.K.Sink.told c.args.output.now) c.args.steps.now)
+          (outside (g.F.Files.told c.serve_trunk-answer.new.notes.files.now) (g.F.Files.calls c.serve_trunk-answer.new.notes.files.now) (g.S.Source.told c.serve_trunk-answer.new.input) (g.K.Sink.told c.serve_trunk-answer.new.output) c.serve_trunk-answer.new.steps) _ _ _ _ _ _ _ _ _ made.choices made.episodes made.left count (of_trunk _ _ _ _ _ _ _ _ _ _ _ (has.served image begun))
           (ap (λ k. k.1.0) kept ∙ made.names) (ap (λ k. k.1.1.0) kept ∙ made.form ∙ c.report_form.ensures)
           (ap (λ k. k.1.1.1.0) kept ∙ made.before.0) c.is_whole.ensures.stands c.is_whole.ensures.asks in
           noted_at (search rules) (search rules) serves,

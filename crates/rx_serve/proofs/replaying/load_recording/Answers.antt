@@ -1,6 +1,5 @@
+use Rattle.rx_serve.proofs.Lemmas.{replay_both, replay_none, replay_one, has_recording}
 use Rattle.rx_serve.proofs.Terms.{arith, ◌%◌, ◌*◌, ◌≡◌, ◌≤◌, front_all, replay_shown, replaying, window_in}
-use Rattle.rx_serve.proofs.CallingLemmas.{replay_none, replay_one, replay_both}
-use Rattle.rx_serve.proofs.ReplayLemmas.{has_recording}
 use Rattle.rx_serve.proofs.replaying.load_recording.Goals as goal
 
 pub returns-in-Ok-image_in-clause-loads : goal.returns-in-Ok-image_in-clause-loads

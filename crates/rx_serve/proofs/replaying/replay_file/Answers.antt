@@ -1,5 +1,5 @@
+use Rattle.rx_serve.proofs.Lemmas.{no_file_fault}
 use Rattle.rx_serve.proofs.Terms.{arith, inr, ℕ, ◌-◌, front_all, replay_shown, replaying}
-use Rattle.rx_serve.proofs.ReplayLemmas.{no_file_fault}
 use Rattle.rx_serve.proofs.replaying.replay_file.Goals as goal
 
 pub returns-clause-replays : goal.returns-clause-replays

@@ -1,0 +1,40 @@
+// A session over a port.
+ghost use Rattle.std.specs.Prelude.{◌≡◌, ◌+◌, ◌-◌, ◌≤◌};
+ghost use Rattle.port_link.specs.Standing.{IsJustBound};
+ghost use Rattle.session_history.specs.Answering.{HasAnswerCause};
+ghost use Rattle.session_state.specs.Serving.{IsReadyToServe, rules_by};
+ghost use Rattle.over_port.specs.Serving.{HasServedPort, port_counts};
+
+use guest_space::AccessRule;
+use port_link::PortLink;
+use run_history::Answer;
+use rx_engine::Session;
+use rx_io::{Listener, Steps};
+use session_notes::Notes;
+use std::alloc::Global;
+use std::sync::ledger::Ledger;
+
+/// Serves `conns` connections of a listener that was just bound, one after another, with a session that was begun, and answers how it
+/// ended. No connection is accepted, and no byte taken, before the program waits for an item; pieces go to the present connection
+/// alone. `notes` are told the answers of malloc and the recoveries. At each answer each recovery, and a walk at which it gave up, had the
+/// checkpoints that the requests before it left. `alloc` is for the pieces. A connection that is present at the end isn't closed.
+pub fn serve_port<R: AccessRule, E: Listener, N: Notes, L: Ledger>(
+    alloc: Global,
+    session: &mut Session<R>,
+    listener: &mut E,
+    conns: u16,
+    notes: &mut N,
+    steps: &mut Steps<L>,
+) -> Answer
+    requires begun { IsReadyToServe session.old }
+    requires some { 1 ≤ conns }
+    requires few { conns ≤ 4096 }
+    requires bound { IsJustBound (E.told listener.old) }
+    ensures served { HasServedPort conns (rules_by R.rule session.old) (E.told listener.old) (E.told listener.new) (N.shown notes.old) (N.shown notes.new) (steps.new - steps.old) session.old session.new result }
+    ensures cause { HasAnswerCause (port_counts (E.faults listener.old)) (port_counts (E.faults listener.new)) result }
+    ensures outside { (E.fixed listener.new ≡ E.fixed listener.old) × (N.fixed notes.new ≡ N.fixed notes.old) }
+    ensures counted_at_least { steps.old + session.new.steps ≤ steps.new }
+{
+    let mut link = PortLink::make(alloc, &mut *listener, conns);
+    session.serve(&mut link, notes, steps)
+}

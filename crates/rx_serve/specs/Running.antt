@@ -1,0 +1,36 @@
+-- What a session of a program leaves, or what stands in place of one.
+use Rattle.std.specs.Prelude.{Option, Ok}
+use Rattle.rx_serve.specs.Terms.{Contents, Image, Stop, IsEnd, answer_of, CallsFront, keeping_for, RunValue}
+use Rattle.rx_serve.specs.declared.ending.End.{End}
+use Rattle.rx_serve.specs.Beginning.{StartsPartly}
+use Rattle.rx_serve.specs.Calling.{CallsServed, before_session}
+use Rattle.rx_serve.specs.Ended.{HasNoSession}
+use Rattle.rx_serve.specs.Headline.{Headline}
+use Rattle.rx_serve.specs.Loading.{HasImage, HasLoadCause}
+use Rattle.rx_serve.specs.Noting.{StartsFiles, ServesNoted, ClosesFiles, HaveTexts}
+use Rattle.rx_serve.specs.Outside.{Outside, IsUntouched}
+use Rattle.rx_serve.specs.Route.{Route}
+use Rattle.rx_serve.specs.Settings.{window_of, options_of, rules_of_run}
+
+-- no session began: the program has no image, or its files can't be started, or memory ran out. Nothing was read, passed or run
+pub record HasNotBegun (value : RunValue) (old new : Outside) (end : End) : Type 0 where
+  pub cause : HasLoadCause old.files value.program (window_of value) end.answer
+  pub starts : StartsPartly value old.files new.files end.answer
+  pub called : CallsFront old.calls new.calls (before_session value)
+  pub untouched : IsUntouched old new
+  pub nothing : HasNoSession end
+
+-- A session of the program served, between the first and the last lines of its two files: one account of it, from which the bytes taken
+-- and passed follow, with the cause of the session's end behind it, and of which the headline is true. At an end the record and the report are whole.
+pub record HasServed (value : RunValue) (route : Route) (old new : Outside) (end : End) : Type 0 where
+  pub image : Image
+  pub program : HasImage old.files value.program (window_of value) image
+  pub files_started : Option Contents
+  pub files_served : Option Contents
+  pub why : Stop
+  pub starts : StartsFiles value old.files files_started (Ok tt)
+  pub noted : ServesNoted (rules_of_run value) (keeping_for (options_of value)) image value route (record old { files = files_started }) (record new { files = files_served }) (record { stop = why; recorded = end.recorded; tail = end.tail; taken = end.taken; steps = end.steps })
+  pub closes : ClosesFiles value end.taken end.steps files_served new.files (answer_of why) end.answer
+  pub called : CallsServed value old.calls new.calls (answer_of why) end.answer
+  pub texts : IsEnd end.answer → HaveTexts value noted.choices noted.episodes end.answer end.taken end.steps old.files new.files
+  pub headline : Headline (rules_of_run value) image noted.serves.telling.account noted.choices route end

@@ -1,0 +1,110 @@
+// The command `serve`: a program is loaded, and serves the connections of a port.
+ghost use Rattle.std.specs.Prelude.{◌≡◌, ℕ, ◌+◌, ◌<◌, ◌≤◌, ◌^◌, List, Option};
+ghost use Rattle.command_line.specs.Commands.{run_shown, serve_shown};
+ghost use Rattle.command_line.specs.Ranges.{AreInRange};
+ghost use Rattle.elf_image.specs.declared.image.Image.{Image};
+ghost use Rattle.file_notes.specs.Calling.{AddsAlone};
+ghost use Rattle.file_notes.specs.Names.{AreTwo};
+ghost use Rattle.port_link.specs.Standing.{IsJustBound};
+ghost use Rattle.rx_io.specs.Outside.{Stream};
+ghost use Rattle.session_history.specs.Ends.{answer_of};
+ghost use Rattle.session_history.specs.declared.ends.Stop.{Stop};
+ghost use Rattle.session_state.specs.Options.{rules_of, keeping_for};
+ghost use Rattle.session_state.specs.Serving.{IsReadyToServe, outcome_of};
+ghost use Rattle.session_state.specs.Sessions.{IsBegun};
+ghost use Rattle.rx_serve.specs.Noting.{names_of, ServesNoted};
+ghost use Rattle.rx_serve.specs.Outside.{outside, faults, HasFaults};
+ghost use Rattle.rx_serve.specs.Route.{Port};
+ghost use Rattle.rx_serve.specs.Serving.{IsBindAnswer, ServeEnds};
+ghost use Rattle.rx_serve.specs.Status.{status_of};
+
+use crate::ending::End;
+use crate::noting::{end_notes, report_form};
+use crate::serving::begin_session;
+use command_line::ServeCommand;
+use file_notes::{FileNames, FileNotes};
+use guest_space::AccessRule;
+use over_port::serve_port;
+use run_history::Answer;
+use rx_engine::Session;
+use rx_io::{Files, IoFault, Listener, Steps};
+use std::alloc::Global;
+use std::sync::ledger::Ledger;
+
+// A port that couldn't be bound, as its answer.
+fn bind_answer(fault: IoFault) -> Answer
+    ensures { IsBindAnswer fault result }
+{
+    match fault {
+        IoFault::Failed => Answer::ReadFault,
+        IoFault::Memory => Answer::Memory,
+    }
+}
+
+// Serves the connections of a port that was just bound, and notes the answers of the allocator and the recoveries in both files.
+fn serve_port_noted<R: AccessRule, F: Files, E: Listener, L: Ledger>(
+    alloc: Global,
+    serve: &ServeCommand<'_>,
+    session: &mut Session<R>,
+    files: &mut F,
+    listener: &mut E,
+    steps: &mut Steps<L>,
+) -> Answer
+    requires two { AreTwo (names_of (run_shown serve.now.session)) }
+    requires begun { IsReadyToServe session.old }
+    requires conns { (1 ≤ serve.now.conns) × (serve.now.conns ≤ 4096) }
+    requires bound { IsJustBound (E.told listener.old) }
+    ensures serves { (input : Option Stream) (output : Option (List ℕ)) → (why : Stop) × (result ≡ answer_of why) × ((image : Image) → IsBegun image session.old.options session.old.cpu.rule session.old
+        → ServesNoted (rules_of session.old.options (R.rule session.old.cpu.rule)) (keeping_for session.old.options) image (run_shown serve.now.session) (Port serve.now.conns (E.told listener.old) (E.told listener.new)) (outside (F.told files.old) (F.calls files.old) input output steps.old) (outside (F.told files.new) (F.calls files.new) input output steps.new) (outcome_of why session.new)) }
+    ensures adds { AddsAlone (names_of (run_shown serve.now.session)) (F.calls files.old) (F.calls files.new) }
+    ensures later { F.faults files.old ≤ F.faults files.new }
+    ensures faults { (output : ℕ) → HasFaults (faults (F.faults files.old) (E.faults listener.old) output) (faults (F.faults files.new) (E.faults listener.new) output) result }
+    ensures counted_at_least { steps.old + session.new.steps ≤ steps.new }
+{
+    let names = FileNames {
+        record: serve.session.recording,
+        report: serve.session.report,
+    };
+    let mut notes = FileNotes::make(alloc, &mut *files, names, report_form(serve.session.form));
+    let conns = serve.conns as u16;
+    let answer = serve_port(alloc, session, listener, conns, &mut notes, steps);
+    let _ = notes.is_whole();
+    answer
+}
+
+/// Loads the program of a command and lets it serve the connections of a port, one after another, with a record and a report of it
+/// in two files. The port is bound once these have their first lines.
+pub fn serve_program<F: Files, N: Listener, L: Ledger>(
+    alloc: Global,
+    serve: &ServeCommand<'_>,
+    files: &mut F,
+    listener: &mut N,
+    steps: &mut Steps<L>,
+) -> End
+    requires in_range { AreInRange (run_shown serve.now.session) }
+    requires two { AreTwo (names_of (run_shown serve.now.session)) }
+    requires port { serve.now.port < 2 ^ 16 }
+    requires conns { (1 ≤ serve.now.conns) × (serve.now.conns ≤ 4096) }
+    ensures ends { (input : Option Stream) (output : Option (List ℕ)) → ServeEnds (serve_shown serve.now) (N.told listener.old) (N.told listener.new) (outside (F.told files.old) (F.calls files.old) input output steps.old) (outside (F.told files.new) (F.calls files.new) input output steps.new) result }
+    ensures faults { (output : ℕ) → HasFaults (faults (F.faults files.old) (N.faults listener.old) output) (faults (F.faults files.new) (N.faults listener.new) output) result.answer }
+    ensures status { result.status ≡ status_of result.answer }
+    ensures counted_at_least { steps.old + result.steps ≤ steps.new }
+{
+    let mut session = match begin_session(alloc, &serve.session, files) {
+        Ok(session) => session,
+        Err(answer) => return End::without_session(alloc, answer),
+    };
+    if let Err(fault) = listener.bind(serve.port as u16) {
+        return End::without_session(alloc, bind_answer(fault));
+    }
+    let ended = serve_port_noted(alloc, serve, &mut session, files, listener, steps);
+    let answer = end_notes(
+        alloc,
+        files,
+        &serve.session,
+        ended,
+        session.taken(),
+        session.steps(),
+    );
+    End::of_session(answer, session.into_end())
+}
