@@ -14,8 +14,8 @@ With --spoil, records at random, of both versions, are spoilt: a byte is changed
 cut, a number written otherwise, the file cut short. The line that rx refuses has to be that of the second reader; a record that still has a
 reading is replayed or converted in both.
 
-usage: compare_records.py (--sessions | --spoil) [--runs N] [--seed N] [RX]
-RX is the built rx, crates/rx/out/rx unless it is given. The status is 0 where none differs.
+usage: compare_records.py (--sessions [--no-guard] | --spoil) [--runs N] [--seed N] [RX]
+RX is the built rx, crates/rx/out/rx unless it is given. With --no-guard it knows no guard. The status is 0 where none differs.
 """
 
 import argparse
@@ -32,13 +32,14 @@ def main(words):
     what = parser.add_mutually_exclusive_group(required=True)
     what.add_argument("--sessions", action="store_true")
     what.add_argument("--spoil", action="store_true")
+    parser.add_argument("--no-guard", action="store_true")
     parser.add_argument("--runs", type=int, default=1000)
     parser.add_argument("--seed", type=int, default=1)
     parser.add_argument("rx", nargs="?", default=os.path.join(HERE, "..", "crates", "rx", "out", "rx"))
     asked = parser.parse_args(words)
     rx = os.path.abspath(asked.rx)
     if asked.sessions:
-        return spoilt_records.compare_replays(rx, asked.runs, asked.seed)
+        return spoilt_records.compare_replays(rx, asked.runs, asked.seed, not asked.no_guard)
     return spoilt_records.compare_readings(rx, asked.runs, asked.seed)
 
 

@@ -1,11 +1,12 @@
 #!/usr/bin/env python3
-"""Runs a program as `rx run` does, in the second engine (compare/second) in place of rx.
+"""Runs a program as `rx run` or `rx diagnose` does, in the second engine (compare/second) in place of rx.
 
-Standard input, standard output, the record, the report and the status are those of rx. The program has to be one that rx takes:
+Standard input, standard output, the record, the report, the diagnosis and the status are those of rx. The program has to be one that rx takes:
 that isn't looked at here. Options that aren't given have the values that rx gives them. All of the input is read at once.
 
 usage: run_second.py run PROGRAM --record RECORD --report REPORT [--form text|json] [--frame line|length|whole] [--window MIB] [--hold N]
-                         [--ring N] [--every N] [--frames N] [--budget N]
+                         [--ring N] [--every N] [--frames N] [--budget N] [--guard off|extent|block]
+       run_second.py diagnose PROGRAM --record RECORD --report REPORT --diagnosis DIAGNOSIS, with the options of run
 """
 
 import argparse
@@ -18,6 +19,7 @@ sys.path.insert(0, os.path.join(HERE, "..", "compare"))
 
 # pylint: disable=wrong-import-position
 from second.command import run  # noqa: E402
+from second.guard import MODES  # noqa: E402
 from second.items import FRAMINGS  # noqa: E402
 from second.machine import Image, MIB  # noqa: E402
 from second.outside import MemoryFiles, MemorySink, MemorySource  # noqa: E402
@@ -42,28 +44,34 @@ def image_of(file, window=4 * MIB):
 def words_of(words):
     defaults = Options()
     parser = argparse.ArgumentParser(prog="run_second.py", allow_abbrev=False)
-    parser.add_argument("command", choices=["run"])
+    parser.add_argument("command", choices=["run", "diagnose"])
     parser.add_argument("program")
     parser.add_argument("--record", required=True)
     parser.add_argument("--report", required=True)
+    parser.add_argument("--diagnosis")
+    parser.add_argument("--guard", choices=MODES, default=defaults.guard)
     parser.add_argument("--form", choices=[TEXT, JSON], default=TEXT)
     parser.add_argument("--frame", choices=sorted(FRAMINGS), default=defaults.frame)
     parser.add_argument("--window", type=int, default=defaults.window // MIB)
     for name in ("hold", "ring", "every", "frames", "budget"):
         parser.add_argument("--" + name, type=int, default=getattr(defaults, name))
-    return parser.parse_args(words)
+    asked = parser.parse_args(words)
+    if (asked.command == "diagnose") != (asked.diagnosis is not None):
+        parser.error("diagnose takes --diagnosis, and run doesn't")
+    return asked
 
 
 def main(words):
     asked = words_of(words)
     with open(asked.program, "rb") as file:
         image = image_of(file.read(), asked.window * MIB)
-    options = Options(image.window, asked.frame, asked.hold, asked.ring, asked.every, asked.frames, asked.budget)
+    options = Options(image.window, asked.frame, asked.hold, asked.ring, asked.every, asked.frames, asked.budget, asked.guard)
     sink, files = MemorySink(), MemoryFiles({"p": b""})
-    done = run(image, MemorySource(sys.stdin.buffer.read()), sink, options, files, asked.form)
-    for path, name in ((asked.record, "r"), (asked.report, "t")):
-        with open(path, "wb") as file:
-            file.write(files.files[name])
+    done = run(image, MemorySource(sys.stdin.buffer.read()), sink, options, files, asked.form, asked.diagnosis is not None)
+    for path, name in ((asked.record, "r"), (asked.report, "t"), (asked.diagnosis, "d")):
+        if path is not None:
+            with open(path, "wb") as file:
+                file.write(files.files[name])
     sys.stdout.buffer.write(sink.content)
     if done.status:
         print(*done.answer, file=sys.stderr)

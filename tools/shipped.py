@@ -10,16 +10,21 @@ Behind a run that came to its end its record is replayed, `printf INPUT | rx rep
 replies were held back, they may come in another order, the same to each connection. Then it is converted, as it is and as version 1 says
 it, `printf INPUT | rx convert GUEST record new`. That has to give the record, both times.
 
-With --no-recovery the first failure has to be the end. Without it the values are those of an rx that recovers. With --no-replay nothing
-is replayed or converted, with --no-convert nothing is converted.
+With --diagnose those with a fault run once more by `rx diagnose`. Output, status, record and report have to be those of `rx run`, and the diagnosis has to
+be what stands here.
 
-usage: shipped.py [--no-recovery] [--no-replay | --no-convert] [RX]
+With --no-recovery the first failure has to be the end, and nothing is diagnosed. Without it the values are those of an rx that recovers.
+With --no-replay nothing is replayed or converted, with --no-convert nothing is converted, and with --no-guard no run has a guard. Only with
+--diagnose is anything diagnosed: `rx` has no such command yet.
+
+usage: shipped.py [--no-recovery] [--no-replay | --no-convert] [--diagnose] [--no-guard] [RX]
 RX is the built rx, crates/rx/out/rx unless it is given. The status is 0 where all runs are right.
 """
 
 import argparse
 import collections
 import os
+import re
 import subprocess
 import sys
 import tempfile
@@ -167,6 +172,84 @@ IN_C = [
     Run("C hopeless", "", lines_in(b"90 min in h\n", b"90 min in fortnights\n"), out((0, b"1.50 h\n")), gave_up(3, "BadAccess")),
 ]
 
+# -- with a guard
+
+
+def guarded(run, mode, *values):
+    """The same run with a guard, and its values: output and answer, and where they are others those of an rx that recovers."""
+    output, answer, recovers = (*values, None, None, None)[:3] if values else run[3:]
+    return Run(run.guest, ("--guard %s %s" % (mode, run.options)).strip(), run.stream, output, answer, recovers)
+
+
+OF_C = {run.guest[2:]: run for run in IN_C}
+HALL_1 = out((0, b"hall: users 1\n"))
+LONG_LINE = [run for run in WITH_FAULT if run.guest == "overflow"][1]
+STALE = [run for run in WITH_FAULT if run.guest == "stale"][0]
+TOLD_OVER = [run for run in WITH_FAULT if run.guest == "tell_over"]
+
+# In the heap a block stands beside the next one, so it is mostly padding, or a freed block behind which nothing stands, that lets a guard see
+# an access. With that of blocks what a trial makes harmless is refused there.
+GUARDED = [
+    guarded(LONG_LINE, "extent", out((0, b"hi\n")), gave_up(3, "BadAccess"), LONG_LINE.recovers),
+    guarded(LONG_LINE, "block", out((0, b"hi\n")), gave_up(3, "BadAccess")),
+    guarded(STALE, "extent"),
+    guarded(STALE, "block", out((0, b"a\n")), gave_up(3, "AssertFailed 3")),
+    guarded(TOLD_OVER[0], "extent", out((0, told(HEAP))), gave_up(2, "BadAccess")),
+    guarded(TOLD_OVER[1], "extent", out((0, told(HEAP))), gave_up(2, "BadAccess"), TOLD_OVER[1].recovers),
+    *[guarded(OF_C[name], mode) for name in ("echo", "upper", "store", "http", "hopeless") for mode in ("extent", "block")],
+    *[guarded(OF_C[name], "extent") for name in ("overrun", "moved", "board")],
+    guarded(OF_C["overrun"], "block", SAW, gave_up(3, "AssertFailed 1")),
+    # who enters a room twice is told of it by memory that was freed
+    guarded(OF_C["dangling"], "extent", HALL_1, gave_up(3, "BadAccess"), OF_C["dangling"].recovers),
+    guarded(OF_C["dangling"], "block", HALL_1, gave_up(3, "BadAccess")),
+    guarded(OF_C["moved"], "block", FOUR, gave_up(3, "AssertFailed 1")),
+    *[guarded(OF_C["unset"], mode, NUMBERS, gave_up(5, "BadAccess"), OF_C["unset"].recovers) for mode in ("extent", "block")],
+    guarded(OF_C["board"], "block", b"", gave_up(2, "AssertFailed 1")),
+]
+
+# -- with a diagnosis
+
+# A run with one failure; for each checkpoint, from the newest, what comes of the five environments there; and the verdict. `s` is survived,
+# `=` the failure's own cause, `a` BadAccess, `f` AssertFailed 1, `c` Contradicts, `b` Behind.
+Diagnosed = collections.namedtuple("Diagnosed", "run rows verdict")
+RESULTS = {"s": "survived", "a": "BadAccess", "f": "AssertFailed 1", "c": "Contradicts", "b": "Behind"}
+ENVIRONMENTS = ("pad", "zero", "isolate", "delay", "all")
+FAULTY = {run.guest: run for run in WITH_FAULT + IN_C}
+GUARDS = {(run.guest, run.options.split()[1]): run for run in GUARDED}
+
+
+def same(newest, row):
+    return dict.fromkeys(range(newest, -1, -1), row)
+
+
+DIAGNOSES = [
+    Diagnosed(FAULTY["null"], same(1, "====="), "none"),
+    Diagnosed(LONG_LINE, same(2, "s===s"), "pad all"),
+    Diagnosed(FAULTY["unset"], same(1, "=s=ss"), "zero delay all"),
+    Diagnosed(FAULTY["twice"], same(1, "===ss"), "delay all"),
+    Diagnosed(STALE, {2: "=====", 1: "===ss", 0: "===ss"}, "delay all"),
+    Diagnosed(FAULTY["stale_grow"], same(1, "===ss"), "delay all"),
+    Diagnosed(FAULTY["tell_free"], same(1, "c=csc"), "delay"),
+    Diagnosed(TOLD_OVER[0], same(1, "c=c=c"), "none"),
+    Diagnosed(TOLD_OVER[1], same(1, "s===s"), "pad all"),
+    Diagnosed(FAULTY["late"], {1: "b=bsb", 0: "===bb"}, "delay"),
+    Diagnosed(FAULTY["pair"], {2: "c=csc", 1: "c=csc", 0: "===cc"}, "delay"),
+    Diagnosed(OF_C["overrun"], same(2, "s===s"), "pad all"),
+    Diagnosed(OF_C["dangling"], {4: "=====", 3: "=====", **same(2, "===ss")}, "delay all"),
+    Diagnosed(OF_C["moved"], same(2, "===ss"), "delay all"),
+    Diagnosed(OF_C["unset"], {4: "=====", 3: "=ss=s", 2: "=ssss", 1: "=s=ss", 0: "=s=ss"}, "zero isolate all"),
+    Diagnosed(OF_C["board"], same(1, "s===s"), "pad all"),
+    Diagnosed(OF_C["hopeless"], same(2, "====="), "none"),
+    Diagnosed(GUARDS["overflow", "block"], same(2, "====="), "none"),
+    Diagnosed(GUARDS["C overrun", "block"], same(2, "a===a"), "none"),
+    Diagnosed(GUARDS["C dangling", "extent"], same(2, "===ss"), "delay all"),
+    Diagnosed(GUARDS["C dangling", "block"], same(2, "====="), "none"),
+    Diagnosed(GUARDS["C moved", "block"], same(2, "===aa"), "none"),
+    Diagnosed(GUARDS["C unset", "block"], {4: "=====", 3: "=ss=s", 2: "=ssss", 1: "=s=ss", 0: "=s=ss"}, "zero isolate all"),
+    Diagnosed(GUARDS["C unset", "extent"], {4: "=====", 3: "fss=s", 2: "fssss", 1: "=s=ss", 0: "=s=ss"}, "zero isolate all"),
+    Diagnosed(GUARDS["C hopeless", "block"], same(2, "====="), "none"),
+]
+
 RUNS = ECHO + REFUSED + WITHOUT_FAULT + WITH_FAULT + IN_C
 
 # Lines of the shell, their output and status. Names of guests are those of the assembled ones.
@@ -198,6 +281,39 @@ LINES = [
     # the program may stand anywhere, and a bound of each option is one of its values
     ("printf '\\1\\0\\0\\0\\0\\2\\0\\0\\2\\0hi' | \"$RX\" run --window 64 --report report --frame whole --hold 1000 echo --ring 16 --every 64 "
      "--frames 2 --budget 16777216 --form json --record record", b"\2\0\0\2\0hi", 0),
+    # no file becomes a descriptor that was closed: no reply stands in the report
+    ("printf '\\1\\0\\0\\0\\0\\2\\0\\0\\3\\0hi\\n' | \"$RX\" run echo %s >&-; status=$?; cat report; exit $status" % WORDS, b"rx report 1\n", 8),
+    ('"$RX" run echo %s <&-; status=$?; cat report; exit $status' % WORDS, b"rx report 1\n", 7),
+    ("printf '\\1\\0\\0\\0\\0\\2\\0\\0\\3\\0hi\\n' | \"$RX\" run echo %s 2>&- && tail -n +2 report | cut -c -13" % WORDS, b"\2\0\0\3\0hi\nend 0 taken 2\n", 0),
+    # two names of one file, by the name or by a link
+    ('cp echo prog; "$RX" run ./prog --record prog --report report < /dev/null; status=$?; cmp echo prog && exit $status', b"", 2),
+    ('ln -s prog link; "$RX" run prog --record record --report link < /dev/null; status=$?; cmp echo prog && exit $status', b"", 2),
+    ('ln prog hard; "$RX" run prog --record hard --report report < /dev/null; status=$?; cmp echo prog && exit $status', b"", 2),
+    ('rm -f r; "$RX" run echo --record r --report .//r < /dev/null; status=$?; test -e r || exit $status', b"", 2),
+    ('cp seven.s kept.s; "$RX" asm seven.s ./seven.s; status=$?; cmp kept.s seven.s && exit $status', b"", 2),
+    # a file that is there and is something else
+    ('cp echo other; "$RX" run echo --record other --report report < /dev/null; status=$?; cmp echo other && exit $status', b"", 9),
+    ('echo text > text; "$RX" run echo --record record --report text < /dev/null; status=$?; cat text; exit $status', b"text\n", 9),
+    ('"$RX" asm seven.s text; status=$?; cat text; exit $status', b"text\n", 9),
+    ('"$RX" run echo --record record --report report < /dev/null && "$RX" convert echo record text < /dev/null; status=$?; cat text; exit $status', b"text\n", 9),
+    # what was a record, a report or an executable is written over, and so is an empty file
+    (': > empty; "$RX" run echo --record record --report empty < /dev/null && "$RX" asm seven.s zero && cut -c -11 empty', b"rx report 1\nend 0 taken\n", 0),
+]
+
+WITH_GUARD = [
+    ('"$RX" run echo %s --guard on' % WORDS, b"", 2),
+    ('"$RX" run echo %s --guard' % WORDS, b"", 2),
+    ('"$RX" run echo %s --guard off --guard block' % WORDS, b"", 2),
+    ('"$RX" replay echo record --guard off', b"", 2),
+    ('"$RX" convert echo record new2 --guard off', b"", 2),
+]
+WITH_DIAGNOSIS = [
+    ('"$RX" diagnose echo %s' % WORDS, b"", 2),
+    ('"$RX" run echo %s --diagnosis diagnosis' % WORDS, b"", 2),
+    ('"$RX" diagnose echo %s --diagnosis record' % WORDS, b"", 2),
+    ('"$RX" diagnose echo %s --diagnosis report' % WORDS, b"", 2),
+    ('"$RX" diagnose echo %s --diagnosis echo' % WORDS, b"", 2),
+    ('"$RX" diagnose nothing %s --diagnosis untouched < /dev/null; status=$?; test -e untouched || exit $status' % WORDS, b"", 9),
 ]
 
 
@@ -219,6 +335,10 @@ class Shell:
     def run(self, line):
         done = subprocess.run(["sh", "-c", line], cwd=self.folder, env=dict(os.environ, RX=self.rx), capture_output=True, check=False)
         return done.stdout, done.returncode, done.stderr.decode(errors="replace")
+
+    def text(self, name):
+        with open(os.path.join(self.folder, name), encoding="utf-8") as file:
+            return file.read()
 
     def program(self, guest):
         """The program file of a guest; None where its text isn't assembled."""
@@ -255,6 +375,28 @@ def has_end(shell):
     """Whether the last run's record has its last line."""
     with open(os.path.join(shell.folder, "record"), "rb") as record:
         return b"\nend " in record.read()
+
+
+def diagnosis_of(diagnosed, report, status):
+    """The diagnosis that there should be, by what the report tells of the failure."""
+    failure, cause = re.search(r"(?m)^(failure .* cause (.+) at [0-9a-f]{8})$", report).groups()
+    entries = [(q, environment, RESULTS.get(letter, cause)) for q, row in diagnosed.rows.items() for environment, letter in zip(ENVIRONMENTS, row)]
+    tries = ["try %d checkpoint %d env %s result %s" % (number, *entry) for number, entry in enumerate(entries)]
+    return "\n".join(["rx diagnosis 1", failure, *tries, "verdict " + diagnosed.verdict, "end %d episodes 1" % status]) + "\n"
+
+
+def diagnosis_differs(shell, diagnosed):
+    """What differs where the run is diagnosed that was run last, and the line."""
+    run = diagnosed.run
+    line = 'printf %s | "$RX" diagnose %s --record record2 --diagnosis diagnosis --report report2 %s > output2' % (
+        quoted(run.stream), shell.program(run.guest), run.options)
+    came, status, said = shell.run(line + "; status=$?; for file in output record report; do cmp $file ${file}2; done; exit $status")
+    found = ["it isn't as without a diagnosis: %r" % came] if came else []
+    answer = run.recovers[1] if run.recovers else run.answer
+    if answer_of(status, said, BUDGET) != answer:
+        return found + ["answer %s in place of %s" % (answer_of(status, said, BUDGET), answer)], line
+    expected, ours = diagnosis_of(diagnosed, shell.text("report"), status), shell.text("diagnosis")
+    return found + ["diagnosis %s in place of %s" % (ours, expected)] * (ours != expected), line
 
 
 def replay_differs(shell, run):
@@ -296,33 +438,39 @@ def main(words):
     again = parser.add_mutually_exclusive_group()
     again.add_argument("--no-replay", action="store_true")
     again.add_argument("--no-convert", action="store_true")
+    parser.add_argument("--diagnose", action="store_true")
+    parser.add_argument("--no-guard", action="store_true")
     parser.add_argument("rx", nargs="?", default=os.path.join(TOP, "crates", "rx", "out", "rx"))
     asked = parser.parse_args(words)
-    right, wrong, replays = collections.Counter(), 0, 0
+    right, wrong, replays, diagnosed = collections.Counter(), 0, 0, 0
+    diagnoses = {diagnosis.run: diagnosis for diagnosis in DIAGNOSES}
     texts = {name[:-3] for name in os.listdir(FOLDER) if name.endswith(".rt")} - {"lib", "catalogue"}
     for guest in sorted(texts - {run.guest for run in RUNS}):
         wrong += 1
         print("%s: it has no run here" % guest)
     with tempfile.TemporaryDirectory() as folder:
         shell = Shell(os.path.abspath(asked.rx), folder)
-        for run in RUNS:
+        for run in RUNS if asked.no_guard else RUNS + GUARDED:
             found, line = differences(shell, run, not asked.no_recovery)
             if not (found or asked.no_replay) and has_end(shell):
                 replays += 1
                 tests = [replay_differs] if asked.no_convert else [replay_differs, conversion_differs]
                 found = [difference for difference in [test(shell, run) for test in tests] if difference]
+            if not (found or asked.no_recovery or not asked.diagnose) and run in diagnoses:
+                diagnosed += 1
+                found, line = diagnosis_differs(shell, diagnoses[run])
             right[run.guest] += not found
             wrong += bool(found)
             for difference in found:
                 print("%s: %s\n  %s" % (run.guest, difference, line))
-        for line in LINES:
+        for line in LINES + WITH_GUARD * (not asked.no_guard) + WITH_DIAGNOSIS * asked.diagnose:
             difference = line_differs(shell, *line)
             right["other lines"] += not difference
             wrong += bool(difference)
             if difference:
                 print("%s\n  %s" % (difference, line[0]))
     print(", ".join("%s %d" % pair for pair in sorted(right.items())))
-    print("%d runs are right, %d aren't; %d were replayed" % (sum(right.values()), wrong, replays))
+    print("%d runs are right, %d aren't; %d were replayed, %d diagnosed" % (sum(right.values()), wrong, replays, diagnosed))
     return 1 if wrong else 0
 
 

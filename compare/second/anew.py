@@ -48,7 +48,8 @@ def go_on(machine, items, steps, adoptions=()):
 
 
 def served_machine(session, adoptions):
-    machine = Machine(session.image, session.options.budget, Heap(session.image.heap_start, session.image.heap_end))
+    machine = Machine(session.image, session.options.budget, Heap(session.image.heap_start, session.image.heap_end),
+                      guard=session.options.guard)
     machine.environment = environment_at(adoptions, 0)
     return machine
 

@@ -2,8 +2,8 @@
 
 Programs, inputs and options are those of `self_check`, over a trunk and with no failing call. The words of the command stand in any
 order, and some options are left out. Output, status and what standard error tells of the answer are compared, and of an rx that
-writes them the record and the report too, byte for byte. In some sessions the client waits behind each frame, and it is compared too
-what has come by then.
+writes them the record and the report too, byte for byte; of `rx diagnose` the diagnosis as well. In some sessions the client waits behind
+each frame, and it is compared too what has come by then.
 """
 
 import collections
@@ -16,28 +16,35 @@ import tempfile
 
 from second import inputs, patient, programs, trunk, wild
 from second.command import run_session
+from second.diagnosis import verdict
+from second.instructions import BAD_ACCESS, Failure
 from second.machine import Image, MIB, executable
 from second.outside import MemoryFiles, MemorySink, MemorySource
 from second.said import answer_of, is_told
 from second.self_check import Counts, HeapWriter, KINDS, lacking
 from second.session import Options, Session
 
-OPTIONS = ("frame", "budget", "window", "hold", "ring", "every", "frames")
+OPTIONS = ("frame", "budget", "window", "hold", "ring", "every", "frames", "guard")
 NEVER = 1 << 40  # more items than a session has
-FILES = {"r": "record", "t": "report"}
+FILES = {"r": "record", "t": "report", "d": "diagnosis"}
 
-Rx = collections.namedtuple("Rx", "path recovers writes_files")
+Rx = collections.namedtuple("Rx", "path recovers writes_files guards", defaults=(True,))
 
 
 class NotedSession(Session):
-    """A session that notes whether frames were too few for a checkpoint, and in how many trials a block got another size."""
+    """A session that notes whether frames were too few for a checkpoint, in how many trials a block got another size, and how many of
+    its failures come of the guard alone."""
 
-    left_by_frames, resized = False, 0
+    left_by_frames, resized, guarded = False, 0, 0
 
     def attempt(self, checkpoint, environment, point):
         trial, result = super().attempt(checkpoint, environment, point)
         self.resized += any(choice.ask.replaced for choice in trial.choices[len(checkpoint.machine.choices):])
         return trial, result
+
+    def recover(self, cause):
+        self.guarded += cause == BAD_ACCESS and is_of_guard(self.survivor)
+        return super().recover(cause)
 
     def is_full(self):
         full = super().is_full()
@@ -45,14 +52,30 @@ class NotedSession(Session):
         return full
 
 
-class Pair:
-    """A session at random, for both. `is_wild` says that the program is made of random words, `is_long` that there are many messages."""
+def is_of_guard(machine):
+    """Whether a machine at a bad access would go on without its guard."""
+    machine = machine.copy()
+    machine.memory.guard = None
+    try:
+        machine.step()
+    except Failure:
+        return False
+    return True
 
-    def __init__(self, seed, rx, is_wild, is_long):
+
+class Pair:
+    """A session at random, for both. `is_wild` says that the program is made of random words, `is_long` that there are many messages, and
+    `diagnoses` that each failure is diagnosed."""
+
+    diagnoses = False
+
+    def __init__(self, seed, rx, is_wild, is_long, diagnoses=False):
         rng = self.rng = random.Random(seed)
-        self.rx, self.options = rx, Options()
+        self.rx, self.options, self.diagnoses = rx, Options(), diagnoses
         drawn = inputs.wide_options(rng) if is_long else inputs.some_options(rng)
         self.given = {name: getattr(drawn, name) for name in OPTIONS if rng.random() < 0.85}
+        if not rx.guards:
+            self.given.pop("guard", None)
         for name, value in self.given.items():
             setattr(self.options, name, value)
         self.form = rng.choice(["text", "json"])
@@ -74,15 +97,18 @@ class Pair:
         parts += [["--" + name, str(value // MIB if name == "window" else value)] for name, value in self.given.items()]
         if self.form != "text" or self.rng.random() < 0.5:
             parts.append(["--form", self.form])
+        if self.diagnoses:
+            parts.append(["--diagnosis", "d"])
         self.rng.shuffle(parts)
-        return ["run"] + [word for part in parts for word in part]
+        return ["diagnose" if self.diagnoses else "run"] + [word for part in parts for word in part]
 
     def in_second_engine(self):
         """What came of it, and the files."""
         options = self.options if self.rx.recovers else dataclasses.replace(self.options, table=(), every=NEVER)
         files = MemoryFiles({"p": b""})
         link = patient.WatchedLink(MemorySource(self.stream), MemorySink())
-        return run_session(Image(*self.segments, options.window), options, link, files, self.form, NotedSession), files.files
+        image = Image(*self.segments, options.window)
+        return run_session(image, options, link, files, self.form, NotedSession, self.diagnoses), files.files
 
     def in_rx(self, folder, given):
         """What it wrote, its status, standard error, and what came at a wrong time; the files stay in the folder."""
@@ -108,7 +134,7 @@ class Pair:
             if status != done.status or not is_told(done.answer, told):
                 found.append("answer: %s in place of %s" % (told, done.answer))
             for name in FILES if self.rx.writes_files else ():
-                if content_of(os.path.join(folder, name)) != files[name]:
+                if content_of(os.path.join(folder, name)) != files.get(name):
                     found.append(FILES[name])
         return done, found
 
@@ -128,7 +154,7 @@ class Seen:
 
     def __init__(self, recovers):
         self.answers, self.causes, self.sums = collections.Counter(), collections.Counter(), collections.Counter()
-        self.recovers, self.recoveries = recovers, Counts()
+        self.recovers, self.recoveries, self.verdicts = recovers, Counts(), collections.Counter()
 
     def session(self, pair, done):
         answer, machine, link = done.answer, done.session.survivor, done.session.link
@@ -142,24 +168,29 @@ class Seen:
                           "sessions that send where a block stands": tells, "sessions with a hold": done.session.options.hold > 0,
                           "sessions with waits": pair.is_patient})
         self.recoveries.choices(machine.choices)
+        self.recoveries.of["guards"][done.session.options.guard] += 1
         if self.recovers:
             self.recovery(done.session)
 
     def recovery(self, session):
         episodes = session.notes.episodes
-        self.sums.update({"episodes": len(episodes), "sessions with an episode": bool(episodes), "sessions with several": len(episodes) > 1,
+        self.sums.update({"episodes": len(episodes), "failures by a guard alone": session.guarded,
+                          "sessions with an episode": bool(episodes), "sessions with several": len(episodes) > 1,
                           "sessions whose frames dropped a checkpoint": session.left_by_frames,
                           "trials with a block of another size": session.resized,
                           "sessions with such a trial": session.resized > 0})
         for episode in episodes:
             self.recoveries.episode(episode)
+        for table in session.tables or ():
+            self.verdicts[" ".join(verdict(table)) or "none"] += 1
+            self.sums["tries of tables"] += len(table)
 
     def lines(self):
         counters = {"answers": self.answers, "causes": self.causes, "choices": self.recoveries.of["choices"]}
         if self.recovers:
             counters = {"answers": self.answers, **self.recoveries.of}  # the causes are those of all failures
         found = ["%s: %s" % (name, ", ".join("%s %d" % pair for pair in sorted(counter.items())))
-                 for name, counter in (*counters.items(), ("sums", self.sums))]
+                 for name, counter in (*counters.items(), ("verdicts", self.verdicts), ("sums", self.sums)) if counter]
         missing = lacking({name: KINDS[name] for name in counters}, counters)
         # a session of a million items or of a fault outside isn't among these
         apart = ("LimitItems", "LimitEvents", "ReadFault", "WriteFault", "FileFault")
@@ -167,11 +198,11 @@ class Seen:
         return found + ["not seen: " + ", ".join(missing)] * bool(missing)
 
 
-def compare(rx, runs, seed, is_wild=False, is_long=False):
+def compare(rx, runs, seed, is_wild=False, is_long=False, diagnoses=False):
     """Compares so many sessions; how many differ."""
     seen, wrong = Seen(rx.recovers), 0
     for number in range(runs):
-        pair = Pair("%d %d" % (seed, number), rx, is_wild, is_long)
+        pair = Pair("%d %d" % (seed, number), rx, is_wild, is_long, diagnoses)
         done, found = pair.differences()
         seen.session(pair, done)
         if found:

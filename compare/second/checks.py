@@ -42,13 +42,13 @@ def lines_in(*lines, connection=0):
 class Ran:
     """A guest that was run over a trunk, with its output and files."""
 
-    def __init__(self, guest, stream, form="text", source=None, sink=None, files=None, **options):
+    def __init__(self, guest, stream, form="text", source=None, sink=None, files=None, diagnoses=False, **options):
         options.setdefault("window", 4 * MIB)
         image = guest if not isinstance(guest, str) else guests.image(guest, options["window"])
         self.source = source or MemorySource(stream)
         self.sink = sink or MemorySink()
         self.files = files or MemoryFiles({"p": b""})
-        self.done = run(image, self.source, self.sink, Options(**options), self.files, form)
+        self.done = run(image, self.source, self.sink, Options(**options), self.files, form, diagnoses)
         self.output = self.sink.content
         self.heap = image.heap_start
 
@@ -59,6 +59,10 @@ class Ran:
     @property
     def report(self):
         return self.files.files["t"].decode()
+
+    @property
+    def diagnosis(self):
+        return self.files.files["d"].decode()
 
     @property
     def episodes(self):

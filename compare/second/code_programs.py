@@ -265,7 +265,7 @@ PROGRAMS = {
     "stores into shared pages": program(SHARES),
     "a block that was never written": program(UNSET),
 }
-OPTIONS = [{}, {"every": 1}, {"every": 1, "hold": 2}, {"ring": 2, "every": 2}, {"budget": 64}]
+OPTIONS = [{}, {"every": 1}, {"every": 1, "hold": 2}, {"ring": 2, "every": 2}, {"budget": 64}, {"guard": "extent"}, {"every": 1, "guard": "block"}]
 
 
 class CodePair(Pair):
@@ -281,7 +281,7 @@ def compare(rx):
     """Compares the session of each program with each of the options; how many differ."""
     wrong = runs = 0
     for name, segments in PROGRAMS.items():
-        for options in OPTIONS:
+        for options in OPTIONS if rx.guards else [options for options in OPTIONS if "guard" not in options]:
             pair, runs = CodePair(rx, segments, options), runs + 1
             found = pair.differences()[1]
             if found:

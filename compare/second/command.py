@@ -1,10 +1,10 @@
-"""The commands run, serve, replay, convert and drill over things in memory, in the order in which they touch files.
+"""The commands run, diagnose, serve, replay, convert and drill over things in memory, in the order in which they touch files.
 
 Written from the order of a command, the table of answers and statuses, the rules of a replay and of a conversion, and the drill's
 generator. What a program file or a line of words may be isn't looked at here.
 """
 
-from second import record, report
+from second import diagnosis, record, report
 from second.heap import Illegal
 from second.instructions import Failure
 from second.items import Items
@@ -24,17 +24,20 @@ def status_of(answer):
 
 
 class FileNotes:
-    """Adds choices to the record and episodes to the report."""
+    """Adds choices to the record and episodes to the report; and begins and ends the diagnosis, where it has a name."""
 
-    def __init__(self, files, record_name, report_name, form):
+    def __init__(self, files, record_name, report_name, form, diagnosis_name=None):
         self.files, self.record_name, self.report_name, self.form = files, record_name, report_name, form
-        self.episodes = []
+        self.diagnosis_name, self.episodes = diagnosis_name, []
 
     def start(self, options):
         self.files.start(self.record_name)
         self.files.add(self.record_name, record.head_line(options.window // MIB, options.frame))
         self.files.start(self.report_name)
         self.files.add(self.report_name, report.head_text(self.form))
+        if self.diagnosis_name:
+            self.files.start(self.diagnosis_name)
+            self.files.add(self.diagnosis_name, diagnosis.HEAD)
 
     def choices(self, choices):
         self.files.add(self.record_name, record.choice_lines(choices))
@@ -51,6 +54,8 @@ class FileNotes:
             session.recorded += len(tail)
         self.files.add(self.record_name, record.end_line(steps, taken))
         self.files.add(self.report_name, report.end_text(status_of(answer), taken, steps, self.form))
+        if self.diagnosis_name:
+            self.files.add(self.diagnosis_name, diagnosis.rest_text(self.episodes, session.tables, status_of(answer)))
 
 
 class Done:
@@ -61,14 +66,15 @@ class Done:
         self.recorded, self.tail, self.steps, self.taken = session.left() if session else (0, [], 0, 0)
 
 
-def run_session(image, options, link, files, form="text", make=Session):
-    """A session with its files: the program was loaded. `make` makes the session."""
-    notes = FileNotes(files, "r", "t", form)
+def run_session(image, options, link, files, form="text", make=Session, diagnoses=False):
+    """A session with its files: the program was loaded. `make` makes the session. Where it `diagnoses`, a third file is "d"."""
+    notes = FileNotes(files, "r", "t", form, "d" if diagnoses else None)
     try:
         notes.start(options)
     except FileFault:
         return Done(("FileFault",))
     session = make(image, options, link, notes)
+    session.tables = [] if diagnoses else None
     answer = session.serve()
     if answer[0] in ENDS:
         try:
@@ -78,14 +84,14 @@ def run_session(image, options, link, files, form="text", make=Session):
     return Done(answer, session)
 
 
-def run(image, source, sink, options=None, files=None, form="text"):
-    """The command run, with the program as "p", the record as "r" and the report as "t"."""
+def run(image, source, sink, options=None, files=None, form="text", diagnoses=False):
+    """The command run, with the program as "p", the record as "r" and the report as "t"; or diagnose, with the diagnosis as "d"."""
     files = files if files is not None else MemoryFiles({"p": b""})
     try:
         files.load("p")
     except FileFault:
         return Done(("FileFault",))
-    return run_session(image, options or Options(), TrunkLink(source, sink), files, form)
+    return run_session(image, options or Options(), TrunkLink(source, sink), files, form, diagnoses=diagnoses)
 
 
 def serve(image, listener, count, options=None):

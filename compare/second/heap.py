@@ -124,6 +124,22 @@ class Heap:
         self.put(start, start + length, Block(start + side, size, True))
         return start + side
 
+    def standing(self, at):
+        """Which block has the byte in its extent, or None."""
+        i = bisect.bisect_right(self.starts, at) - 1
+        return i if i >= 0 and at < self.ends[i] else None
+
+    def is_in_extent(self, at, end):
+        """Whether the bytes lie in the extent of one block."""
+        i = self.standing(at)
+        return i is not None and end <= self.ends[i]
+
+    def is_in_live_block(self, at, end):
+        """Whether the bytes lie in those of one live block, without its padding."""
+        i = self.standing(at)
+        block = None if i is None else self.blocks[i]
+        return block is not None and block.live and block.at <= at and end <= block.at + reserved(block.size)
+
     def live_size(self, at):
         """The size of the live block at an address, or None."""
         block = self.find(at)
@@ -176,6 +192,9 @@ class RecordedHeap:
 
     def live_size(self, at):
         return self.live.get(at)
+
+    def is_in_live_block(self, at, end):
+        return any(block <= at and end <= block + reserved(size) for block, size in self.live.items())
 
     def is_clear(self, at, size):
         """Whether a block may stand there; one of size 0 counts as one byte."""

@@ -4,6 +4,7 @@ import dataclasses
 import struct
 
 from second import trunk
+from second.guard import BLOCK, EXTENT, OFF
 from second.items import FRAMINGS, LENGTH, LINE
 from second.machine import MIB
 from second.session import Options
@@ -151,7 +152,8 @@ def some_options(rng):
         ring=rng.choice([1, 2, 3, 4, 8, 16]),
         every=rng.choice([1, 1, 1, 2, 3, 10]),
         frames=rng.choice([2, 3, 3, 4, 16]),
-        budget=rng.choice([400, 2000, 5000, 5000, 5000, 20000]))
+        budget=rng.choice([400, 2000, 5000, 5000, 5000, 20000]),
+        guard=rng.choice([OFF, OFF, OFF, EXTENT, EXTENT, BLOCK]))
 
 
 def wide_options(rng):

@@ -6,6 +6,7 @@ and restored by running a copy of the copy.
 
 import struct
 
+from second.guard import OFF, guard_of
 from second.heap import BadFree, Heap, PLAIN, RecordedHeap, calloc_of, malloc_of, realloc_of
 from second.instructions import (
     BAD_ACCESS, BAD_CALL, BAD_FREE, CALLS, EXECUTE, Failure, HANG, MASK, READ, WRITE, action_of, assert_failed)
@@ -43,11 +44,13 @@ class Image:
 class Memory:
     """Areas with permissions over pages of bytes. A page that isn't there is zeros."""
 
+    guard = None  # which accesses of the heap are permitted, where not all are
+
     def __init__(self, areas):
         self.areas, self.pages, self.written = areas, {}, set()
 
     def copy(self):
-        """A copy of the contents; no page of it counts as written."""
+        """A copy of the contents; no page of it counts as written, and it has no guard."""
         other = Memory(self.areas)
         other.pages = {number: bytearray(page) for number, page in self.pages.items()}
         return other
@@ -91,27 +94,37 @@ class Memory:
             self.written.add(number)
             done += last - first
 
-    def load(self, at, length, permission=READ):
-        if not self.permits(at, length, permission):
+    def access(self, at, length, permission):
+        """Refuses an access that the areas or the guard don't permit."""
+        if not self.permits(at, length, permission) or self.guard and not self.guard.permits(at, length):
             raise Failure(BAD_ACCESS)
+
+    def load(self, at, length):
+        self.access(at, length, READ)
         return self.read(at, length)
 
     def store(self, at, content):
-        if not self.permits(at, len(content), WRITE):
-            raise Failure(BAD_ACCESS)
+        self.access(at, len(content), WRITE)
         self.write(at, content)
+
+    def fetched(self, at):
+        """The word of an instruction. A fetch is no access to the guard."""
+        if not self.permits(at, 4, EXECUTE):
+            raise Failure(BAD_ACCESS)
+        return int.from_bytes(self.read(at, 4), "little")
 
 
 class Machine:
     """A machine at the start of its program."""
 
-    def __init__(self, image, budget, heap=None, calls=ALL_CALLS):
-        self.image, self.budget, self.calls = image, budget, calls
+    def __init__(self, image, budget, heap=None, calls=ALL_CALLS, guard=OFF):
+        self.image, self.budget, self.calls, self.guard = image, budget, calls, guard
         self.memory = Memory(image.areas)
         for at, content, _ in image.segments:
             self.memory.write(at, content)
         self.memory.written = set()
         self.heap = heap or Heap(image.heap_start, image.heap_end)
+        self.memory.guard = guard_of(guard, self.heap)
         self.environment = PLAIN
         self.x = [0] * 33  # the last one takes what is written to x0
         self.x[2] = image.stack_top & MASK
@@ -126,6 +139,7 @@ class Machine:
         other = Machine.__new__(Machine)
         other.__dict__.update(self.__dict__)
         other.memory, other.heap = self.memory.copy(), self.heap.copy()
+        other.memory.guard = guard_of(self.guard, other.heap)
         other.x, other.connections = list(self.x), set(self.connections)
         other.sends, other.emitted, other.choices = list(self.sends), dict(self.emitted), list(self.choices)
         return other
@@ -140,7 +154,7 @@ class Machine:
     def fetch(self):
         action = self.image.code.get(self.pc)
         if action is None:
-            action = action_of(int.from_bytes(self.memory.load(self.pc, 4, EXECUTE), "little"))
+            action = action_of(self.memory.fetched(self.pc))
             if self.image.keeps_code:
                 self.image.code[self.pc] = action
         return action
@@ -190,8 +204,7 @@ class Machine:
         if number not in self.calls:
             raise Failure(BAD_CALL)
         if number == RECV:
-            if not self.memory.permits(a0, a1, WRITE):
-                raise Failure(BAD_ACCESS)
+            self.memory.access(a0, a1, WRITE)
             return ("asks",)
         event = None
         if number == SEND:
@@ -262,9 +275,9 @@ class Machine:
             raise Failure(BAD_FREE) from None
 
 
-def recorded_machine(image, choices):
-    """A machine at its start whose blocks stand where a list says, without a budget."""
-    return Machine(image, 1 << 63, RecordedHeap(image.heap_start, image.heap_end, choices))
+def recorded_machine(image, choices, guard=OFF):
+    """A machine at its start whose blocks stand where a list says, without a budget. A guard may be BLOCK."""
+    return Machine(image, 1 << 63, RecordedHeap(image.heap_start, image.heap_end, choices), guard=guard)
 
 
 def executable(segments, entry):

@@ -9,7 +9,8 @@ s0 to s3 are the item's length, connection, kind and number; s4 is its first byt
 piece of work.
 """
 
-from second.assembler import assemble
+from second.assembler import PAGE, assemble
+from second.heap import PADDING, reserved
 
 BUFFER = 256
 SLOTS = 6
@@ -395,6 +396,38 @@ class Author:
         self.free("s6")
         self.add(done + ":")
 
+    # -- faults that a guard alone may see
+
+    def touch(self, register, offset):
+        """Loads, stores, sends or receives some bytes at an offset of a register."""
+        kind = self.rng.random()
+        if kind < 0.4:
+            self.add("%s t0, %d(%s)" % (self.rng.choice(["lb", "lbu", "lh", "lhu", "lw", "lw"]), offset, register), "add s5, s5, t0")
+        elif kind < 0.75:
+            self.add("%s s3, %d(%s)" % (self.rng.choice(["sb", "sh", "sw", "sw"]), offset, register))
+        elif kind < 0.9:
+            self.add("addi s7, %s, %d" % (register, offset))
+            self.send(self.connection(), "s7", self.rng.choice([0, 1, 4, 8, 300]))
+        else:
+            self.add("addi a0, %s, %d" % (register, offset), "li a1, %d" % self.rng.choice([0, 1, 4, 8, 300]))
+            self.call(1)
+
+    def edge(self):
+        """Touches bytes at an edge of a block, of the bytes that it has, or of its padding; it may be freed before."""
+        size, freed = self.size(), self.rng.random() < 0.3
+        self.allocate(size, "s6")
+        if freed:
+            self.free("s6")
+        edges = [0, 0, size, reserved(size), reserved(size), -PADDING, reserved(size) + PADDING]
+        self.touch("s6", self.rng.choice(edges) + self.rng.choice([-5, -4, -3, -2, -1, 0, 1, 4]))
+        if not freed:
+            self.free("s6")
+
+    def seam(self):
+        """Touches bytes at the end of the data, behind which the heap begins."""
+        self.add("la s6, seam")
+        self.touch("s6", self.rng.choice([0, 1, 2, 3, 4]))
+
     # -- faults that show at a later item
 
     def spoil(self, kind):
@@ -479,7 +512,8 @@ class Author:
              "grow_too_much", "use_zeros", "resize", "resize_to_nothing", "resize_slot", "resize_pages", "append"]
     FAULTS = ["overrun", "overrun", "overrun_and_twice", "overrun_and_twice", "unset", "unset", "unset_of_the_past", "twice", "stale",
               "write_at_old_place", "write_at_old_place", "same_place", "same_place", "free_slot", "test_slot",
-              "stale_grow", "stale_grow", "free_grown", "free_grown", "grow_twice", "unset_rest", "unset_rest", "overrun_shrunk"]
+              "stale_grow", "stale_grow", "free_grown", "free_grown", "grow_twice", "unset_rest", "unset_rest", "overrun_shrunk",
+              "edge", "edge", "edge", "seam"]
 
     def sometimes(self, work):
         """Does a piece of work for some items alone."""
@@ -537,6 +571,7 @@ class Author:
             self.sometimes("leave")
         self.add("j receive", ".data", "buffer:", ".space %d" % BUFFER, "slots:", ".space %d" % (4 * SLOTS))
         self.add("kept:", ".space 4", "told:", ".space 4", "far:", ".space 4", "lagging:", ".space 4", "grown:", ".space 8")
+        self.add(".space %d" % (PAGE - BUFFER - 4 * SLOTS - 28), "seam:", ".space 4")  # the data ends with its page
         return "\n".join(self.lines) + "\n"
 
 

@@ -1,7 +1,8 @@
 """What every session promises, as tests of a session that runs and of one that ended.
 
 While it runs, each attempt is run once more from the program's start instead of its checkpoint, the ring is found once more by such a
-run, and before each event and at each piece nothing may be owed but what is given. Afterwards the recorded run is run anew, on the
+run, and before each event and at each piece nothing may be owed but what is given. A whole table begins with the tries of the session's
+own walk. Afterwards the recorded run is run anew, on the
 received items and the recorded choices, and the served run, under the plan of environments. What clients were given is compared with
 these.
 """
@@ -12,6 +13,8 @@ import re
 from second import record, report, trunk
 from second.anew import go_on, must, result_anew, ring_anew, served_machine
 from second.command import ENDS, Done, convert, image_maker, replay
+from second.guard import BLOCK, OFF
+from second.heap import ENVIRONMENTS
 from second.items import Items, LINE, WHOLE
 from second.machine import MESSAGE, MIB, recorded_machine
 from second.outside import MemoryFiles, MemorySink, MemorySource, TrunkLink
@@ -73,6 +76,10 @@ class WatchedSession(Session):
         survived = super().recover(cause)
         tries = self.notes.episodes[-1].tries
         must([(tried.checkpoint, tried.environment) for tried in tries] == table[:len(tries)], "entries are tried in another order")
+        if self.tables is not None:
+            whole = self.tables[-1]
+            must([(tried.checkpoint, tried.environment) for tried in whole] == table, "a whole table has other entries")
+            must(whole[:len(tries)] == tries, "a whole table doesn't begin with the session's own tries")
         return survived
 
     def adopt(self, checkpoint, trial, environment, point):
@@ -128,7 +135,8 @@ def check_recorded_run(session, files, answer):
     must(len(choices) == recorded, "the record has another number of choices")
     head = record.head_line(session.options.window // MIB, session.options.frame)
     must(text.startswith(head + record.choice_lines(choices)), "the record doesn't begin with its head and choices")
-    machine = recorded_machine(session.image, choices + tail)
+    # by the guard of blocks each access has to be in a block that is live by what the record says, too
+    machine = recorded_machine(session.image, choices + tail, BLOCK if session.options.guard == BLOCK else OFF)
     go_on(machine, session.items.received, steps)
     must(machine.heap.used == len(machine.heap.choices) and machine.taken == taken, "the recorded run ends elsewhere")
     must(machine.state() == session.survivor.state(), "the recorded run's state differs")
@@ -240,6 +248,37 @@ def check_report(session, files, answer, form):
         must(files.files["t"] == text + report.end_text(done.status, session.survivor.taken, session.survivor.steps, form), "the report differs")
 
 
+DIAGNOSED = re.compile(r"rx diagnosis 1\n((?:.*\n)*)end (\d+) episodes (\d+)\n")
+FAILURE = re.compile(r"failure \d+ point \d+ cause .* at [0-9a-f]{8}\n")
+TRIED = re.compile(r"try (\d+) checkpoint (\d+) env (\w+) result (.*)\n")
+
+
+def check_diagnosis(session, files, answer, form):
+    """The diagnosis has the report's failures, the whole tables, and the verdicts that these give; behind a fault its first line alone."""
+    text = files.files["d"].decode()
+    if answer[0] not in ENDS:
+        must(text == "rx diagnosis 1\n" or answer == ("FileFault",), "a diagnosis goes on behind a fault")
+        return
+    match = DIAGNOSED.fullmatch(text)
+    must(match and match[2] == str(Done(answer).status) and int(match[3]) == len(session.tables), "the diagnosis has another form")
+    parts = re.split(r"(?m)^(?=failure )", match[1])[1:]
+    must(len(parts) == len(session.tables) == len(session.notes.episodes), "the diagnosis has other failures")
+    if form == report.TEXT:
+        must(FAILURE.findall(match[1]) == FAILURE.findall(files.files["t"].decode()), "the diagnosis' failures aren't the report's")
+    for part, whole in zip(parts, session.tables):
+        check_table(part, whole)
+
+
+def check_table(part, whole):
+    """The text of a failure and its whole table."""
+    tries = TRIED.findall(part)
+    must(tries == [(str(n), str(tried.checkpoint), tried.environment, tried.result) for n, tried in enumerate(whole)], "a table is told otherwise")
+    must(len(part.splitlines()) == len(tries) + 2 and FAILURE.match(part), "a failure is told otherwise")
+    survived = [(int(q), ENVIRONMENTS.index(e)) for _, q, e, result in tries if result == SURVIVED]
+    newest = sorted(e for q, e in survived if q == max(survived)[0])
+    must(part.endswith("\nverdict %s\n" % " ".join([ENVIRONMENTS[e] for e in newest] or ["none"])), "a verdict differs")
+
+
 def check_stream(session, stream, answer):
     """The events are those of the stream, and the answer is the one that the first refusal gives."""
     events, refusal = trunk.events(stream)
@@ -276,6 +315,8 @@ def check_session(session, answer, files, form, output, stream):
     check_feasible(session, machine)
     check_episodes(session, answer)
     check_report(session, files, answer, form)
+    if session.tables is not None:
+        check_diagnosis(session, files, answer, form)
     if stream is not None:
         check_stream(session, stream, answer)
     if stream is not None and answer[0] in ENDS:

@@ -50,6 +50,7 @@ def cause_of(sentence, budget):
 # The status, what the sentence has, and the answer that its match and the budget give.
 ENDS = [
     (3, r"isn't (?:replayed|converted): line (\d+) isn't of its form", lambda match, _: ("RecordRefused", int(match[1]))),
+    (3, r"isn't (?:replayed|converted): it ends before line (\d+)", lambda match, _: ("RecordRefused", int(match[1]))),
     (3, r"it went as recorded for (\d+) instructions", lambda match, _: ("Mismatch", int(match[1]))),
     (1, r"ended itself with the code (\d+)", lambda match, _: ("Exited", int(match[1]))),
     (4, r"frame at byte (\d+) is refused: (.*)", lambda match, _: ("InputRefused", the_one(FLAWS, match[2])[0], int(match[1]))),
@@ -59,7 +60,7 @@ ENDS = [
     (6, r"more than 4294967296 events", lambda *_: ("LimitEvents",)),
     (7, r"input can't be read", lambda *_: ("ReadFault",)),
     (8, r"output can't be written", lambda *_: ("WriteFault",)),
-    (9, r"can't be read", lambda *_: ("FileFault",)),
+    (9, r"(?:can't|couldn't) be (?:read|written)", lambda *_: ("FileFault",)),
 ]
 
 

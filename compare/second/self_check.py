@@ -8,6 +8,7 @@ import re
 from second import inputs, programs, trunk, wild
 from second.anew import Broken, must
 from second.command import run_session
+from second.guard import MODES
 from second.heap import ENVIRONMENTS
 from second.machine import Image
 from second.outside import MemoryFiles, MemoryLink, MemoryListener, MemorySink, MemorySource, PortLink, TrunkLink
@@ -110,20 +111,25 @@ class Some:
                 given[entry[1]] += entry[2]
         return given
 
-    def run(self, anew):
+    def run(self, anew, diagnoses):
         done = run_session(self.image, self.options, self.link, self.files, self.form,
-                           lambda *of_session: WatchedSession(*of_session, anew))
+                           lambda *of_session: WatchedSession(*of_session, anew), diagnoses)
         self.session, self.answer = done.session, done.answer
         if not self.session:
             must(self.answer == ("FileFault",), "no session, and no fault")
             return
         check_session(self.session, self.answer, self.files, self.form, self.output(), self.stream)
 
+    def came(self):
+        """What a client, and who reads the record and the report, sees of the session."""
+        return self.answer, dict(self.output()), self.files.files["r"], self.files.files["t"]
+
 
 KINDS = {
     "answers": ["Finished", "Exited", "GaveUp", "MessageTooLong", "LimitItems", "LimitEvents", "ReadFault", "WriteFault", "FileFault"] + [
         "InputRefused %d" % kind for kind in range(1, 7)],
     "causes": ["BadAccess", "BadJump", "BadInstruction", "AssertFailed", "Hang", "BadFree", "BadCall"],
+    "guards": MODES,
     "results of tries": [SURVIVED, CONTRADICTS, BEHIND],
     "choices": ["%s, %s" % pair for pair in itertools.product(["malloc", "calloc", "realloc of null", "realloc"], ["a block", "zeros", "null"])
                 if pair != ("calloc", "a block")],
@@ -150,8 +156,10 @@ class Counts:
         of["links"][type(some.link).__name__] += 1
         if not session:
             return
+        of["guards"][session.options.guard] += 1
         of["sessions"].update(name for name, holds in (
             ("with an episode", session.notes.episodes), ("with several", len(session.notes.episodes) > 1),
+            ("that are diagnosed", session.tables is not None),
             ("with held bytes", some.options.hold), ("whose frames dropped a checkpoint", session.left_by_frames),
             ("with a client gone", session.gone), ("with bytes past a close", self.unpassed(session))) if holds)
         of["sums"].update({"items": session.survivor.taken, "choices": len(session.survivor.choices),
@@ -186,14 +194,24 @@ class Counts:
         return found + ["not seen: %s" % ", ".join(missing)] * bool(missing)
 
 
+def check_undisturbed(some, seed):
+    """A session that was diagnosed went as without a diagnosis. A file's fault comes at another call."""
+    plain = Some(seed)
+    plain.run(False, False)
+    must(("FileFault",) in (some.answer, plain.answer) or some.came() == plain.came(), "a session goes otherwise where it is diagnosed")
+
+
 def check(runs, seed):
     """Checks so many sessions; how many break a promise."""
     counts, wrong = Counts(), 0
     for number in range(runs):
-        some = Some("%d %d" % (seed, number))
+        name, diagnoses = "%d %d" % (seed, number), number % 3 == 0
+        some = Some(name)
         try:
-            some.run(anew=number % 2 == 0)
+            some.run(number % 2 == 0, diagnoses)
             counts.session(some)
+            if diagnoses:
+                check_undisturbed(some, name)
         except Broken as broken:
             wrong += 1
             print("session %d of seed %d: %s" % (number, seed, broken))

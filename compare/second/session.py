@@ -10,6 +10,7 @@ import bisect
 import collections
 import dataclasses
 
+from second.guard import OFF
 from second.heap import ENVIRONMENTS, PLAIN
 from second.instructions import Failure
 from second.items import Items, LINE, MOST_EVENTS, MOST_ITEMS
@@ -37,6 +38,7 @@ class Options:
     every: int = 1
     frames: int = 4
     budget: int = 1_000_000
+    guard: str = OFF
     max_items: int = MOST_ITEMS
     max_events: int = MOST_EVENTS
     table: tuple = ENVIRONMENTS
@@ -114,7 +116,7 @@ class Session:
     def __init__(self, image, options, link, notes):
         self.image, self.options, self.link, self.notes = image, options, link, notes
         self.items = Items(options.frame, options.max_items, options.max_events)
-        self.survivor = Machine(image, options.budget)
+        self.survivor = Machine(image, options.budget, guard=options.guard)
         self.plan, self.passed = Plan(), Passed()
         self.ring = [Checkpoint(self.survivor.copy(), 0)]
         self.recorded, self.next_send = 0, 0
@@ -122,6 +124,7 @@ class Session:
         self.gone = set()
         self.journal = []  # ("event", event, refusal or None) and ("gave", connection, bytes, whether it is gone)
         self.steps_of_all = 0  # instructions of the survivors and of all tries
+        self.tables = None  # of each failure the tries of the whole table, where this is a list
 
     # -- the loop
 
@@ -254,6 +257,8 @@ class Session:
         """Tries the table. Whether an entry survived, which is the survivor then."""
         failed, tries, adopted = self.survivor, [], None
         self.steps_of_all += failed.steps - self.began
+        if self.tables is not None:
+            self.tables.append(self.whole_table(failed.taken))
         for checkpoint, environment in self.table():
             trial, result = self.attempt(checkpoint, environment, failed.taken)
             self.steps_of_all += trial.steps - checkpoint.machine.steps
@@ -265,6 +270,11 @@ class Session:
             self.adopt(adopted, trial, environment, failed.taken)
         self.notes.episode(Episode(failed.taken, cause, failed.pc, tries))
         return adopted is not None
+
+    def whole_table(self, point):
+        """The tries of all entries, each of them given up."""
+        return [Try(checkpoint.machine.taken, environment, self.attempt(checkpoint, environment, point)[1])
+                for checkpoint, environment in self.table()]
 
     began = 0  # instructions of the survivor before it became it
 

@@ -161,12 +161,12 @@ class Replays:
 
     NAMES = {"replay": "replays", "convert": "conversions"}
 
-    def __init__(self, rx, path):
-        self.rx, self.folder, self.counts = rx, Folder(rx, path), collections.defaultdict(Counted)
+    def __init__(self, rx, path, guards):
+        self.rx, self.folder, self.counts = beside_rx.Rx(rx, True, True, guards), Folder(rx, path), collections.defaultdict(Counted)
 
     def session(self, name):
         """Runs a session, and then its record again, as both versions say it, and something else."""
-        pair = KeptPair(name, beside_rx.Rx(self.rx, True, True))
+        pair = KeptPair(name, self.rx)
         done, found = pair.differences()
         if found or done.answer[0] not in ENDS:
             self.counts["sessions"].add(name, done.answer, found or ["it has no end"])
@@ -207,10 +207,10 @@ class KeptPair(beside_rx.Pair):
         return done, self.files
 
 
-def compare_replays(rx, runs, seed):
+def compare_replays(rx, runs, seed, guards=True):
     """Sessions, replays and conversions; how many differ."""
     with tempfile.TemporaryDirectory() as path:
-        replays = Replays(rx, path)
+        replays = Replays(rx, path, guards)
         for number in range(runs):
             replays.session("%d %d" % (seed, number))
     for name, counted in replays.counts.items():

@@ -1,6 +1,27 @@
 -- What a machine does at a call, by the call that its registers make and by what the check of its buffer says.
-use Rattle.call_gate.proofs.Terms.{Bool, Err, List, None, Ok, Option, Result, Some, ap, cond, eqb, false, inl, inr, ltb, not, refl, subst, sym, true, ℕ, ◌∙◌, ◌≡◌, cases_Bool, cond_both, eqb-true, true≢false, ◌&&◌, ◌||◌, ◌⊎◌, Item, Calloc, Malloc, Realloc, Choice, Heap, Area, bytes_at, permitted, read, write, Cause, AssertFailed, BadAccess, BadCall, allocation, answered, call, free, may_send, recv, send, takes, Effect, Emits, Ends, Fails, Goes, Machine, register, Allocate, Free, Limits, Nothing, Request, call_request, is_refused, Range, buffer, call_buffer, Call, called, Buffer, buffer_of, checked, is_permitted}
+use Rattle.std.proofs.Common.{Bool, Err, List, None, Ok, Option, Result, Some, ap, cond, eqb, false, inl, inr, ltb, not, refl, subst, sym, true, ℕ, ◌∙◌, ◌≡◌}
+use Rattle.std.proofs.lemmas.Bool.{cases_Bool, cond_both, eqb-true, true≢false}
+use Rattle.std.proofs.lemmas.Option.{none-some}
+use Rattle.std.specs.Prelude.{◌&&◌, ◌||◌, ◌⊎◌}
+use Rattle.rx_io.specs.declared.bytes.Item.{Item}
+use Rattle.block_book.specs.declared.choice.Ask.TheVariants.{Calloc, Malloc, Realloc}
+use Rattle.block_book.specs.declared.choice.Choice.{Choice}
+use Rattle.block_book.specs.Heap.{Heap}
+use Rattle.rv_isa.specs.declared.instr.Instr.{Instr}
+use Rattle.rv_isa.specs.declared.instr.Instr.TheVariants.{Ecall}
+use Rattle.rv_isa.specs.Table.{row}
+use Rattle.elf_image.specs.Memory.{Area, bytes_at, execute, permitted, read, write}
+use Rattle.run_history.specs.Run.{does, executed, instruction, word_at}
+use Rattle.run_history.specs.declared.answer.Cause.{Cause}
+use Rattle.run_history.specs.declared.answer.Cause.TheVariants.{AssertFailed, BadAccess, BadCall}
+use Rattle.run_history.specs.Call.{allocation, answered, call, free, may_send, recv, send, takes}
+use Rattle.run_history.specs.Machine.{Effect, Emits, Ends, Fails, Goes, Machine, register}
+use Rattle.run_history.specs.Served.{Allocate, Free, Limits, Nothing, Request, call_request, is_refused}
+use Rattle.run_history.specs.Touching.{Range, buffer, call_buffer, instruction_at}
+use Rattle.call_gate.specs.declared.call.Call.{Call}
 use Rattle.call_gate.specs.declared.call.Call.TheVariants as kind
+use Rattle.call_gate.specs.Calls.{called}
+use Rattle.call_gate.specs.Checks.{Buffer, buffer_of, checked, is_permitted}
 
 -- a machine at a call of a number: what it does, what it asks of the allocator, and which bytes it touches
 pub record Acts (n : ℕ) (m : Machine) (acts : Option Item → Option Choice → Effect) (request : Request) (range : Option Range) : Type 0 where
@@ -184,3 +205,19 @@ check_says limits heap m made result is h =
     let parts : is_permitted limits.permits heap m.memory (buffer_of m.connections made) ≡ (areas && not refused) =
     permitted_parts limits heap m.memory (buffer_of m.connections made) ∙ same in
     subst (CheckSays limits heap m made) (ap (λ may. cond may (Ok tt) (Err BadAccess)) (sym parts) ∙ h) (says_refused limits heap m made is areas refused refl refl)
+
+-- a check that allows isn't one that fails
+abbrev allowed : Result (Unit {0}) Cause
+allowed = Ok tt
+
+pub allowed_never : (cause : Cause) → allowed ≡ Err cause → ⊥
+allowed_never cause e = cc
+
+-- an ECALL that may be fetched is done by its number
+pub does_call : (m : Machine) (item : Option Item) (choice : Option Choice) → instruction_at m ≡ Some Ecall → does item choice m ≡ call (register m 17) item choice m
+unfolding does instruction_at instruction
+does_call m item choice is = of_row (permitted execute m.memory m.pc 4) (row (word_at m)) is
+  where
+    of_row : (may : Bool) (found : Option Instr) → cond may found None ≡ Some Ecall → cond may (executed found item choice m) (Fails BadAccess) ≡ call (register m 17) item choice m
+    of_row true found e = ap (λ f. executed f item choice m) e
+    of_row false found e = absurd (none-some Ecall e)

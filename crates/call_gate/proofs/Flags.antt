@@ -2,7 +2,11 @@
 use Rattle.std.proofs.lemmas.List.{length-replicate, ext_get_or, get_or-set_same, get_or-set_other, get_or-replicate, get_or_past, get_or_read}
 use Rattle.std.proofs.lemmas.List.FromFn.{length-map-range_with_len, get_or-map-range_with_len}
 use Rattle.std.proofs.lemmas.Nat.Bits.{bit_at-zero, shr_and_one, bit_at_set_same, bit_at_set_other, bit_at_clear_same, bit_at_clear_other}
-use Rattle.call_gate.proofs.Terms.{Bool, List, ap, arith, bit_and, bit_or, false, get_or, inl, inr, length, length-set, replicate, set, slice_get, sym, true, unwrap_or, w64, ℕ, ◌%◌, ◌*◌, ◌/◌, ◌<◌, ◌==◌, ◌^◌, ◌∙◌, ◌≡◌, ◌≢◌, ◌≤◌, cases_eq, unwrap_or-slice_get, bit_at, bit_not, flag_at, flags_of}
+use Rattle.std.proofs.Common.{Bool, List, ap, arith, bit_and, bit_or, false, get_or, inl, inr, length, length-set, replicate, set, slice_get, sym, true, unwrap_or, w64, ℕ, ◌%◌, ◌*◌, ◌/◌, ◌<◌, ◌==◌, ◌^◌, ◌∙◌, ◌≡◌, ◌≢◌, ◌≤◌}
+use Rattle.std.proofs.lemmas.Bool.{cases_eq}
+use Rattle.std.proofs.lemmas.Option.{unwrap_or-slice_get}
+use Rattle.std.specs.Int.{bit_at, bit_not}
+use Rattle.call_gate.specs.Flags.{flag_at, flags_of}
 
 pub flags_length : (words : List ℕ) → length (flags_of words) ≡ 64 * length words
 unfolding flags_of

@@ -1,4 +1,2 @@
-pub mod Terms
 pub mod Flags
 pub mod CallLemmas
-pub mod ServedCalls

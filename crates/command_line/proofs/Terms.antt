@@ -15,8 +15,8 @@ pub use Rattle.command_line.specs.Texts.{Text, is_dashed, is_name, is_numeral, n
 pub use Rattle.command_line.specs.Parts.{Parts, StartsWith, are_positionals, nothing, parts, parts_of, texts_of, with_option, with_positional}
 unfoldable pub use Rattle.command_line.specs.Parts.{parts_behind}
 pub use Rattle.command_line.specs.Table.{CommandForm, Row, Takes, row_read, rows_read}
-unfoldable pub use Rattle.command_line.specs.Table.{conns_row, form_row, frame_row, port_row, record_row, report_row}
+unfoldable pub use Rattle.command_line.specs.Table.{conns_row, form_row, frame_row, guard_row, port_row, record_row, report_row}
 pub use Rattle.command_line.specs.Options.{Options, are_options, default_of, given, has_option, has_required, is_between, is_for, is_taken, number_at, takes_of, value_of}
-pub use Rattle.command_line.specs.Commands.{CommandValue, RunValue, ServeValue, asm, asm_of, command_of, convert, convert_of, fits, form_of, frame_of, positional, replay, replay_of, run, run_of, run_shown, serve, serve_of, serve_shown, session_value}
+pub use Rattle.command_line.specs.Commands.{CommandValue, RunValue, ServeValue, asm, asm_of, command_of, convert, convert_of, fits, form_of, frame_of, guard_of, positional, replay, replay_of, run, run_of, run_shown, serve, serve_of, serve_shown, session_value}
 unfoldable pub use Rattle.command_line.specs.Commands.{asm_form, asm_value, convert_form, convert_value, is_asm, is_convert, is_replay, is_run, is_serve, replay_form, replay_value, run_form, run_value, serve_form, serve_value}
 pub use Rattle.command_line.specs.Reading.{EachName, EachRow, HasRead, app_of_form, defaults_of, option_rule}

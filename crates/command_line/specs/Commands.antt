@@ -8,6 +8,8 @@ use Rattle.command_line.specs.Parts.{Parts, are_positionals, parts, parts_of}
 use Rattle.command_line.specs.Options.{are_options, has_required, number_at, takes_of, value_of}
 use Rattle.command_line.specs.declared.run_words.Form.{Form}
 use Rattle.command_line.specs.declared.run_words.Form.TheVariants as form
+use Rattle.command_line.specs.declared.run_words.Guard.{Guard}
+use Rattle.command_line.specs.declared.run_words.Guard.TheVariants as guarded
 use Rattle.command_line.specs.declared.command.Command.{Command}
 use Rattle.command_line.specs.declared.command.Command.TheVariants.{Run, Asm, Replay, Convert, Serve}
 use Rattle.command_line.specs.declared.run_words.RunCommand.{RunCommand}
@@ -22,7 +24,7 @@ use Rattle.command_line.specs.declared.convert_words.TheConstants as convert_tab
 use Rattle.command_line.specs.declared.serve_words.ServeCommand.{ServeCommand}
 use Rattle.command_line.specs.declared.serve_words.TheConstants as serve_table
 use Rattle.command_line.specs.declared.run_words.TheConstants as table
-use Rattle.command_line.specs.Table.{CommandForm, Row, static_row, static_form, record_row, report_row, form_row, frame_row, port_row, conns_row}
+use Rattle.command_line.specs.Table.{CommandForm, Row, static_row, static_form, record_row, report_row, form_row, frame_row, guard_row, port_row, conns_row}
 
 -- what a session of a program is asked for
 pub record RunValue : Type 0 where
@@ -37,6 +39,7 @@ pub record RunValue : Type 0 where
   pub every : ℕ
   pub frames : ℕ
   pub budget : ℕ
+  pub guard : Guard
 
 -- what an assembly is asked for
 pub record AsmValue : Type 0 where
@@ -101,6 +104,9 @@ form_of text = if bytes_eq text table.JSON.now then form.Json else form.Text
 abbrev pub frame_of : Text → Framing
 frame_of text = if bytes_eq text table.LENGTH.now then Length else (if bytes_eq text table.WHOLE.now then Whole else Line)
 
+abbrev pub guard_of : Text → Guard
+guard_of text = if bytes_eq text table.EXTENT.now then guarded.Extent else (if bytes_eq text table.BLOCK.now then guarded.Block else guarded.Off)
+
 -- the names and numbers of a session whose command gives it this hold
 abbrev pub session_value : ℕ → Parts → RunValue
 session_value hold p = record {
@@ -115,6 +121,7 @@ session_value hold p = record {
   every = number_at (static_row table.EVERY) p.options;
   frames = number_at (static_row table.FRAMES) p.options;
   budget = number_at (static_row table.BUDGET) p.options;
+  guard = guard_of (value_of guard_row p.options);
 }
 
 -- the names and numbers of `run`
@@ -236,6 +243,7 @@ run_shown c = record {
   every = c.every;
   frames = c.frames;
   budget = c.budget;
+  guard = c.guard;
 }
 
 abbrev pub asm_shown : AsmCommand → AsmValue

@@ -79,6 +79,9 @@ form_row = static_row table.FORM
 unfoldable pub frame_row : Row
 frame_row = static_row table.FRAME
 
+unfoldable pub guard_row : Row
+guard_row = static_row table.GUARD
+
 unfoldable pub port_row : Row
 port_row = static_row serve_table.PORT
 

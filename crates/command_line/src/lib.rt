@@ -25,7 +25,7 @@ pub use convert_words::{CONVERT, CONVERT_OPTIONS, ConvertCommand};
 pub use laws::{numbers_of, ranges_of};
 pub use options::{CommandOf, CommandRow, OptionRow, RowOf, Takes, TakesOf, takes_value};
 pub use replay_words::{REPLAY, REPLAY_OPTIONS, ReplayCommand};
-pub use run_words::{Form, RUN, RUN_OPTIONS, RunCommand};
+pub use run_words::{Form, Guard, RUN, RUN_OPTIONS, RunCommand};
 pub use serve_words::{SERVE, SERVE_NUMBERS, SERVE_OPTIONS, ServeCommand};
 pub use texts::{is_name, number};
 pub use wording::{complaint, range_of, usage};

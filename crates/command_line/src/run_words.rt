@@ -7,7 +7,7 @@ ghost use Rattle.command_line.specs.Texts.{number_of};
 ghost use Rattle.command_line.specs.Options.{value_of};
 ghost use Rattle.command_line.specs.Parts.{Parts, parts_of};
 ghost use Rattle.command_line.specs.Table.{record_row, report_row};
-ghost use Rattle.command_line.specs.Commands.{differ, fits, form_of, frame_of, have_names, is_run, run_form, run_shown, run_value, session_value};
+ghost use Rattle.command_line.specs.Commands.{differ, fits, form_of, frame_of, guard_of, have_names, is_run, run_form, run_shown, run_value, session_value};
 ghost use Rattle.command_line.specs.Reading.{HasRead, HasReadSession};
 
 use crate::accepted::{have_form, name_at, value};
@@ -31,6 +31,12 @@ pub const LINE: &str = "line";
 pub const LENGTH: &str = "length";
 /// A message is a whole piece.
 pub const WHOLE: &str = "whole";
+/// No access is guarded.
+pub const OFF: &str = "off";
+/// An access of the heap lies in the extent of one standing block.
+pub const EXTENT: &str = "extent";
+/// An access of the heap lies in the reserved bytes of one live block.
+pub const BLOCK: &str = "block";
 
 /// Where the record goes.
 pub const RECORD: OptionRow = RowOf {
@@ -92,10 +98,16 @@ pub const BUDGET: OptionRow = RowOf {
     takes: TakesOf::Number(1, 16_777_216),
     default: Some("1000000"),
 };
+/// What else is refused of an access, by the blocks of the heap.
+pub const GUARD: OptionRow = RowOf {
+    name: "guard",
+    takes: TakesOf::OneOf(&[OFF, EXTENT, BLOCK]),
+    default: Some(OFF),
+};
 
 /// The options of `run`.
-pub const RUN_OPTIONS: [OptionRow; 10] = [
-    RECORD, REPORT, FORM, FRAME, WINDOW, HOLD, RING, EVERY, FRAMES, BUDGET,
+pub const RUN_OPTIONS: [OptionRow; 11] = [
+    RECORD, REPORT, FORM, FRAME, WINDOW, HOLD, RING, EVERY, FRAMES, BUDGET, GUARD,
 ];
 
 // The name of the command.
@@ -115,6 +127,17 @@ pub enum Form {
     Json,
 }
 
+/// How the heap of a session is guarded.
+#[derive(Clone, Copy, Debug, PartialEq, Eq)]
+pub enum Guard {
+    /// Not at all.
+    Off,
+    /// An access with a byte of the heap lies in the extent of one standing block.
+    Extent,
+    /// An access with a byte of the heap lies in the reserved bytes of one live block.
+    Block,
+}
+
 /// A session of a program: the names of the program, of the record and of the report, no two of them alike, and the settings. That of
 /// `serve` holds nothing.
 #[derive(Clone, Copy, Debug)]
@@ -131,6 +154,7 @@ pub struct RunCommand<'a> {
     pub every: u32,
     pub frames: u32,
     pub budget: u32,
+    pub guard: Guard,
 }
 
 // The form of a report by its text.
@@ -151,6 +175,19 @@ fn frame_of(text: &str) -> Framing
         return Framing::Whole;
     }
     Framing::Line
+}
+
+// How the heap is guarded, by its text.
+fn guard_of(text: &str) -> Guard
+    ensures { result ≡ guard_of text.now }
+{
+    if text == EXTENT {
+        return Guard::Extent;
+    }
+    if text == BLOCK {
+        return Guard::Block;
+    }
+    Guard::Off
 }
 
 // The number that a text writes, or 0.
@@ -244,6 +281,7 @@ pub(crate) fn session_from<'a>(matches: &ArgMatches<'a>, hold: u32) -> RunComman
         every: number_or_zero(value_in(matches, EVERY.name)),
         frames: number_or_zero(value_in(matches, FRAMES.name)),
         budget: number_or_zero(value_in(matches, BUDGET.name)),
+        guard: guard_of(value_in(matches, GUARD.name)),
     }
 }
 

@@ -12,7 +12,7 @@ use crate::accepted::{have_form, name_at};
 use crate::matching::{out_of_memory, parser, value_in};
 use crate::options::{CommandOf, CommandRow, OptionRow, RowOf, TakesOf, takes_value};
 use crate::run_words::{
-    BUDGET, EVERY, FORM, FRAME, FRAMES, PROGRAM, RECORD, REPORT, RING, RunCommand, WINDOW,
+    BUDGET, EVERY, FORM, FRAME, FRAMES, GUARD, PROGRAM, RECORD, REPORT, RING, RunCommand, WINDOW,
     have_names, number_or_zero, session_from,
 };
 use clap::{ArgMatches, Error};
@@ -46,8 +46,8 @@ pub const PATIENCE: OptionRow = RowOf {
 pub const SERVE_NUMBERS: [OptionRow; 2] = [PORT, CONNS];
 
 /// The options of `serve`.
-pub const SERVE_OPTIONS: [OptionRow; 10] = [
-    RECORD, REPORT, FORM, FRAME, WINDOW, RING, EVERY, FRAMES, BUDGET, PATIENCE,
+pub const SERVE_OPTIONS: [OptionRow; 11] = [
+    RECORD, REPORT, FORM, FRAME, WINDOW, RING, EVERY, FRAMES, BUDGET, GUARD, PATIENCE,
 ];
 
 // The name of the command that serves.

@@ -1,4 +1,4 @@
-//! Tests of a guest, its memory, its calls and single instructions: what no clause of them says.
+//! Tests of a guest, its memory, its calls, its guard and single instructions: what no clause of them says.
 #![tactic(auto)]
 
 #[cfg(test)]
@@ -7,6 +7,8 @@ mod call_gate_tests;
 mod guest_cpu_tests;
 #[cfg(test)]
 mod guest_space_tests;
+#[cfg(test)]
+mod heap_guard_tests;
 #[cfg(test)]
 mod rows;
 #[cfg(test)]

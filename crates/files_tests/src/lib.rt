@@ -1,6 +1,8 @@
-//! Tests of records and reports as text, and of notes in two files: what no clause of their crates says.
+//! Tests of records, reports and diagnoses as text, and of notes in two files: what no clause of their crates says.
 #![tactic(auto)]
 
+#[cfg(test)]
+mod diagnosis_tests;
 #[cfg(test)]
 mod file_notes_tests;
 #[cfg(test)]

@@ -1,5 +1,5 @@
 -- An ask that is answered as recorded.
-use Rattle.guest_cpu.proofs.Terms.{Bool, List, ap, arith, eqb, false, refl, subst, sym, true, ℕ, ◌&&◌, ◌+◌, ◌||◌, ◌∙◌, ◌≡◌, ◌≢◌, Ask, Choice, live-insert_block, bytes_asked, insert_live, is_allowed, live_blocks, live_block, replaced, without_replaced, Heap, IsHeap, SameEnds, with_block, live_with, Area, allocated, put_bytes, set_bytes, Core, answering, machine_of, standing, chosen_standing, heap_with, released_over}
+use Rattle.guest_cpu.proofs.Terms.{Bool, List, ap, arith, eqb, false, refl, subst, sym, true, ℕ, ◌&&◌, ◌+◌, ◌||◌, ◌∙◌, ◌≡◌, ◌≢◌, Ask, Choice, live-insert_block, bytes_asked, insert_live, is_allowed, live_blocks, live_with, replaced, without_replaced, live_block, Heap, IsHeap, SameEnds, with_block, Area, put_bytes, allocated, set_bytes, Core, answering, machine_of, standing, chosen_standing, heap_with, released_over}
 use Rattle.guest_cpu.proofs.PlaceLemmas.{allowed_asked}
 use Rattle.guest_cpu.proofs.RecordTurns.{released_over_live}
 

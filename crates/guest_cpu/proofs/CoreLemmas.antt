@@ -1,11 +1,8 @@
 -- What calls leave of what a guest has beside its memory, as turns.
-use Rattle.std.specs.Prelude.{is_some}
-use Rattle.elf_image.specs.Memory.{put_bytes}
-use Rattle.block_book.specs.Answer.{has_replaced}
-use Rattle.block_book.proofs.Asks.{size-live}
-use Rattle.alloc_env.specs.Serving.{in_place_of, served_block, served_over}
-use Rattle.guest_cpu.proofs.Terms.{AllocError, Bool, List, None, Ok, Option, Result, Some, ap, arith, cond, eqb, false, ltb, refl, sym, true, ℕ, ◌+◌, ◌<◌, ◌∙◌, ◌≡◌, ◌≢◌, ◌≤◌, slice_get, slice_index, unwrap_or, none-some, Ask, Choice, is_allowed, is_defined, live_blocks, replaced, size_at, without_live, Heap, SameEnds, is_live_at, Env, live_with, Served, served_ask, served_free, BadFree, Ecall, Area, bytes_at, read, allocated, freed, Core, answering, going_on, machine_of, standing, set_bytes, set_range, turn_of, turn_to, IsSend, IsSending, SendsBy, allocating, freeing, sending, sends, unasked}
+use Rattle.alloc_env.specs.Serving.{in_place_of, served_block, served_over, Served, served_ask, served_free}
+use Rattle.guest_cpu.proofs.Terms.{Bool, List, None, Option, Some, arith, cond, eqb, false, ltb, refl, true, ℕ, ◌+◌, ◌<◌, ◌∙◌, ◌≡◌, ◌≢◌, ◌≤◌, none-some, is_some, slice_get, slice_index, unwrap_or, Ask, Choice, size-live, has_replaced, is_allowed, is_defined, live_blocks, live_with, replaced, size_at, without_live, Heap, SameEnds, is_live_at, Env, Ecall, Area, bytes_at, put_bytes, read, BadFree, allocated, freed, set_bytes, Core, answering, going_on, machine_of, set_range, standing, turn_to, meeting_of, sends, allocating, freeing}
 use Rattle.guest_cpu.specs.declared.event.Event.TheVariants as event
+use Rattle.guest_cpu.specs.declared.event.Met.TheVariants as met
 
 -- a block was freed
 pub freed_turn : (env : Env) (core new : Core) (heap : Heap) (at : ℕ) (memory : List Area) → at ≡ slice_index core.regs.x 10 → served_free env core.book at ≡ Some heap
@@ -47,47 +44,26 @@ pub bad_turn : (env : Env) (core : Core) (heap : Heap) (ask : Ask) (memory : Lis
 bad_turn env core heap ask memory (served, same) = rw (served, same) refl
 
 -- a send, by its answer
-abbrev answer : Result (Option (ℕ × List ℕ)) AllocError
-answer = Ok None
-
-pub sent_long : (core new : Core) (conn at len : ℕ) (memory : List Area) → 65535 < len → new ≡ answering 2 core → SendsBy (sends (machine_of core memory) conn at len) core memory answer new
+pub sent_long : (core new : Core) (conn at len : ℕ) (memory : List Area) → 65535 < len → new ≡ answering 2 core
+    → meeting_of (Some Ecall) (standing core memory) (sends (machine_of core memory) conn at len) ≡ Some (turn_to None (standing new memory) None)
 sent_long core new conn at len memory long is =
-    let test : ltb 65535 len ≡ true = grind arith in (rw (test, is) refl, rw is refl)
+    let test : ltb 65535 len ≡ true = grind arith in rw (test, is) refl
 
 pub sent_closed : (core new : Core) (conn at len : ℕ) (memory : List Area) → len ≤ 65535 → unwrap_or (slice_get core.connections conn) false ≡ false → new ≡ answering 1 core
-    → SendsBy (sends (machine_of core memory) conn at len) core memory answer new
+    → meeting_of (Some Ecall) (standing core memory) (sends (machine_of core memory) conn at len) ≡ Some (turn_to None (standing new memory) None)
 sent_closed core new conn at len memory short closed is =
-    let test : ltb 65535 len ≡ false = grind arith in (rw (test, closed, is) refl, rw is refl)
+    let test : ltb 65535 len ≡ false = grind arith in rw (test, closed, is) refl
 
 pub sent_empty : (core new : Core) (conn at len : ℕ) (memory : List Area) → len ≤ 65535 → unwrap_or (slice_get core.connections conn) false ≡ true → len ≡ 0 → new ≡ answering 0 core
-    → SendsBy (sends (machine_of core memory) conn at len) core memory answer new
+    → meeting_of (Some Ecall) (standing core memory) (sends (machine_of core memory) conn at len) ≡ Some (turn_to None (standing new memory) None)
 sent_empty core new conn at len memory short open_one none is =
     let test : ltb 65535 len ≡ false = grind arith in
-    let empty : eqb len 0 ≡ true = grind arith in (rw (test, open_one, empty, is) refl, rw is refl)
+    let empty : eqb len 0 ≡ true = grind arith in rw (test, open_one, empty, is) refl
 
 pub sent_bytes : (core answered : Core) (conn at len : ℕ) (memory : List Area) (bytes : List ℕ) → len ≤ 65535 → unwrap_or (slice_get core.connections conn) false ≡ true → len ≢ 0
     → bytes ≡ bytes_at read memory at len → answered ≡ answering 0 core
-    → SendsBy (sends (machine_of core memory) conn at len) core memory (Ok (Some (conn, bytes))) (record answered { marks = record answered.marks { sends = answered.marks.sends + 1 } })
+    → meeting_of (Some Ecall) (standing core memory) (sends (machine_of core memory) conn at len)
+    ≡ Some (turn_to (Some (met.Emits conn bytes)) (standing (record answered { marks = record answered.marks { sends = answered.marks.sends + 1 } }) memory) None)
 sent_bytes core answered conn at len memory bytes short open_one some bytes_are is =
     let test : ltb 65535 len ≡ false = grind arith in
-    let filled : eqb len 0 ≡ false = grind arith in (rw (test, open_one, filled, bytes_are, is) refl, rw is refl)
-
--- the same as turns
-pub answered_turn : (core new : Core) (conn at len : ℕ) (memory : List Area) → SendsBy (sends (machine_of core memory) conn at len) core memory answer new
-    → sending (standing core memory) conn at len ≡ Some (turn_to None (standing new memory) None)
-answered_turn core new conn at len memory h =
-    ap (turn_of (Some Ecall) (standing core memory) (unasked core.book)) h.0 ∙ ap (λ s. Some (turn_to None s None)) (sym h.1)
-
-pub emitted_turn : (core new : Core) (conn at len other : ℕ) (memory : List Area) (bytes : List ℕ) → SendsBy (sends (machine_of core memory) conn at len) core memory (Ok (Some (other, bytes))) new
-    → sending (standing core memory) conn at len ≡ Some (turn_to (Some (event.Emits other bytes)) (standing new memory) None)
-emitted_turn core new conn at len other memory bytes h =
-    ap (turn_of (Some Ecall) (standing core memory) (unasked core.book)) h.0 ∙ ap (λ s. Some (turn_to (Some (event.Emits other bytes)) s None)) (sym h.1)
-
-pub lacking_turn : (core : Core) (conn at len : ℕ) (memory : List Area) → IsSending (sends (machine_of core memory) conn at len) → IsSend event.Emits (sending (standing core memory) conn at len)
-lacking_turn core conn at len memory (other, bytes, m, e) = record {
-  conn = other;
-  bytes = bytes;
-  turn = _;
-  turns = ap (turn_of (Some Ecall) (standing core memory) (unasked core.book)) e;
-  is = refl;
-}
+    let filled : eqb len 0 ≡ false = grind arith in rw (test, open_one, filled, bytes_are, is) refl

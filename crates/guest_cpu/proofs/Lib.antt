@@ -1,6 +1,6 @@
 pub mod Terms
+pub mod MeetLemmas
 pub mod TurnLemmas
-pub mod CallTurns
 pub mod HeapLemmas
 pub mod PlaceLemmas
 pub mod CoreLemmas

@@ -1,15 +1,8 @@
 -- The first bytes of a new block.
-use Rattle.run_history.proofs.Shapes.{length-bytes_at}
 use Rattle.run_history.proofs.Runs.{length-set_bytes}
-use Rattle.block_book.specs.Block.{is_apart, lies_in, touched}
-use Rattle.block_book.specs.Answer.{is_calloc, same_ask}
-use Rattle.block_book.proofs.Asks.{apart-of_clear, same-is, size-within}
-use Rattle.elf_image.specs.Memory.{put_bytes}
-use Rattle.guest_space.specs.Space.{LiesIn}
-use Rattle.guest_space.specs.Access.{Puts}
-use Rattle.guest_space.proofs.SpaceLemmas.{puts_more}
-use Rattle.std.proofs.Common.{min, nat_le}
-use Rattle.guest_cpu.proofs.Terms.{All-contains, Bool, Contains, List, None, Option, Some, [], append-nil, ap, arith, cond, eqb, false, inl, inr, length, ltb, not, refl, replicate, subst, sym, true, ℕ, ◌%◌, ◌*◌, ◌&&◌, ◌++◌, ◌+◌, ◌-◌, ◌<◌, ◌^◌, ◌||◌, ◌∙◌, ◌∷◌, ◌≡◌, ◌≢◌, ◌≤◌, ◌⊎◌, and_parts, cases_Bool, cases_lt, length-replicate, nat_tests, nat_lt, unwrap_or, Ask, Choice, bytes_asked, is_allowed, is_block, is_clear, live_blocks, replaced, size_at, Heap, IsHeap, PAGE, bytes_at, permitted, read, Machine, buffer, kept_bytes, kept_count, set_bytes, set_count, GuestPages, IsLawfulSpace, is_permitted, blank_span, flat, set_range, Wrote, IsAnswered}
+use Rattle.block_book.specs.Block.{touched}
+use Rattle.guest_cpu.proofs.Terms.{Bool, Contains, List, None, Option, Some, [], ap, arith, cond, eqb, false, inl, inr, length, nat_le, not, refl, replicate, subst, sym, true, ℕ, ◌&&◌, ◌*◌, ◌++◌, ◌+◌, ◌-◌, ◌<◌, ◌^◌, ◌||◌, ◌∙◌, ◌∷◌, ◌≡◌, ◌≢◌, ◌≤◌, ◌⊎◌, and_parts, cases_Bool, cases_lt, nat_tests, length-replicate, All-contains, nat_lt, unwrap_or, Ask, Choice, apart-of_clear, same-is, size-within, bytes_asked, is_allowed, is_block, is_calloc, is_clear, live_blocks, replaced, same_ask, size_at, Heap, IsHeap, PAGE, bytes_at, permitted, put_bytes, read, length-bytes_at, kept_bytes, kept_count, set_bytes, set_count, Machine, buffer, is_permitted, puts_more, Puts, GuestPages, IsLawfulSpace, LiesIn, blank_span, flat, set_range, Wrote}
+use Rattle.guest_cpu.specs.Placing.{IsAnswered}
 use Rattle.guest_cpu.proofs.HeapLemmas.{heap_permits}
 
 -- an answer that isn't null, by its parts

@@ -4,7 +4,8 @@ use Rattle.guest_cpu.proofs.Terms.{Bool, List, None, Ok, Option, add-zero, ap, a
 use Rattle.guest_cpu.specs.Quiet.{core_after, RanOn}
 use Rattle.guest_cpu.proofs.CpuLemmas.{Goes, goes_on}
 use Rattle.guest_cpu.proofs.StepTurns.{stepped, with_regs}
-use Rattle.guest_cpu.proofs.RecordTurns.{mapped, recorded_step}
+use Rattle.guest_cpu.proofs.TurnLemmas.{turned_in}
+use Rattle.guest_cpu.proofs.RecordTurns.{mapped, turned_as}
 
 -- one more instruction
 more : (count : ℕ) (regs mid_regs : Regs) (core : Core) → core_after (suc count) regs core ≡ counting (with_regs (core_after count mid_regs core) regs)
@@ -49,12 +50,12 @@ ran_goes next rule asks since steps first core before space saved line does goes
 -- in an environment, within a budget
 pub turns_each : (budget steps : ℕ) (env : Env) (asks : Heap → ℕ → ℕ → Bool) → DoesEach asks budget steps (turn (limits_of budget asks) env)
 turns_each budget steps env asks = λ now regs old new early late one.
-    stepped (limits_of budget asks) env one.instr now (counting (with_regs now regs)) regs old new (Ok tt) early one.is one.no_call refl (one.done (machine_of now (flat old)) budget) one.leaves refl
+    turned_in _ _ _ early (stepped asks one.instr now (counting (with_regs now regs)) regs old new (Ok tt) one.is one.no_call refl (one.done (machine_of now (flat old)) 0) one.leaves refl) (λ written wrote. record { written = written; turns = refl; wrote = wrote })
 
 -- as recorded, up to so many instructions
 pub records_each : (since until : ℕ) → DoesEach mapped since until (recorded until)
 records_each since until = λ now regs old new early late one.
-    recorded_step until 0 one.instr now (counting (with_regs now regs)) regs old new (Ok tt) late one.is one.no_call refl (one.done (machine_of now (flat old)) 0) one.leaves refl
+    turned_as _ _ late (stepped mapped one.instr now (counting (with_regs now regs)) regs old new (Ok tt) one.is one.no_call refl (one.done (machine_of now (flat old)) 0) one.leaves refl) (λ written wrote. record { written = written; turns = refl; wrote = wrote })
 
 -- none is done
 pub ran_nothing : (asks : Heap → ℕ → ℕ → Bool) (most : ℕ) (core : Core) (space : GuestPages) → RanOn asks most core space core space

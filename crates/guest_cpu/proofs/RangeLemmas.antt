@@ -1,7 +1,6 @@
 -- Fewer bytes of flat memory.
 use Rattle.guest_space.proofs.FlatLemmas.{permitted-within, permitted-near}
-use Rattle.run_history.proofs.Shapes.{Shape, Same, Takes, Picks, Alone, does_shape}
-use Rattle.guest_cpu.proofs.Terms.{List, None, arith, inl, inr, refl, subst, suc, sym, true, zero, ℕ, ◌+◌, ◌^◌, ◌∙◌, ◌≡◌, ◌≤◌, and_parts, cases_lt, Area, each_covered, permitted, write, Chooses, Effect, Emits, Ends, Fails, Goes, Machine, Wants, register, does}
+use Rattle.guest_cpu.proofs.Terms.{List, None, arith, inl, inr, refl, subst, suc, sym, true, zero, ℕ, ◌+◌, ◌^◌, ◌∙◌, ◌≡◌, ◌≤◌, and_parts, cases_lt, Area, each_covered, permitted, write, Alone, Picks, Same, Shape, Takes, does_shape, Chooses, Effect, Emits, Ends, Fails, Goes, Machine, Wants, register, does}
 
 each_covered-fewer : (flag : ℕ) (memory : List Area) (at n count : ℕ) → n ≤ count → each_covered flag memory at count ≡ true → each_covered flag memory at n ≡ true
 each_covered-fewer flag memory at n zero fewer h =

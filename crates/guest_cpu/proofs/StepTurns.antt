@@ -1,10 +1,10 @@
 -- What a step leaves, as a turn.
-use Rattle.guest_cpu.proofs.Terms.{Err, List, None, Ok, Result, Some, refl, ◌<◌, ◌∙◌, ◌≡◌, ◌≢◌, Env, Instr, Ecall, Store, store_size, Area, Cause, Regs, Limits, length-little_bytes, GuestPages, flat, fetched, Leaves, StepsTo, Core, counting, machine_of, standing, stored_by, turn, Turned, Wrote}
-use Rattle.guest_cpu.specs.declared.event.Event.TheVariants as event
-use Rattle.guest_cpu.proofs.TurnLemmas.{turn_goes, turn_refused}
+use Rattle.guest_cpu.proofs.Terms.{Bool, Err, List, None, Ok, Result, Some, ap, refl, ℕ, ◌∙◌, ◌≡◌, ◌≢◌, Heap, Instr, Ecall, Store, store_size, Area, Cause, Regs, length-little_bytes, GuestPages, flat, fetched, Leaves, StepsTo, limits_of, Core, counting, machine_of, standing, stored_by, Turned, Wrote, meeting, meeting_of}
+use Rattle.guest_cpu.specs.declared.event.Met.TheVariants as met
+use Rattle.guest_cpu.proofs.MeetLemmas.{meets_instr}
 
 -- what an instruction left of the memory
-pub leaves_wrote : (instr : Instr) (core : Core) (memory : List Area) (old new : GuestPages) → Leaves instr core.regs old (Ok tt) new → Wrote (stored_by (Some instr) (machine_of core memory)) old new
+leaves_wrote : (instr : Instr) (core : Core) (memory : List Area) (old new : GuestPages) → Leaves instr core.regs old (Ok tt) new → Wrote (stored_by (Some instr) (machine_of core memory)) old new
 leaves_wrote (Store op rs1 rs2 imm) core memory old new h = (_, length-little_bytes (store_size op) _, h)
 leaves_wrote _ core memory old new h = h
 
@@ -12,29 +12,29 @@ leaves_wrote _ core memory old new h = h
 abbrev pub with_regs : Core → Regs → Core
 with_regs core regs = record core { regs = regs }
 
-pub stepped : (limits : Limits) (env : Env) (instr : Instr) (core counted : Core) (regs : Regs) (old new : GuestPages) (result : Result (Unit {0}) Cause) → core.marks.since < limits.budget
+pub stepped : (rule : Heap → ℕ → ℕ → Bool) (instr : Instr) (core counted : Core) (regs : Regs) (old new : GuestPages) (result : Result (Unit {0}) Cause)
     → fetched core.regs (flat old) ≡ Ok instr → instr ≢ Ecall → result ≡ Ok tt
-    → StepsTo limits core.book instr (machine_of core (flat old)) core.regs (flat old) result regs (flat new)
+    → StepsTo (limits_of 0 rule) core.book instr (machine_of core (flat old)) core.regs (flat old) result regs (flat new)
     → Leaves instr core.regs old result new → counted ≡ counting (with_regs core regs)
-    → Turned (turn limits env (standing core (flat old))) None (standing counted (flat new)) old new
-stepped limits env instr core counted regs old new result early is other ok done pages counts =
+    → Turned (meeting rule (standing core (flat old))) None (standing counted (flat new)) old new
+stepped rule instr core counted regs old new result is other ok done pages counts =
     let goes = rw ok at done in
     record {
       written = stored_by (Some instr) (machine_of core (flat old));
-      turns = turn_goes limits env (standing core (flat old)) instr _ early is other goes ∙ rw counts refl;
+      turns = meets_instr rule (standing core (flat old)) instr is other ∙ ap (meeting_of (Some instr) (standing core (flat old))) goes ∙ rw counts refl;
       wrote = leaves_wrote instr core (flat old) old new (rw ok at pages);
     }
 
-pub step_failed : (limits : Limits) (env : Env) (instr : Instr) (core : Core) (regs : Regs) (old new : GuestPages) (result : Result (Unit {0}) Cause) (cause : Cause) → core.marks.since < limits.budget
+pub step_failed : (rule : Heap → ℕ → ℕ → Bool) (instr : Instr) (core : Core) (regs : Regs) (old new : GuestPages) (result : Result (Unit {0}) Cause) (cause : Cause)
     → fetched core.regs (flat old) ≡ Ok instr → instr ≢ Ecall → result ≡ Err cause
-    → StepsTo limits core.book instr (machine_of core (flat old)) core.regs (flat old) result regs (flat new)
+    → StepsTo (limits_of 0 rule) core.book instr (machine_of core (flat old)) core.regs (flat old) result regs (flat new)
     → Leaves instr core.regs old result new
-    → Turned (turn limits env (standing core (flat old))) (Some (event.Failed cause)) (standing (with_regs core regs) (flat new)) old new
-step_failed limits env instr core regs old new result cause early is other fails done pages =
+    → Turned (meeting rule (standing core (flat old))) (Some (met.Failed cause)) (standing (with_regs core regs) (flat new)) old new
+step_failed rule instr core regs old new result cause is other fails done pages =
     let failed = rw fails at done in
     record {
       written = None;
-      turns = turn_refused limits env (standing core (flat old)) instr cause early is other failed.0 ∙ rw (failed.1, failed.2) refl;
+      turns = meets_instr rule (standing core (flat old)) instr is other ∙ ap (meeting_of (Some instr) (standing core (flat old))) failed.0 ∙ rw (failed.1, failed.2) refl;
       wrote = same_space instr (rw fails at pages);
     }
   where

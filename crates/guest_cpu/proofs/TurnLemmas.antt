@@ -1,112 +1,101 @@
--- What a guest does next, where its next instruction is no call.
-use Rattle.rv_isa.specs.Table.{row}
-use Rattle.guest_cpu.proofs.Terms.{Err, None, Ok, Option, Result, Some, ap, arith, cond, false, inl, inr, leb, refl, true, ◌<◌, ◌∙◌, ◌≡◌, ◌≢◌, ◌≤◌, cases_Bool, option_and_then, Env, Instr, Ecall, execute, permitted, Cause, BadAccess, BadInstruction, Hang, Effect, Fails, Goes, Machine, does, instruction, word_at, Grant, Guest, Limits, Nothing, grant, is_refused, request_of, serves, instruction_at, touched, touched_by, fetched, or_bad, under, Standing, moved, stored_by, turn, turn_of, turn_to, unasked}
+-- What a guest does next in an environment, by what its instruction comes to.
+use Rattle.guest_cpu.proofs.Terms.{Bool, None, Option, Some, ap, arith, cond, false, leb, refl, true, ◌<◌, ◌∙◌, ◌≡◌, ◌≤◌, none-some, same_Some, Choice, Heap, Env, Instr, Ecall, Cause, BadAccess, Hang, frees, allocates, allocation, free, Chooses, Effect, Fails, Machine, does, Allocate, Free, Grant, Limits, Nothing, Request, does_with, grant, granted, is_refused, request_of, serves, Range, instruction_at, touched, GuestPages, limits_of, Event, Met, Standing, Turn, turn, turn_of, turn_to, IsSend, Turned, Wrote, meeting, meeting_by, meeting_of, allocating, answered_with, freeing}
 use Rattle.guest_cpu.specs.declared.event.Event.TheVariants as event
+use Rattle.guest_cpu.specs.declared.event.Met.TheVariants as met
 
 -- a cause fails, whatever the allocator answered
-pub turn_failed : (found : Option Instr) (s : Standing) (given : Option Grant) (cause : Cause) → turn_of found s given (Fails cause) ≡ Some (turn_to (Some (event.Failed cause)) s None)
+turn_failed : (found : Option Instr) (s : Standing) (given : Option Grant) (cause : Cause) → turn_of found s given (Fails cause) ≡ Some (turn_to (Some (event.Failed cause)) s None)
 turn_failed found s None cause = refl
 turn_failed found s (Some grant) cause = refl
 
-pub turn_fails : (limits : Limits) (env : Env) (s : Standing) (cause : Cause) → serves limits env None s.guest ≡ Fails cause → turn limits env s ≡ Some (turn_to (Some (event.Failed cause)) s None)
-unfolding turn
-turn_fails limits env s cause h = ap (turn_of (instruction_at s.guest.machine) s (grant env s.guest)) h ∙ turn_failed (instruction_at s.guest.machine) s (grant env s.guest) cause
-
-serves_hang : (limits : Limits) (env : Env) (guest : Guest) → limits.budget ≤ guest.machine.since → serves limits env None guest ≡ Fails Hang
-unfolding serves
-serves_hang limits env guest late = let past : leb limits.budget guest.machine.since ≡ true = grind arith in rw past refl
-
 pub turn_hangs : (limits : Limits) (env : Env) (s : Standing) → limits.budget ≤ s.guest.machine.since → turn limits env s ≡ Some (turn_to (Some (event.Failed Hang)) s None)
-turn_hangs limits env s late = turn_fails limits env s Hang (serves_hang limits env s.guest late)
+unfolding turn serves
+turn_hangs limits env s late =
+    let past : leb limits.budget s.guest.machine.since ≡ true = grind arith in
+    rw past (turn_failed (instruction_at s.guest.machine) s (grant env s.guest) Hang)
 
--- the instruction that is fetched, and what it does
-pub record IsAt (m : Machine) (found : Option Instr) (does_so : Effect) : Type 0 where
-  pub found_is : instruction_at m ≡ found
-  pub does_it : does None None m ≡ does_so
+-- the turn of what an instruction comes to
+abbrev pub in_env : Env → Standing → Option Met → Turn Met → Option (Turn Event)
+in_env env s None t = Some (turn_to None t.standing t.written)
+in_env env s (Some met.Asks) t = Some (turn_to (Some event.Asks) t.standing t.written)
+in_env env s (Some (met.Emits conn bytes)) t = Some (turn_to (Some (event.Emits conn bytes)) t.standing t.written)
+in_env env s (Some (met.Allocates ask)) t = allocating env s ask
+in_env env s (Some (met.Frees at)) t = freeing env s at
+in_env env s (Some (met.Exits code)) t = Some (turn_to (Some (event.Exits code)) t.standing t.written)
+in_env env s (Some (met.Failed cause)) t = Some (turn_to (Some (event.Failed cause)) t.standing t.written)
 
-abbrev refused : Result Instr Cause
-refused = Err BadAccess
+-- it is that one
+is_in_env : (env : Env) (s : Standing) {first t : Turn Met} → Some first ≡ Some t → in_env env s first.event first ≡ in_env env s t.event t
+is_in_env env s {first = first} {t = t} h = ap (λ (one : Turn Met). in_env env s one.event one) (same_Some first t h)
 
--- the instruction at the program counter, by what is fetched
-pub is_at : (m : Machine) (instr : Instr) → fetched (record { pc = m.pc; x = m.registers }) m.memory ≡ Ok instr → IsAt m (Some instr) (instruction instr None None m)
-unfolding does instruction_at
-is_at m instr h =
-    elim (cases_Bool (permitted execute m.memory m.pc 4)) [
-      | inl may ↦ of_row may (row (word_at m)) refl (rw may at h)
-      | inr not_may ↦ absurd (never (rw not_may at h))
-    ]
-  where
-    never : refused ≡ Ok instr → ⊥
-    never e = cc
+-- what asks of the allocator is a call
+pub asks_at : (found : Option Instr) (m : Machine) (request : Request) → request_of found m ≡ request → (Nothing ≡ request → ⊥) → found ≡ Some Ecall
+asks_at None m request is never = absurd (never is)
+asks_at (Some Ecall) m request is never = refl
+asks_at (Some _) m request is never = absurd (never is)
 
-    of_row : permitted execute m.memory m.pc 4 ≡ true → (found : Option Instr) → row (word_at m) ≡ found → or_bad found ≡ Ok instr → IsAt m (Some instr) (instruction instr None None m)
-    of_row may None is e = cc
-    of_row may (Some other) is e =
-        let same : other ≡ instr = cc in
-        record {
-          found_is = rw (may, is, same) refl;
-          does_it = rw (may, is, same) refl;
-        }
+-- what it does with the answer
+with_answer : (s : Standing) (given : Option Grant) (acts : Option Choice → Effect) → ((choice : Option Choice) → does None choice s.guest.machine ≡ acts choice)
+    → turn_of (Some Ecall) s given (does_with given None s.guest.machine) ≡ answered_with given acts s
+with_answer s None acts does_so = refl
+with_answer s (Some given) acts does_so = ap (turn_of (Some Ecall) s (Some given)) (does_so given.chosen)
 
-pub is_at_none : (m : Machine) (cause : Cause) → fetched (record { pc = m.pc; x = m.registers }) m.memory ≡ Err cause → IsAt m None (Fails cause)
-unfolding does instruction_at
-is_at_none m cause h =
-    elim (cases_Bool (permitted execute m.memory m.pc 4)) [
-      | inl may ↦ of_row may (row (word_at m)) refl (rw may at h)
-      | inr not_may ↦ let same : BadAccess ≡ cause = bad (rw not_may at h) in record { found_is = rw not_may refl; does_it = rw (not_may, ← same) refl }
-    ]
-  where
-    bad : refused ≡ Err cause → BadAccess ≡ cause
-    bad e = cc
+asked_turn : (env : Env) (s : Standing) (request : Request) (acts : Option Choice → Effect) → request_of (instruction_at s.guest.machine) s.guest.machine ≡ request → (Nothing ≡ request → ⊥)
+    → ((choice : Option Choice) → does None choice s.guest.machine ≡ acts choice)
+    → turn_of (instruction_at s.guest.machine) s (granted env s.guest.heap request) (does_with (granted env s.guest.heap request) None s.guest.machine) ≡ answered_with (granted env s.guest.heap request) acts s
+asked_turn env s request acts is never does_so =
+    rw (asks_at (instruction_at s.guest.machine) s.guest.machine request is never) (with_answer s (granted env s.guest.heap request) acts does_so)
 
-    of_row : permitted execute m.memory m.pc 4 ≡ true → (found : Option Instr) → row (word_at m) ≡ found → or_bad found ≡ Err cause → IsAt m None (Fails cause)
-    of_row may None is e =
-        let same : BadInstruction ≡ cause = cc in
-        record { found_is = rw (may, is) refl; does_it = rw (may, is, same) refl }
-    of_row may (Some other) is e = cc
+-- an instruction that asks nothing
+unasked_turn : (env : Env) (s : Standing) (found : Option Instr) (e : Effect) (t : Turn Met) → meeting_of found s e ≡ Some t → turn_of found s (granted env s.guest.heap Nothing) e ≡ in_env env s t.event t
+unasked_turn env s found (Chooses ask) t h = absurd (none-some t h)
+unasked_turn env s found _ t h = is_in_env env s h
 
--- what a guest does within its budget whose next instruction asks nothing of the allocator
-pub serves_unasked : (limits : Limits) (env : Env) (guest : Guest) (found : Option Instr) (e : Effect) → guest.machine.since < limits.budget → IsAt guest.machine found e → request_of found guest.machine ≡ Nothing
-    → serves limits env None guest ≡ cond (is_refused limits guest.heap (option_and_then (λ instr. touched_by instr guest.machine) found)) (Fails BadAccess) e
-unfolding serves grant touched
-serves_unasked limits env guest found e early stands asks =
-    let within : leb limits.budget guest.machine.since ≡ false = grind arith in
-    rw (within, stands.found_is, asks, stands.does_it) refl
+by_request : (env : Env) (s : Standing) (t : Turn Met) (request : Request) → request_of (instruction_at s.guest.machine) s.guest.machine ≡ request
+    → meeting_by (instruction_at s.guest.machine) request s (does None None s.guest.machine) ≡ Some t
+    → turn_of (instruction_at s.guest.machine) s (granted env s.guest.heap request) (does_with (granted env s.guest.heap request) None s.guest.machine) ≡ in_env env s t.event t
+by_request env s t (Allocate ask) is h =
+    asked_turn env s (Allocate ask) (λ choice. allocation ask choice s.guest.machine) is (λ (e : Nothing ≡ Allocate ask). cc) (allocates s.guest.machine ask is None) ∙ is_in_env env s h
+by_request env s t (Free at) is h =
+    asked_turn env s (Free at) (λ choice. free s.guest.machine) is (λ (e : Nothing ≡ Free at). cc) (frees s.guest.machine at is None) ∙ is_in_env env s h
+by_request env s t Nothing is h = unasked_turn env s (instruction_at s.guest.machine) (does None None s.guest.machine) t h
 
-pub grant_unasked : (env : Env) (guest : Guest) (found : Option Instr) → instruction_at guest.machine ≡ found → request_of found guest.machine ≡ Nothing → grant env guest ≡ unasked guest.heap
-unfolding grant
-grant_unasked env guest found is asks = rw (is, asks) refl
+-- a rule refuses by what it permits alone
+refused_as : (limits : Limits) (heap : Heap) (range : Option Range) → is_refused limits heap range ≡ is_refused (limits_of 0 limits.permits) heap range
+refused_as limits heap None = refl
+refused_as limits heap (Some range) = refl
 
--- an instruction that is no call asks nothing
-pub asks_nothing : (instr : Instr) (m : Machine) → instr ≢ Ecall → request_of (Some instr) m ≡ Nothing
-asks_nothing Ecall m other = absurd (other refl)
-asks_nothing _ m other = refl
+by_rule : (limits : Limits) (env : Env) (s : Standing) (t : Turn Met) (bars : Bool) → is_refused (limits_of 0 limits.permits) s.guest.heap (touched s.guest.machine) ≡ bars → meeting limits.permits s ≡ Some t
+    → turn_of (instruction_at s.guest.machine) s (grant env s.guest) (cond (is_refused limits s.guest.heap (touched s.guest.machine)) (Fails BadAccess) (does_with (grant env s.guest) None s.guest.machine)) ≡ in_env env s t.event t
+unfolding grant meeting
+by_rule limits env s t true is h =
+    rw (refused_as limits s.guest.heap (touched s.guest.machine) ∙ is) (turn_failed (instruction_at s.guest.machine) s (grant env s.guest) BadAccess ∙ is_in_env env s (rw is at h))
+by_rule limits env s t false is h =
+    rw (refused_as limits s.guest.heap (touched s.guest.machine) ∙ is) (by_request env s t (request_of (instruction_at s.guest.machine) s.guest.machine) refl (rw is at h))
 
--- an instruction that is no call, under the rule
-pub serves_under : (limits : Limits) (env : Env) (guest : Guest) (instr : Instr) → guest.machine.since < limits.budget → IsAt guest.machine (Some instr) (instruction instr None None guest.machine) → instr ≢ Ecall
-    → serves limits env None guest ≡ under limits guest.heap instr guest.machine
-serves_under limits env guest instr early stands other = serves_unasked limits env guest (Some instr) _ early stands (asks_nothing instr guest.machine other)
+-- within the budget
+turn_early : (limits : Limits) (env : Env) (s : Standing) → s.guest.machine.since < limits.budget
+    → turn limits env s ≡ turn_of (instruction_at s.guest.machine) s (grant env s.guest) (cond (is_refused limits s.guest.heap (touched s.guest.machine)) (Fails BadAccess) (does_with (grant env s.guest) None s.guest.machine))
+unfolding turn serves
+turn_early limits env s early = let within : leb limits.budget s.guest.machine.since ≡ false = grind arith in rw within refl
 
--- an instruction that is no call is done
-pub turn_goes : (limits : Limits) (env : Env) (s : Standing) (instr : Instr) (m : Machine) → s.guest.machine.since < limits.budget
-    → fetched (record { pc = s.guest.machine.pc; x = s.guest.machine.registers }) s.guest.machine.memory ≡ Ok instr → instr ≢ Ecall
-    → under limits s.guest.heap instr s.guest.machine ≡ Goes m → turn limits env s ≡ Some (turn_to None (moved m s.guest.heap s) (stored_by (Some instr) s.guest.machine))
-unfolding turn
-turn_goes limits env s instr m early is other goes =
-    let stands = is_at s.guest.machine instr is in
-    let given = grant_unasked env s.guest (Some instr) stands.found_is (asks_nothing instr s.guest.machine other) in
-    rw (given, serves_under limits env s.guest instr early stands other, goes)
-    (ap (λ found. Some (turn_to None (moved m s.guest.heap s) (stored_by found s.guest.machine))) stands.found_is)
+turn_meets : (limits : Limits) (env : Env) (s : Standing) (t : Turn Met) → s.guest.machine.since < limits.budget → meeting limits.permits s ≡ Some t → turn limits env s ≡ in_env env s t.event t
+turn_meets limits env s t early h = turn_early limits env s early ∙ by_rule limits env s t (is_refused (limits_of 0 limits.permits) s.guest.heap (touched s.guest.machine)) refl h
 
--- it fails
-pub turn_refused : (limits : Limits) (env : Env) (s : Standing) (instr : Instr) (cause : Cause) → s.guest.machine.since < limits.budget
-    → fetched (record { pc = s.guest.machine.pc; x = s.guest.machine.registers }) s.guest.machine.memory ≡ Ok instr → instr ≢ Ecall
-    → under limits s.guest.heap instr s.guest.machine ≡ Fails cause → turn limits env s ≡ Some (turn_to (Some (event.Failed cause)) s None)
-turn_refused limits env s instr cause early is other fails =
-    turn_fails limits env s cause (serves_under limits env s.guest instr early (is_at s.guest.machine instr is) other ∙ fails)
+-- so is what it came to, or what the allocator answers then
+pub turned_in : (limits : Limits) (env : Env) (s : Standing) {after new : Standing} {was : Option Met} {came : Option Event} {old_space met_space new_space : GuestPages} → s.guest.machine.since < limits.budget
+    → Turned (meeting limits.permits s) was after old_space met_space
+    → ((written : Option Range) → Wrote written old_space met_space → Turned (in_env env s was (turn_to was after written)) came new old_space new_space) → Turned (turn limits env s) came new old_space new_space
+turned_in limits env s early turned answer =
+    let answered = answer turned.written turned.wrote in
+    record { written = answered.written; turns = turn_meets limits env s _ early turned.turns ∙ answered.turns; wrote = answered.wrote }
 
--- there is no instruction
-pub turn_unfetched : (limits : Limits) (env : Env) (s : Standing) (cause : Cause) → s.guest.machine.since < limits.budget
-    → fetched (record { pc = s.guest.machine.pc; x = s.guest.machine.registers }) s.guest.machine.memory ≡ Err cause → turn limits env s ≡ Some (turn_to (Some (event.Failed cause)) s None)
-turn_unfetched limits env s cause early is =
-    turn_fails limits env s cause (serves_unasked limits env s.guest None (Fails cause) early (is_at_none s.guest.machine cause is) refl)
+-- or it is a send
+pub sends_in : (limits : Limits) (env : Env) (s : Standing) → s.guest.machine.since < limits.budget → IsSend met.Emits (meeting limits.permits s) → IsSend event.Emits (turn limits env s)
+sends_in limits env s early send = record {
+  conn = send.conn;
+  bytes = send.bytes;
+  turn = turn_to (Some (event.Emits send.conn send.bytes)) send.turn.standing send.turn.written;
+  turns = turn_meets limits env s send.turn early send.turns ∙ ap (λ came. in_env env s came send.turn) send.is;
+  is = refl;
+}

@@ -1,6 +1,7 @@
 pub mod Terms
 pub mod Standing
 pub mod Turns
+pub mod Meeting
 pub mod Calls
 pub mod Placing
 pub mod Receiving

@@ -1,7 +1,7 @@
 -- What a guest does next as recorded: without a budget, an environment or a rule. The items and the answers of the allocator are
 -- given from outside, and a free does what it does in the model.
 use Rattle.std.specs.Prelude.{ℕ, ◌+◌, Bool, List, Option, Some, None, nat_le, length, nat_lt, ◌||◌, ◌&&◌, if◌then◌else◌, ◌==◌}
-use Rattle.guest_cpu.specs.Terms.{Ask, Choice, bytes_asked, is_allowed, is_defined, live_blocks, replaced, live_block, Heap, is_live_at, most_blocks, with_block, without_block, Instr, allocated, Chooses, Effect, Emits, Ends, Fails, Goes, Wants, does, Free, Request, request_of, instruction_at, BadFree, Question}
+use Rattle.guest_cpu.specs.Terms.{Ask, Choice, bytes_asked, is_allowed, is_defined, live_blocks, replaced, live_block, Heap, is_live_at, most_blocks, with_block, without_block, Instr, BadFree, allocated, Chooses, Effect, Emits, Ends, Fails, Goes, Wants, does, Free, Request, request_of, instruction_at, Question}
 use Rattle.guest_cpu.specs.declared.event.Question.TheVariants as question
 use Rattle.guest_cpu.specs.Standing.{Standing, Live, Turn, turn_to, moved, stored_by, set_range, with_range}
 

@@ -2,13 +2,11 @@
 pub use Rattle.std.specs.declared.alloc.AllocError.{AllocError}
 pub use Rattle.block_book.specs.declared.choice.Ask.{Ask}
 pub use Rattle.block_book.specs.declared.choice.Choice.{Choice}
-pub use Rattle.block_book.specs.Answer.{bytes_asked, insert_live, is_calloc, is_defined, live_blocks, live_with, replaced, same_ask, size_at, without_live, without_replaced}
+pub use Rattle.block_book.specs.Answer.{bytes_asked, has_replaced, insert_live, is_calloc, is_defined, live_blocks, live_with, replaced, same_ask, size_at, without_live, without_replaced}
 unfoldable pub use Rattle.block_book.specs.Answer.{is_allowed, is_block, is_clear}
 pub use Rattle.block_book.specs.Block.{live_block}
 pub use Rattle.block_book.specs.Heap.{Heap, IsHeap, SameEnds, empty_heap, is_live_at, most_blocks, with_block, without_block}
 pub use Rattle.alloc_env.specs.declared.env.Env.{Env}
-pub use Rattle.alloc_env.specs.Serving.{Served}
-unfoldable pub use Rattle.alloc_env.specs.Serving.{served_ask, served_free}
 pub use Rattle.cow_pages.specs.declared.frame_copy.TheConstants.{PAGE}
 pub use Rattle.cow_pages.specs.declared.store.TheConstants.{MAX_SLOTS}
 pub use Rattle.cow_pages.specs.Pages.{IsLawful, IsMade, Pages, Space, slot_at}
@@ -25,7 +23,7 @@ unfoldable pub use Rattle.elf_image.specs.Memory.{permitted}
 pub use Rattle.run_history.specs.declared.answer.Cause.{Cause}
 pub use Rattle.run_history.specs.declared.answer.Cause.TheVariants.{AssertFailed, BadAccess, BadFree, BadInstruction, Hang}
 pub use Rattle.run_history.specs.declared.regs.Regs.{Regs}
-pub use Rattle.run_history.specs.Call.{allocation, answered, chooses, free, kept_bytes, kept_count, may_send, set_count}
+pub use Rattle.run_history.specs.Call.{allocation, answered, call, chooses, free, kept_bytes, kept_count, may_send, set_count}
 unfoldable pub use Rattle.run_history.specs.Call.{allocated, freed, received, set_bytes}
 pub use Rattle.run_history.specs.Machine.{Chooses, Effect, Emits, Ends, Fails, Goes, Machine, Wants, register, with_register}
 unfoldable pub use Rattle.run_history.specs.Machine.{start_machine}
@@ -37,13 +35,11 @@ unfoldable pub use Rattle.run_history.specs.Served.{grant, served_next, serves}
 pub use Rattle.run_history.specs.Touching.{Range, buffer, call_buffer, touched_by}
 unfoldable pub use Rattle.run_history.specs.Touching.{instruction_at, touched}
 pub use Rattle.guest_space.specs.Access.{IsStart, Puts, Releases, Saves, SavesOver}
-pub use Rattle.guest_space.specs.Space.{GuestPages, IsLawfulSpace, Span, blank_span, flat, saved_flat, segment_span}
-pub use Rattle.call_gate.specs.declared.call.Call.{Call}
-pub use Rattle.call_gate.specs.Calls.{called}
-pub use Rattle.call_gate.specs.Checks.{checked}
+pub use Rattle.guest_space.specs.Space.{GuestPages, IsLawfulSpace, LiesIn, Span, blank_span, flat, saved_flat, segment_span}
 pub use Rattle.rv_exec.specs.Execution.{fetched, or_bad}
 pub use Rattle.rv_exec.specs.Quick.{IsStep}
 unfoldable pub use Rattle.rv_exec.specs.Quick.{Ran}
 pub use Rattle.rv_exec.specs.Stepping.{Leaves, StepsTo, limits_of, under}
 pub use Rattle.guest_cpu.specs.declared.event.Event.{Event}
+pub use Rattle.guest_cpu.specs.declared.event.Met.{Met}
 pub use Rattle.guest_cpu.specs.declared.event.Question.{Question}

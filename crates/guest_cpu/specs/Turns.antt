@@ -1,8 +1,9 @@
 -- An instruction of a guest, by its parts: what it has beside its memory, and the pages of its memory.
-use Rattle.std.specs.Prelude.{◌≡◌, ℕ, ◌+◌, ◌≤◌, List, length, Option, Some, None, Result, Ok, Err, Contains}
-use Rattle.guest_cpu.specs.Terms.{AllocError, SameEnds, Range, Puts, GuestPages, blank_span, flat, Event, Question}
+use Rattle.std.specs.Prelude.{◌≡◌, ℕ, ◌+◌, ◌≤◌, List, length, Option, Some, None, Result, Ok, Err, Contains, slice_index}
+use Rattle.guest_cpu.specs.Terms.{AllocError, SameEnds, Range, Puts, GuestPages, blank_span, flat, Event, Met, Question}
 use Rattle.guest_cpu.specs.declared.guest_core.Core.{Core}
 use Rattle.guest_cpu.specs.declared.event.Event.TheVariants as event
+use Rattle.guest_cpu.specs.declared.event.Met.TheVariants as met
 use Rattle.guest_cpu.specs.declared.event.Question.TheVariants as question
 use Rattle.guest_cpu.specs.Standing.{Standing, standing, AreCounted, Turn, turn_to}
 
@@ -55,3 +56,10 @@ Lasts _ old new = new ≡ old
 abbrev pub RecordedLasts : Result (Option Question) AllocError → Option ℕ → Option ℕ → Type 0
 RecordedLasts (Ok (Some (question.Exits code))) old new = new ≡ Some code
 RecordedLasts _ old new = new ≡ old
+
+-- the same before the allocator is asked; where it is to be, all is as it was
+abbrev pub MetLasts : Result (Option Met) AllocError → Core → GuestPages → Core → GuestPages → Type 0
+MetLasts (Ok (Some (met.Exits code))) old old_space new new_space = new.ended ≡ Some code
+MetLasts (Ok (Some (met.Allocates ask))) old old_space new new_space = (new ≡ old) × (new_space ≡ old_space)
+MetLasts (Ok (Some (met.Frees at))) old old_space new new_space = (new ≡ old) × (new_space ≡ old_space) × (at ≡ slice_index new.regs.x 10)
+MetLasts _ old old_space new new_space = new.ended ≡ old.ended

@@ -1,4 +1,4 @@
-// One call of a guest in an environment.
+// One call of a guest.
 ghost use Rattle.std.specs.Prelude.{◌≡◌, ◌-◌, ◌+◌, ◌^◌, ◌<◌, ◌≤◌, List, Option, Some, None, Ok, true, slice_index};
 ghost use Rattle.elf_image.specs.Memory.{Area, permitted};
 ghost use Rattle.guest_space.specs.Space.{flat};
@@ -6,12 +6,13 @@ ghost use Rattle.rv_isa.specs.declared.instr.Instr.TheVariants.{Ecall};
 ghost use Rattle.run_history.specs.Machine.{Ends};
 ghost use Rattle.run_history.specs.Call.{may_send};
 ghost use Rattle.run_history.specs.Touching.{instruction_at};
-ghost use Rattle.run_history.specs.Served.{Limits, Grant};
-ghost use Rattle.guest_cpu.specs.Standing.{standing, AreCounted, machine_of, turn, turn_of, turn_to};
-ghost use Rattle.guest_cpu.specs.Turns.{TurnsBy, Turned, Keeps, Rises, Lasts, HasHeap};
-ghost use Rattle.guest_cpu.specs.Calls.{sends, SendsBy, allocating, freeing};
+ghost use Rattle.guest_cpu.specs.Standing.{standing, AreCounted, machine_of, turn_to};
+ghost use Rattle.guest_cpu.specs.Turns.{TurnsBy, Turned, Keeps, Rises, Lasts, MetLasts, HasHeap};
+ghost use Rattle.guest_cpu.specs.Meeting.{sends, meeting_of, meeting};
+ghost use Rattle.guest_cpu.specs.Calls.{allocating, freeing};
 
 use crate::Event;
+use crate::event::Met;
 use crate::guest_core::Core;
 use crate::placing::set_block;
 use alloc_env::{Env, serve_ask, serve_free};
@@ -23,51 +24,43 @@ use rx_io::{Bytes, Steps};
 use std::alloc::{AllocError, Global};
 use std::sync::ledger::Ledger;
 
-/// Does a call, or meets an event. At a recv whose buffer may be written the item is asked for.
+/// Does a call, up to what the allocator is asked. At a recv whose buffer may be written the item is asked for.
 #[inline(never)]
-pub fn call<R: AccessRule, L: Ledger>(
+pub fn meet_call<R: AccessRule, L: Ledger>(
     alloc: Global,
     core: &mut Core,
-    space: &mut GuestSpace,
+    space: &GuestSpace,
     rule: &R,
-    env: Env,
     steps: &mut Steps<L>,
-) -> Result<Option<Event>, AllocError>
-    requires heap { HasHeap core.old space.old }
+) -> Result<Option<Met>, AllocError>
     requires counts { AreCounted core.old.marks }
     requires room { core.old.marks.steps < 2 ^ 64 - 1 }
-    ensures turned { (limits : Limits) → limits.permits ≡ R.rule rule.now → core.old.marks.since < limits.budget → instruction_at (machine_of core.old (flat space.old)) ≡ Some Ecall
-        → TurnsBy Event.Emits (turn limits env (standing core.old (flat space.old))) core.old space.old result core.new space.new }
+    ensures turned { instruction_at (machine_of core.old (flat space.now)) ≡ Some Ecall
+        → TurnsBy Met.Emits (meeting (R.rule rule.now) (standing core.old (flat space.now))) core.old space.now result core.new space.now }
     ensures keeps { Keeps core.old core.new }
     ensures rises { Rises core.old result core.new }
-    ensures lasts { Lasts result core.old.ended core.new.ended }
+    ensures lasts { MetLasts result core.old space.now core.new space.now }
     ensures counted { steps.new + core.old.marks.steps ≡ steps.old + core.new.marks.steps }
 {
     let call = match read_call(&core.regs) {
         Ok(call) => call,
-        Err(cause) => return Ok(Some(Event::Failed(cause))),
+        Err(cause) => return Ok(Some(Met::Failed(cause))),
     };
     if let Err(cause) = check_call(&call, space, &core.book, rule, &core.connections) {
-        return Ok(Some(Event::Failed(cause)));
+        return Ok(Some(Met::Failed(cause)));
     }
     match call {
-        Call::Recv { .. } => Ok(Some(Event::Asks)),
-        Call::Send { conn, at, len } => {
-            match send(alloc, core, space, conn, at, len, steps) {
-                Ok(None) => Ok(None),
-                Ok(Some((conn, bytes))) => Ok(Some(Event::Emits(conn, bytes))),
-                Err(e) => Err(e),
-            }
-        }
-        Call::Allocate(ask) => Ok(Some(allocate(core, space, env, ask, steps))),
-        Call::Free { at } => Ok(free(core, env, at, steps)),
+        Call::Recv { .. } => Ok(Some(Met::Asks)),
+        Call::Send { conn, at, len } => send(alloc, core, space, conn, at, len, steps),
+        Call::Allocate(ask) => Ok(Some(Met::Allocates(ask))),
+        Call::Free { at } => Ok(Some(Met::Frees(at))),
         Call::Exit { code } => Ok(Some(exit(core, code, steps))),
-        Call::Assert { code } => Ok(Some(Event::Failed(Cause::AssertFailed(code)))),
+        Call::Assert { code } => Ok(Some(Met::Failed(Cause::AssertFailed(code)))),
     }
 }
 
-/// A send whose bytes may be read. Memory is taken for them before anything changes.
-pub fn send<L: Ledger>(
+// A send whose bytes may be read. Memory is taken for them before anything changes.
+fn send<L: Ledger>(
     alloc: Global,
     core: &mut Core,
     space: &GuestSpace,
@@ -75,14 +68,14 @@ pub fn send<L: Ledger>(
     at: u32,
     len: u32,
     steps: &mut Steps<L>,
-) -> Result<Option<(u16, Bytes)>, AllocError>
+) -> Result<Option<Met>, AllocError>
     requires permitted { len ≤ 65535 → may_send (machine_of core.old (flat space.now)) conn ≡ true → permitted 4 (flat space.now) at len ≡ true }
     requires counts { AreCounted core.old.marks }
     requires room { core.old.marks.steps < 2 ^ 64 - 1 }
-    ensures sent { SendsBy (sends (machine_of core.old (flat space.now)) conn at len) core.old (flat space.now) result core.new }
+    ensures turned { TurnsBy Met.Emits (meeting_of (Some Ecall) (standing core.old (flat space.now)) (sends (machine_of core.old (flat space.now)) conn at len)) core.old space.now result core.new space.now }
     ensures keeps { Keeps core.old core.new }
     ensures rises { Rises core.old result core.new }
-    ensures lasts { core.new.ended ≡ core.old.ended }
+    ensures lasts { MetLasts result core.old space.now core.new space.now }
     ensures counted { steps.new + core.old.marks.steps ≡ steps.old + core.new.marks.steps }
 {
     if len > MOST_SENT {
@@ -107,11 +100,27 @@ pub fn send<L: Ledger>(
     core.answer(0);
     core.marks.sends += 1;
     steps.tick();
-    Ok(Some((conn as u16, Bytes::from_vec(bytes))))
+    Ok(Some(Met::Emits(conn as u16, Bytes::from_vec(bytes))))
 }
 
-// An ask of the allocator, which answers, or which is bad.
-fn allocate<L: Ledger>(
+// The guest ends itself with a code.
+fn exit<L: Ledger>(core: &mut Core, code: u32, steps: &mut Steps<L>) -> Met
+    requires counts { AreCounted core.old.marks }
+    requires room { core.old.marks.steps < 2 ^ 64 - 1 }
+    ensures turned { (memory : List Area) → meeting_of (Some Ecall) (standing core.old memory) (Ends code) ≡ Some (turn_to (Some result) (standing core.new memory) None) }
+    ensures keeps { Keeps core.old core.new }
+    ensures ends { (result ≡ Met.Exits code) × (core.new.ended ≡ Some code) }
+    ensures counted { steps.new + core.old.marks.steps ≡ steps.old + core.new.marks.steps }
+{
+    core.marks.steps += 1;
+    core.ended = Some(code);
+    steps.tick();
+    Met::Exits(code)
+}
+
+/// An ask of the allocator in an environment, which answers, or which is bad.
+#[inline(never)]
+pub fn allocate<L: Ledger>(
     core: &mut Core,
     space: &mut GuestSpace,
     env: Env,
@@ -123,7 +132,7 @@ fn allocate<L: Ledger>(
     requires room { core.old.marks.steps < 2 ^ 64 - 1 }
     ensures turned { Turned (allocating env (standing core.old (flat space.old)) ask) (Some result) (standing core.new (flat space.new)) space.old space.new }
     ensures keeps { Keeps core.old core.new }
-    ensures lasts { core.new.ended ≡ core.old.ended }
+    ensures lasts { Lasts (Ok (Some result)) core.old.ended core.new.ended }
     ensures counted { steps.new + core.old.marks.steps ≡ steps.old + core.new.marks.steps }
 {
     core.book.sound();
@@ -140,8 +149,8 @@ fn allocate<L: Ledger>(
     }
 }
 
-// Free of the block at an address.
-fn free<L: Ledger>(core: &mut Core, env: Env, at: u32, steps: &mut Steps<L>) -> Option<Event>
+/// Free of the block at an address, in an environment.
+pub fn free<L: Ledger>(core: &mut Core, env: Env, at: u32, steps: &mut Steps<L>) -> Option<Event>
     requires asked { at ≡ slice_index core.old.regs.x 10 }
     requires counts { AreCounted core.old.marks }
     requires room { core.old.marks.steps < 2 ^ 64 - 1 }
@@ -159,19 +168,4 @@ fn free<L: Ledger>(core: &mut Core, env: Env, at: u32, steps: &mut Steps<L>) -> 
         }
         Err(_) => Some(Event::Failed(Cause::BadFree)),
     }
-}
-
-// The guest ends itself with a code.
-fn exit<L: Ledger>(core: &mut Core, code: u32, steps: &mut Steps<L>) -> Event
-    requires counts { AreCounted core.old.marks }
-    requires room { core.old.marks.steps < 2 ^ 64 - 1 }
-    ensures turned { (memory : List Area) (grant : Option Grant) → turn_of (Some Ecall) (standing core.old memory) grant (Ends code) ≡ Some (turn_to (Some result) (standing core.new memory) None) }
-    ensures keeps { Keeps core.old core.new }
-    ensures ends { (result ≡ Event.Exits code) × (core.new.ended ≡ Some code) }
-    ensures counted { steps.new + core.old.marks.steps ≡ steps.old + core.new.marks.steps }
-{
-    core.marks.steps += 1;
-    core.ended = Some(code);
-    steps.tick();
-    Event::Exits(code)
 }

@@ -1,4 +1,4 @@
-// Why a run stops.
+// Why a run stops, and what an instruction comes to.
 
 use block_book::{Ask, Choice};
 use run_history::Cause;
@@ -34,4 +34,21 @@ pub enum Question {
     Failed(Cause),
     /// It has done as many instructions as it was to do.
     Reached,
+}
+
+/// What an instruction comes to that needs an answer from outside, sends or ends the run, before the allocator is asked.
+#[derive(Debug, Drop)]
+pub enum Met {
+    /// It asks for an item: the recv isn't executed.
+    Asks,
+    /// It sent bytes to a connection.
+    Emits(u16, Bytes),
+    /// It asks the allocator for a block: the call isn't executed.
+    Allocates(Ask),
+    /// It frees the block at an address: the call isn't executed.
+    Frees(u32),
+    /// It ended itself with a code.
+    Exits(u32),
+    /// It failed: the instruction isn't executed.
+    Failed(Cause),
 }

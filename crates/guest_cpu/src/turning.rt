@@ -1,12 +1,14 @@
-// One instruction of a guest in an environment.
+// One instruction of a guest, and one in an environment.
 ghost use Rattle.std.specs.Prelude.{◌≡◌, ◌+◌, ◌<◌, Ok, None};
 ghost use Rattle.guest_space.specs.Space.{flat};
 ghost use Rattle.rv_exec.specs.Stepping.{limits_of};
 ghost use Rattle.guest_cpu.specs.Standing.{standing, CanCount, turn};
-ghost use Rattle.guest_cpu.specs.Turns.{TurnsBy, Keeps, Rises, Lasts, HasHeap};
+ghost use Rattle.guest_cpu.specs.Turns.{TurnsBy, Keeps, Rises, Lasts, MetLasts, HasHeap};
+ghost use Rattle.guest_cpu.specs.Meeting.{meeting};
 
 use crate::Event;
-use crate::calling::call;
+use crate::calling::{allocate, free, meet_call};
+use crate::event::Met;
 use crate::guest_core::Core;
 use alloc_env::Env;
 use guest_space::{AccessRule, GuestSpace};
@@ -17,8 +19,39 @@ use rx_io::Steps;
 use std::alloc::{AllocError, Global};
 use std::sync::ledger::Ledger;
 
-/// Does one instruction, or meets an event. Hang is tested first. Memory is taken for a send's bytes alone, before anything
-/// changes.
+/// Does one instruction under a rule, up to what the allocator is asked. Memory is taken for a send's bytes alone, before
+/// anything changes.
+pub fn meet<R: AccessRule, L: Ledger>(
+    alloc: Global,
+    core: &mut Core,
+    space: &mut GuestSpace,
+    rule: &R,
+    steps: &mut Steps<L>,
+) -> Result<Option<Met>, AllocError>
+    requires counts { CanCount core.old.marks }
+    ensures turned { TurnsBy Met.Emits (meeting (R.rule rule.now) (standing core.old (flat space.old))) core.old space.old result core.new space.new }
+    ensures keeps { Keeps core.old core.new }
+    ensures rises { Rises core.old result core.new }
+    ensures lasts { MetLasts result core.old space.old core.new space.new }
+    ensures counted { steps.new + core.old.marks.steps ≡ steps.old + core.new.marks.steps }
+{
+    let instr = match next_instr(&core.regs, space) {
+        Ok(instr) => instr,
+        Err(cause) => return Ok(Some(Met::Failed(cause))),
+    };
+    if let Instr::Ecall = instr {
+        return meet_call(alloc, core, space, rule, steps);
+    }
+    match step(&mut core.regs, space, &core.book, rule, &instr, steps) {
+        Ok(()) => {
+            core.count();
+            Ok(None)
+        }
+        Err(cause) => Ok(Some(Met::Failed(cause))),
+    }
+}
+
+/// Does one instruction in an environment, or meets an event. Hang is tested first.
 #[inline(never)]
 pub fn advance<R: AccessRule, L: Ledger>(
     alloc: Global,
@@ -41,18 +74,14 @@ pub fn advance<R: AccessRule, L: Ledger>(
     if core.marks.since >= u64::from(budget) {
         return Ok(Some(Event::Failed(Cause::Hang)));
     }
-    let instr = match next_instr(&core.regs, space) {
-        Ok(instr) => instr,
-        Err(cause) => return Ok(Some(Event::Failed(cause))),
-    };
-    if let Instr::Ecall = instr {
-        return call(alloc, core, space, rule, env, steps);
-    }
-    match step(&mut core.regs, space, &core.book, rule, &instr, steps) {
-        Ok(()) => {
-            core.count();
-            Ok(None)
-        }
-        Err(cause) => Ok(Some(Event::Failed(cause))),
+    match meet(alloc, core, space, rule, steps) {
+        Ok(None) => Ok(None),
+        Ok(Some(Met::Asks)) => Ok(Some(Event::Asks)),
+        Ok(Some(Met::Emits(conn, bytes))) => Ok(Some(Event::Emits(conn, bytes))),
+        Ok(Some(Met::Allocates(ask))) => Ok(Some(allocate(core, space, env, ask, steps))),
+        Ok(Some(Met::Frees(at))) => Ok(free(core, env, at, steps)),
+        Ok(Some(Met::Exits(code))) => Ok(Some(Event::Exits(code))),
+        Ok(Some(Met::Failed(cause))) => Ok(Some(Event::Failed(cause))),
+        Err(e) => Err(e),
     }
 }

@@ -1,6 +1,6 @@
 -- Stretches of spans.
 use Rattle.std.specs.Bool.{OnTrue}
-use Rattle.guest_space.proofs.Terms.{Bool, List, arith, false, get_or, length, subst, sym, true, ℕ, ◌+◌, ◌-◌, ◌<◌, ◌^◌, ◌≡◌, ◌≤◌, nat_tests, Pages, Table, Stretch, GuestPages, Span, guest_pages, AreHeld, has_range, IsOpen}
+use Rattle.guest_space.proofs.Terms.{Bool, List, arith, false, get_or, length, subst, sym, true, ℕ, ◌+◌, ◌-◌, ◌<◌, ◌^◌, ◌≡◌, ◌≤◌, nat_tests, Pages, Table, Stretch, GuestPages, Span, guest_pages, AreHeld, has_range, IsIn, IsOpen}
 use Rattle.guest_space.proofs.FlatLemmas.{range_held}
 
 -- what one span has
@@ -21,6 +21,13 @@ stretch_open flag at i spans span stretch less is h end made =
       below = omega arith;
       held = λ other from to. range_held flag other 4 i spans span less is (range_elsewhere flag at other span h from (omega arith));
     }
+
+pub stretch_has : (flag at : ℕ) (span : Span) (stretch : Stretch) → has_range flag at 4 span ≡ true → stretch ≡ record { start = span.start; count = span.end - 3 - span.start } → IsIn stretch at
+stretch_has flag at span stretch h made =
+    let parts = range_parts flag at span h in
+    let low = parts.0 in
+    let high = parts.1 in
+    subst (λ s. IsIn s at) (sym made) (low, omega arith)
 
 -- a stretch of a space that is seen as its parts
 pub parts_open : (flag base : ℕ) (spans seen : List Span) (store : Pages) (code : Table) (space : GuestPages) (stretch : Stretch) → guest_pages base spans store code ≡ space → seen ≡ spans → IsOpen flag seen stretch → IsOpen flag space.spans stretch

@@ -19,5 +19,5 @@ pub use Rattle.guest_space.specs.Access.{IsStart, Puts, Reads}
 pub use Rattle.guest_space.specs.Ranges.{AreHeld, IsCode, has_address, has_range, some_has}
 pub use Rattle.guest_space.specs.Code.{HasCode, KeepsCode, code_bytes, word_count}
 pub use Rattle.guest_space.specs.Filling.{FilesIn, Fills, IsFilled, filled_bytes}
-pub use Rattle.guest_space.specs.Stretches.{IsOpen}
+pub use Rattle.guest_space.specs.Stretches.{IsIn, IsOpen}
 pub use Rattle.guest_space.specs.Windows.{AreWindows, IsLoadWindow, IsOfPage, IsStoreWindow, IsWindow}

@@ -8,7 +8,7 @@ has_address flag at span = (span.flags / flag % 2 == 1) && nat_le span.start at 
 
 -- the span permits this and has so many addresses from one on
 abbrev pub has_range : ℕ → ℕ → ℕ → Span → Bool
-has_range flag at size span = (span.flags / flag % 2 == 1) && nat_le span.start at && nat_le (at + size) span.end
+has_range flag at size span = nat_le (at + size) span.end && nat_le span.start at && (span.flags / flag % 2 == 1)
 
 -- a span has the address and permits this
 abbrev pub some_has : ℕ → ℕ → List Span → Bool

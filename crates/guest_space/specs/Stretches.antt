@@ -11,6 +11,10 @@ pub record IsOpen (flag : ℕ) (spans : List Span) (stretch : Stretch) : Type 0 
   pub below : stretch.start + stretch.count ≤ 2 ^ 32
   pub held : (at : ℕ) → stretch.start ≤ at → at < stretch.start + stretch.count → AreHeld flag spans at 4
 
+-- an address is one of a stretch
+abbrev pub IsIn : Stretch → ℕ → Type 0
+IsIn stretch at = (stretch.start ≤ at) × (at < stretch.start + stretch.count)
+
 -- the stretch of an instruction's word, and for each register as a base those of loads and of stores
 pub record AreOpen (spans : List Span) (stretches : Stretches) : Type 0 where
   pub words : IsOpen 1 spans stretches.words

@@ -8,12 +8,14 @@ ghost use Rattle.cow_pages.specs.Writes.{StandsAt, is_shared};
 ghost use Rattle.guest_space.specs.Space.{flat, IsLawfulSpace};
 ghost use Rattle.guest_space.specs.Access.{IsStart, Reads, Puts, Stores, Saves, SavesOver, Releases, Restores};
 ghost use Rattle.guest_space.specs.Ranges.{AreHeld};
-ghost use Rattle.guest_space.specs.Stretches.{IsOpen};
+ghost use Rattle.guest_space.specs.Stretches.{IsOpen, IsIn};
 ghost use Rattle.guest_space.specs.Windows.{IsWindow, IsOfPage, AreWindows, HasAddress, load_window};
 
 use crate::code::code_of;
 use crate::filling::{fill, spans_of};
-use crate::span::{EXECUTE, READ, Span, WRITE, are_held, each_has, one_has, stretch_at};
+use crate::span::{
+    EXECUTE, READ, Span, WRITE, are_held, each_has, one_has, stretch_at, stretch_of,
+};
 use crate::{BadAccess, Stretch, Window, Windows};
 use code_table::CodeTable;
 use cow_pages::{MAX_FRAMES_PER_PAGE, MAX_SLOTS, PAGE, PageStore};
@@ -517,18 +519,15 @@ impl GuestSpace {
         }
     }
 
-    // The window of the addresses of one page around an address; of none where it isn't one of a stretch, or too near the page's end.
-    #[cold]
-    #[inline(never)]
-    fn window_at(&self, flag: u32, at: u32) -> Window
-        requires { 0 < flag }
+    // The window of the addresses of one page around one of a stretch; of none where it is too near the page's end.
+    #[inline(always)]
+    fn window_in(&self, flag: u32, stretch: Stretch, at: u32) -> Window
+        requires open { IsOpen flag self.now.spans stretch }
+        requires has { IsIn stretch at }
         ensures window { IsWindow flag self.now.base self.now.spans self.now.store result }
         ensures page { IsOfPage self.now at result }
     {
-        let stretch = stretch_at(&self.spans, flag, at);
-        if !stretch.has(at) {
-            return Window::none();
-        }
+        let _flag = flag;
         let near = at - self.base;
         let offset = near % PAGE;
         if offset + 4 > PAGE {
@@ -567,7 +566,10 @@ impl GuestSpace {
         ensures holds { AreWindows self.now windows.new }
         ensures has { OnTrue result (HasAddress (load_window windows.new register) at) }
     {
-        windows.loads[register as usize] = self.window_at(READ, at);
+        let Some(stretch) = stretch_of(&self.spans, READ, at) else {
+            return false;
+        };
+        windows.loads[register as usize] = self.window_in(READ, stretch, at);
         windows.loads[register as usize].has(at)
     }
 
@@ -608,10 +610,9 @@ impl GuestSpace {
         ensures holds { AreWindows self.new windows.new }
         ensures stored { MatchBool result ((permitted 2 (flat self.old) at size ≡ true) × Puts self.old at (little_bytes size value) self.new) (self.new ≡ self.old) }
     {
-        let mut stretch = Stretch::none();
-        if !self.reaches(WRITE, &mut stretch, at) {
+        let Some(stretch) = stretch_of(&self.spans, WRITE, at) else {
             return false;
-        }
+        };
         let near = at - self.base;
         if size == 0 {
             return false;
@@ -626,7 +627,7 @@ impl GuestSpace {
         if self.store.place(near) != before {
             windows.loads = [Window::none(); 32];
         }
-        windows.stores[register as usize] = self.window_at(WRITE, at);
+        windows.stores[register as usize] = self.window_in(WRITE, stretch, at);
         true
     }
 

@@ -1,9 +1,9 @@
 // One span of a guest's memory.
-ghost use Rattle.std.specs.Prelude.{◌≡◌, ◌<◌, ◌+◌, ◌-◌, ◌*◌, ◌/◌, ◌^◌, ◌≤◌, MatchBool};
+ghost use Rattle.std.specs.Prelude.{◌≡◌, ◌<◌, ◌+◌, ◌-◌, ◌*◌, ◌/◌, ◌^◌, ◌≤◌, IfSome, MatchBool};
 ghost use Rattle.std.specs.Bool.{OnTrue};
 ghost use Rattle.guest_space.specs.Space.{blank_span, segment_span};
 ghost use Rattle.guest_space.specs.Ranges.{has_address, has_range, some_has, AreHeld, IsCode};
-ghost use Rattle.guest_space.specs.Stretches.{IsOpen};
+ghost use Rattle.guest_space.specs.Stretches.{IsOpen, IsIn};
 
 use crate::Stretch;
 use elf_image::Segment;
@@ -48,9 +48,10 @@ impl Span {
         requires { 0 < flag }
         ensures { result ≡ has_range flag at size self.now }
     {
-        self.flags / flag % 2 == 1
+        // Of spans in order most lie before the addresses: that is seen first.
+        u64::from(at) + u64::from(size) <= u64::from(self.end)
             && self.start <= at
-            && u64::from(at) + u64::from(size) <= u64::from(self.end)
+            && self.flags / flag % 2 == 1
     }
 
     /// Whether it may be executed and not written, and begins at a multiple of 4.
@@ -89,20 +90,32 @@ impl Span {
     }
 }
 
-/// The stretch of a span that permits this and has the four bytes from an address on; where there is none, that of no
-/// address.
+/// The stretch of a span that permits this and has the four bytes from an address on.
+#[inline(always)]
+pub fn stretch_of(spans: &[Span], flag: u32, at: u32) -> Option<Stretch>
+    requires { 0 < flag }
+    ensures open { IfSome result (λ stretch. IsOpen flag spans.now stretch) }
+    ensures has { IfSome result (λ stretch. IsIn stretch at) }
+{
+    for span in spans {
+        if span.has_range(flag, at, 4) {
+            return Some(span.stretch());
+        }
+    }
+    None
+}
+
+/// The same; where there is none, that of no address.
 #[cold]
 #[inline(never)]
 pub fn stretch_at(spans: &[Span], flag: u32, at: u32) -> Stretch
     requires { 0 < flag }
     ensures { IsOpen flag spans.now result }
 {
-    for span in spans {
-        if span.has_range(flag, at, 4) {
-            return span.stretch();
-        }
+    match stretch_of(spans, flag, at) {
+        Some(stretch) => stretch,
+        None => Stretch::none(),
     }
-    Stretch::none()
 }
 
 /// Whether a span has the address and permits this.

@@ -47,7 +47,7 @@ fn are_answered(
 
 // What `run p --record r --report t` is, in whatever order.
 const SHORTEST: &str =
-    "Some(Run(RunCommand { program: \"p\", recording: \"r\", report: \"t\", form: Text, frame: Line, window: 4, hold: 0, ring: 8, every: 1, frames: 4, budget: 1000000 }))";
+    "Some(Run(RunCommand { program: \"p\", recording: \"r\", report: \"t\", form: Text, frame: Line, window: 4, hold: 0, ring: 8, every: 1, frames: 4, budget: 1000000, guard: Off }))";
 
 // The program and the two names in each order.
 const ORDERS: &str = "\
@@ -58,14 +58,14 @@ const ORDERS: &str = "\
     run --record r --report t p\n\
     run --report t --record r p\n\
     run --hold 0 p --window 4 --record r --ring 8 --report t --budget 1000000\n\
-    run --budget 1000000 --report t --frames 4 --record r --every 1 p --form text\n";
+    run --guard off --budget 1000000 --report t --frames 4 --record r --every 1 p --form text\n";
 
 const ACCEPTED: &str = "\
-    run --record r --report t p --form json --frame length --window 64 --hold 1000 --ring 16 --every 64 --frames 16 --budget 16777216 => Some(Run(RunCommand { program: \"p\", recording: \"r\", report: \"t\", form: Json, frame: Length, window: 64, hold: 1000, ring: 16, every: 64, frames: 16, budget: 16777216 }))\n\
-    run p --budget 1 --frames 2 --every 1 --ring 1 --hold 0 --window 1 --frame whole --form text --report t --record r => Some(Run(RunCommand { program: \"p\", recording: \"r\", report: \"t\", form: Text, frame: Whole, window: 1, hold: 0, ring: 1, every: 1, frames: 2, budget: 1 }))\n\
-    run --frame line --ring 10 p --hold 9 --record r --every 7 --report t --window 5 => Some(Run(RunCommand { program: \"p\", recording: \"r\", report: \"t\", form: Text, frame: Line, window: 5, hold: 9, ring: 10, every: 7, frames: 4, budget: 1000000 }))\n\
-    run run --record asm --report = => Some(Run(RunCommand { program: \"run\", recording: \"asm\", report: \"=\", form: Text, frame: Line, window: 4, hold: 0, ring: 8, every: 1, frames: 4, budget: 1000000 }))\n\
-    run 0 --record a-b --report c--d --frames 3 --budget 999 => Some(Run(RunCommand { program: \"0\", recording: \"a-b\", report: \"c--d\", form: Text, frame: Line, window: 4, hold: 0, ring: 8, every: 1, frames: 3, budget: 999 }))\n\
+    run --record r --report t p --form json --frame length --window 64 --hold 1000 --ring 16 --every 64 --frames 16 --budget 16777216 --guard block => Some(Run(RunCommand { program: \"p\", recording: \"r\", report: \"t\", form: Json, frame: Length, window: 64, hold: 1000, ring: 16, every: 64, frames: 16, budget: 16777216, guard: Block }))\n\
+    run p --guard extent --budget 1 --frames 2 --every 1 --ring 1 --hold 0 --window 1 --frame whole --form text --report t --record r => Some(Run(RunCommand { program: \"p\", recording: \"r\", report: \"t\", form: Text, frame: Whole, window: 1, hold: 0, ring: 1, every: 1, frames: 2, budget: 1, guard: Extent }))\n\
+    run --frame line --ring 10 p --hold 9 --record r --every 7 --report t --window 5 => Some(Run(RunCommand { program: \"p\", recording: \"r\", report: \"t\", form: Text, frame: Line, window: 5, hold: 9, ring: 10, every: 7, frames: 4, budget: 1000000, guard: Off }))\n\
+    run run --record asm --report = => Some(Run(RunCommand { program: \"run\", recording: \"asm\", report: \"=\", form: Text, frame: Line, window: 4, hold: 0, ring: 8, every: 1, frames: 4, budget: 1000000, guard: Off }))\n\
+    run 0 --record a-b --report c--d --frames 3 --budget 999 => Some(Run(RunCommand { program: \"0\", recording: \"a-b\", report: \"c--d\", form: Text, frame: Line, window: 4, hold: 0, ring: 8, every: 1, frames: 3, budget: 999, guard: Off }))\n\
     asm a b => Some(Asm(AsmCommand { source: \"a\", out: \"b\" }))\n\
     asm asm run => Some(Asm(AsmCommand { source: \"asm\", out: \"run\" }))\n\
     replay p r => Some(Replay(ReplayCommand { program: \"p\", recording: \"r\" }))\n\
@@ -73,9 +73,9 @@ const ACCEPTED: &str = "\
     convert p r o => Some(Convert(ConvertCommand { program: \"p\", recording: \"r\", out: \"o\" }))\n\
     convert p p q => Some(Convert(ConvertCommand { program: \"p\", recording: \"p\", out: \"q\" }))\n\
     convert p r p => Some(Convert(ConvertCommand { program: \"p\", recording: \"r\", out: \"p\" }))\n\
-    serve p 80 1 --record r --report t => Some(Serve(ServeCommand { session: RunCommand { program: \"p\", recording: \"r\", report: \"t\", form: Text, frame: Line, window: 4, hold: 0, ring: 8, every: 1, frames: 4, budget: 1000000 }, port: 80, conns: 1, patience: 60 }))\n\
-    serve --patience 0 p --record 80 --report 1 65535 --frame whole 4096 --form json --window 64 --ring 16 --every 64 --frames 16 --budget 16777216 => Some(Serve(ServeCommand { session: RunCommand { program: \"p\", recording: \"80\", report: \"1\", form: Json, frame: Whole, window: 64, hold: 0, ring: 16, every: 64, frames: 16, budget: 16777216 }, port: 65535, conns: 4096, patience: 0 }))\n\
-    serve 1 1 1 --record r --report t --patience 3600 => Some(Serve(ServeCommand { session: RunCommand { program: \"1\", recording: \"r\", report: \"t\", form: Text, frame: Line, window: 4, hold: 0, ring: 8, every: 1, frames: 4, budget: 1000000 }, port: 1, conns: 1, patience: 3600 }))\n";
+    serve p 80 1 --record r --report t => Some(Serve(ServeCommand { session: RunCommand { program: \"p\", recording: \"r\", report: \"t\", form: Text, frame: Line, window: 4, hold: 0, ring: 8, every: 1, frames: 4, budget: 1000000, guard: Off }, port: 80, conns: 1, patience: 60 }))\n\
+    serve --patience 0 p --record 80 --report 1 65535 --frame whole 4096 --form json --window 64 --ring 16 --every 64 --frames 16 --budget 16777216 => Some(Serve(ServeCommand { session: RunCommand { program: \"p\", recording: \"80\", report: \"1\", form: Json, frame: Whole, window: 64, hold: 0, ring: 16, every: 64, frames: 16, budget: 16777216, guard: Off }, port: 65535, conns: 4096, patience: 0 }))\n\
+    serve 1 1 1 --record r --report t --patience 3600 --guard extent => Some(Serve(ServeCommand { session: RunCommand { program: \"1\", recording: \"r\", report: \"t\", form: Text, frame: Line, window: 4, hold: 0, ring: 8, every: 1, frames: 4, budget: 1000000, guard: Extent }, port: 1, conns: 1, patience: 3600 }))\n";
 
 // Refused behind `run p --record r --report t `.
 const REFUSED_ENDS: &str = "\
@@ -125,6 +125,11 @@ const REFUSED_ENDS: &str = "\
     --frames 4 --frames 4\n\
     --budget 1 --budget 2\n\
     --form text --form json\n\
+    --guard on\n\
+    --guard Block\n\
+    --guard \n\
+    --guard\n\
+    --guard extent --guard extent\n\
     --frame line --frame line\n\
     --record s\n\
     --record r\n\
@@ -198,7 +203,10 @@ const REFUSED: &str = "\n \n\
     serve p 80 1 --record r --report t --patience 3601\n\
     serve p 80 1 --record r --report t --patience 05\n\
     serve p 80 1 --record r --report t --patience 5 --patience 5\n\
-    serve p 80 1 --record r --report t --at-once 1\n";
+    serve p 80 1 --record r --report t --at-once 1\n\
+    serve p 80 1 --record r --report t --guard blocks\n\
+    asm a b --guard off\n\
+    replay p r --guard off\n";
 
 const COMPLAINTS: &str =
     " => word 1: the command is missing, run or asm or replay or convert or serve\n\
@@ -220,6 +228,7 @@ const COMPLAINTS: &str =
     run p --record -r => word 4: --record is a name, not -r\n\
     run p --form xml => word 4: --form is text or json, not xml\n\
     run p --frame lines => word 4: --frame is line or length or whole, not lines\n\
+    run p --guard on => word 4: --guard is off or extent or block, not on\n\
     run p -h => word 3: -h is no option of run\n\
     run p q => word 3: q is one name too many for run\n\
     run  => word 2: PROGRAM is a name, not nothing\n\
@@ -249,6 +258,7 @@ const RUN_USAGE: &str = "run PROGRAM and in any place, each once:
   --every 1 to 64 (1)
   --frames 2 to 16 (4)
   --budget 1 to 16777216 (1000000)
+  --guard off or extent or block (off)
 ";
 
 const SERVE_USAGE: &str =
@@ -262,6 +272,7 @@ const SERVE_USAGE: &str =
   --every 1 to 64 (1)
   --frames 2 to 16 (4)
   --budget 1 to 16777216 (1000000)
+  --guard off or extent or block (off)
   --patience 0 to 3600 (60)
 ";
 

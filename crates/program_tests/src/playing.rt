@@ -8,15 +8,20 @@
 //
 // What is played: `words` of the command, or `options` behind the usual ones; `before`, what `r` and `t` have, which else aren't there; `in`,
 // the input; `files`, `source` and `sink`, the numbers of the calls on them that fail; `takes` and `gives`, how many bytes a call on the source
-// and on the sink moves at most.
+// and on the sink moves at most. `clients`, what each client of a port sends, texts between `|`; `bind`, `accept`, `take` and `give`, the numbers
+// of the calls on the listener that fail; `moves`, how many bytes such a call takes or gives at most.
 //
 // What is expected, where it stands: `end`, the answer, the status, how many choices are recorded, those behind them, the instructions and the
 // items taken, or `answer` alone; `out`, all that stands in the sink; `left`, what the source gives in one call more; `record` and `report`, the
-// texts of `r` and `t`, `none` where they aren't there; `written`, the bytes of `o`, and `o`, its text.
+// texts of `r` and `t`, `none` where they aren't there; `written`, the bytes of `o`, and `o`, its text; `calls`, those on the listener, each
+// behind a blank; `replies`, what each client was given, a `|` behind each.
 ghost use Rattle.std.specs.Prelude.{◌≡◌, ◌<◌};
 
 use example_guests::source_of;
-use rx_io::{Files, MemoryFiles, MemorySink, MemorySource, Sink, Source, Steps, TameListener};
+use rx_io::{
+    Files, ListenCall, ListenEntry, MemoryFiles, MemoryListener, MemorySink, MemorySource, Sink,
+    Source, Steps, TameListener,
+};
 use rx_serve::{End, run_rx};
 use std::alloc::{AllocError, Global};
 use std::marker::Brand;
@@ -36,19 +41,30 @@ struct Played<'a> {
     row: &'a str,
 }
 
-// How a command ended, its files, all that stands in the sink, and what the source gives in one call more.
+// What a command is run over.
+#[derive(Drop)]
+struct Outside {
+    files: MemoryFiles,
+    source: MemorySource,
+    sink: MemorySink,
+    listener: MemoryListener,
+}
+
+// How a command ended, and what it was run over.
 #[derive(Drop)]
 struct Outcome {
     end: End,
-    files: MemoryFiles,
-    output: Vec<u8>,
-    left: Vec<u8>,
+    outside: Outside,
 }
 
+// A call on a listener, and the name of its cell.
+type CallRow = (ListenCall, &'static str);
+
 // The names that cells may have.
-const NAMES: [&str; 17] = [
-    "words", "options", "before", "in", "files", "source", "sink", "takes", "gives", "end",
-    "answer", "out", "left", "record", "report", "written", "o",
+const NAMES: [&str; 25] = [
+    "words", "options", "before", "in", "files", "source", "sink", "takes", "gives", "clients",
+    "bind", "accept", "take", "give", "moves", "end", "answer", "out", "left", "record", "report",
+    "written", "o", "calls", "replies",
 ];
 
 fn expect_known(name: &str) -> Result<(), Fail> {
@@ -114,6 +130,15 @@ fn bytes_of(alloc: Global, value: &str) -> Result<Vec<u8>, Fail> {
     Ok(bytes)
 }
 
+// The words of a line.
+fn words_of(alloc: Global, line: &str) -> Result<Vec<String>, AllocError> {
+    let mut words = Vec::new(alloc);
+    for word in line.split(' ') {
+        words.push(String::from_str(alloc, word)?)?;
+    }
+    Ok(words)
+}
+
 /// Runs a command over these files and streams with a counter of its own. It is generic over its ledger, and is handed the
 /// blank of which the counter is made.
 pub fn run_over<L: Ledger, F: Files, S: Source, K: Sink>(
@@ -128,10 +153,7 @@ pub fn run_over<L: Ledger, F: Files, S: Source, K: Sink>(
     requires parts { blank.parts ≡ L.parts }
     requires some { 0 < blank.parts }
 {
-    let mut words = Vec::new(alloc);
-    for word in line.split(' ') {
-        words.push(String::from_str(alloc, word)?)?;
-    }
+    let words = words_of(alloc, line)?;
     let mut listener = TameListener::make(alloc, Vec::new(alloc), 1);
     let mut steps = Steps::<L>::start(blank);
     Ok(run_rx(
@@ -174,6 +196,56 @@ fn sink_in(alloc: Global, row: &str) -> Result<MemorySink, Fail> {
     Ok(MemorySink::make(alloc, [fails].to_vec(alloc)?, most))
 }
 
+// Adds which call of a kind fails.
+fn push_fail(fails: &mut Vec<(ListenCall, u64)>, row: &str, call: CallRow) -> Result<(), Fail> {
+    let fail = number_of(row, call.1, 0)? as u64;
+    fails.push((call.0, fail))?;
+    Ok(())
+}
+
+// The calls on the listener of a row that fail.
+fn listen_fails_of(alloc: Global, row: &str) -> Result<Vec<(ListenCall, u64)>, Fail> {
+    let calls: [CallRow; 4] = [
+        (ListenCall::Bind, "bind"),
+        (ListenCall::Accept, "accept"),
+        (ListenCall::Take, "take"),
+        (ListenCall::Give, "give"),
+    ];
+    let mut fails = Vec::new(alloc);
+    for call in calls {
+        push_fail(&mut fails, row, call)?;
+    }
+    Ok(fails)
+}
+
+// What each client of a port sends.
+fn inputs_of(alloc: Global, clients: &str) -> Result<Vec<Vec<u8>>, AllocError> {
+    let mut inputs = Vec::new(alloc);
+    for client in clients.split('|') {
+        let text = text_of(alloc, client)?;
+        inputs.push(text.into_bytes())?;
+    }
+    Ok(inputs)
+}
+
+// The listener of a row.
+fn listener_in(alloc: Global, row: &str) -> Result<MemoryListener, Fail> {
+    let inputs = inputs_of(alloc, cell_of(row, "clients").unwrap_or(""))?;
+    let fails = listen_fails_of(alloc, row)?;
+    let most = number_of(row, "moves", 10_000)?.max(1);
+    Ok(MemoryListener::make(alloc, inputs, fails, most))
+}
+
+// What a row says of files, streams and listener.
+fn outside_in(alloc: Global, program: &[u8], row: &str) -> Result<Outside, Fail> {
+    Ok(Outside {
+        files: files_of(alloc, program, row)?,
+        source: source_in(alloc, row)?,
+        sink: sink_in(alloc, row)?,
+        listener: listener_in(alloc, row)?,
+    })
+}
+
 // What a source gives in one call, none where that fails.
 fn left_in(alloc: Global, source: &mut MemorySource) -> Result<Vec<u8>, AllocError> {
     let mut buffer = [0u8; 64].to_vec(alloc)?;
@@ -183,28 +255,35 @@ fn left_in(alloc: Global, source: &mut MemorySource) -> Result<Vec<u8>, AllocErr
 }
 
 // Runs a command with a counter of its own.
-fn run_counted<L: Ledger>(played: &Played<'_>, blank: Blank) -> Result<Outcome, Fail>
+fn run_counted<L: Ledger>(
+    alloc: Global,
+    words: &[String],
+    outside: &mut Outside,
+    blank: Blank,
+) -> End
     requires name { blank.name ≡ L.name }
     requires parts { blank.parts ≡ L.parts }
     requires some { 0 < blank.parts }
 {
-    let alloc = played.alloc;
-    let words = played.words;
-    let mut files = files_of(alloc, played.program, played.row)?;
-    let mut source = source_in(alloc, played.row)?;
-    let mut sink = sink_in(alloc, played.row)?;
-    let end = run_over::<L, _, _, _>(alloc, words, &mut files, &mut source, &mut sink, blank)?;
-    Ok(Outcome {
-        end,
-        files,
-        output: sink.bytes().to_vec(alloc)?,
-        left: left_in(alloc, &mut source)?,
-    })
+    let mut steps = Steps::<L>::start(blank);
+    run_rx(
+        alloc,
+        words,
+        &mut outside.files,
+        &mut outside.source,
+        &mut outside.sink,
+        &mut outside.listener,
+        &mut steps,
+    )
 }
 
 // Runs a command with a file `p`, and with what a row says of the others and of the streams.
 fn outcome_of(played: &Played<'_>) -> Result<Outcome, Fail> {
-    run_counted::<Brand>(played, Blank::new(1))
+    let alloc = played.alloc;
+    let words = words_of(alloc, played.words)?;
+    let mut outside = outside_in(alloc, played.program, played.row)?;
+    let end = run_counted::<Brand>(alloc, words.as_slice(), &mut outside, Blank::new(1));
+    Ok(Outcome { end, outside })
 }
 
 // The text of a program, by its name or itself.
@@ -224,7 +303,7 @@ pub fn executable_of(alloc: Global, program: &str) -> Result<Vec<u8>, Fail> {
         program: text.as_bytes(),
         row: "",
     })?;
-    let bytes = outcome.files.bytes_of("o").ok_or("not assembled")?;
+    let bytes = outcome.outside.files.bytes_of("o").ok_or("not assembled")?;
     Ok(bytes.to_vec(alloc)?)
 }
 
@@ -261,6 +340,51 @@ pub fn shown(alloc: Global, end: &End) -> Result<String, AllocError> {
         end.steps,
         end.taken
     )
+}
+
+// A call on a listener, behind a blank.
+fn call_shown(alloc: Global, call: &ListenEntry) -> Result<String, AllocError> {
+    match call {
+        ListenEntry::Bound(port) => format!(in alloc; " bound {port}"),
+        ListenEntry::Accepted => String::from_str(alloc, " accepted"),
+        ListenEntry::Took { bytes, room } => {
+            format!(in alloc; " took {} of {room}", bytes.as_slice().len())
+        }
+        ListenEntry::Gave { bytes, offered } => {
+            format!(in alloc; " gave {} of {offered}", bytes.as_slice().len())
+        }
+        ListenEntry::Closed => String::from_str(alloc, " closed"),
+        ListenEntry::Failed(call) => format!(in alloc; " failed {call:?}"),
+    }
+}
+
+// The calls on a listener.
+fn calls_shown(alloc: Global, calls: &[ListenEntry]) -> Result<String, AllocError> {
+    let mut text = String::new(alloc);
+    for call in calls {
+        let shown = call_shown(alloc, call)?;
+        text.push_str(shown.as_str())?;
+    }
+    Ok(text)
+}
+
+// Adds what a call gave to its client, or a `|` where it ended it.
+fn push_reply(replies: &mut Vec<u8>, call: &ListenEntry) -> Result<(), AllocError> {
+    match call {
+        ListenEntry::Gave { bytes, .. } => replies.extend_from_slice(bytes.as_slice())?,
+        ListenEntry::Closed => replies.push(b'|')?,
+        _ => {}
+    }
+    Ok(())
+}
+
+// What each client of a port was given, a `|` behind each.
+fn replies_in(alloc: Global, calls: &[ListenEntry]) -> Result<Vec<u8>, AllocError> {
+    let mut replies = Vec::new(alloc);
+    for call in calls {
+        push_reply(&mut replies, call)?;
+    }
+    Ok(replies)
 }
 
 // Compares a text with a cell, if it stands there.
@@ -305,32 +429,68 @@ fn expect_file(
     expect_text(rt, alloc, row, name, text.as_str())
 }
 
-// Compares how a command ended with a row.
-fn expect_outcome(rt: &impl Abort, alloc: Global, row: &str, seen: &Outcome) -> Result<(), Fail> {
-    let end = shown(alloc, &seen.end)?;
-    expect_text(rt, alloc, row, "end", end.as_str())?;
-    let answer = format!(in alloc; "{:?}", seen.end.answer)?;
-    expect_text(rt, alloc, row, "answer", answer.as_str())?;
-    expect_bytes(rt, alloc, row, "out", seen.output.as_slice())?;
-    expect_bytes(rt, alloc, row, "left", seen.left.as_slice())?;
-    expect_file(rt, alloc, row, "record", seen.files.bytes_of("r"))?;
-    expect_file(rt, alloc, row, "report", seen.files.bytes_of("t"))?;
-    expect_file(rt, alloc, row, "o", seen.files.bytes_of("o"))?;
-    let written = seen.files.bytes_of("o").unwrap_or(&[]);
+// Compares the files with a row.
+fn expect_files(
+    rt: &impl Abort,
+    alloc: Global,
+    row: &str,
+    files: &MemoryFiles,
+) -> Result<(), Fail> {
+    expect_file(rt, alloc, row, "record", files.bytes_of("r"))?;
+    expect_file(rt, alloc, row, "report", files.bytes_of("t"))?;
+    expect_file(rt, alloc, row, "o", files.bytes_of("o"))?;
+    let written = files.bytes_of("o").unwrap_or(&[]);
     expect_bytes(rt, alloc, row, "written", written)
+}
+
+// Compares the calls on a listener with a row.
+fn expect_calls(
+    rt: &impl Abort,
+    alloc: Global,
+    row: &str,
+    calls: &[ListenEntry],
+) -> Result<(), Fail> {
+    let shown = calls_shown(alloc, calls)?;
+    expect_text(rt, alloc, row, "calls", shown.as_str())?;
+    let replies = replies_in(alloc, calls)?;
+    let replies = String::from_utf8_lossy(alloc, replies.as_slice())?;
+    expect_text(rt, alloc, row, "replies", replies.as_str())
+}
+
+// Compares an answer and its counts with a row.
+fn expect_end(rt: &impl Abort, alloc: Global, row: &str, end: &End) -> Result<(), Fail> {
+    let text = shown(alloc, end)?;
+    expect_text(rt, alloc, row, "end", text.as_str())?;
+    let answer = format!(in alloc; "{:?}", end.answer)?;
+    expect_text(rt, alloc, row, "answer", answer.as_str())
+}
+
+// Compares what a command was run over with a row.
+fn expect_outside(
+    rt: &impl Abort,
+    alloc: Global,
+    row: &str,
+    seen: &mut Outside,
+) -> Result<(), Fail> {
+    let left = left_in(alloc, &mut seen.source)?;
+    expect_bytes(rt, alloc, row, "left", left.as_slice())?;
+    expect_bytes(rt, alloc, row, "out", seen.sink.bytes())?;
+    expect_files(rt, alloc, row, &seen.files)?;
+    expect_calls(rt, alloc, row, seen.listener.calls())
 }
 
 // Plays a row, and compares.
 fn play_row(rt: &impl Abort, alloc: Global, program: &[u8], row: &str) -> Result<(), Fail> {
     expect_cells(row)?;
     let words = words_in(alloc, row)?;
-    let outcome = outcome_of(&Played {
+    let mut outcome = outcome_of(&Played {
         alloc,
         words: words.as_str(),
         program,
         row,
     })?;
-    expect_outcome(rt, alloc, row, &outcome)
+    expect_end(rt, alloc, row, &outcome.end)?;
+    expect_outside(rt, alloc, row, &mut outcome.outside)
 }
 
 // Plays the rows of a block.

@@ -5,6 +5,7 @@
 // The program stands at 0x10000. The first block stands at 0x12000 behind a buffer of one page, and at 0x13000 behind more data.
 // Padding puts it 0x100 further on, and the next one 0x210 behind it.
 use crate::playing::play_rows;
+use std::alloc::{AllocError, Global};
 use std::test::Fail;
 
 // The echo does 6 instructions up to its recv, 10 for an item that is no message, and 18 for one that is.
@@ -140,6 +141,29 @@ fn a_guest_that_fails_ends_as_its_row_says(rt: HostRuntime) -> Result<(), Fail> 
 
         three
         options=--budget 3 --form json; record=rx record 2 window 4 frame line/end 3 0/; report={"report":1}/{"cause":"Hang","failure":0,"pc":"0001000c","point":0,"tries":[{"checkpoint":0,"env":"pad","result":"Hang"},{"checkpoint":0,"env":"zero","result":"Hang"},{"checkpoint":0,"env":"isolate","result":"Hang"},{"checkpoint":0,"env":"delay","result":"Hang"},{"checkpoint":0,"env":"all","result":"Hang"}]}/{"end":5,"steps":3,"taken":0}/
+    "#,
+    )
+}
+
+// Overflow stores the byte behind its two blocks at the 32nd instruction of its text, once 32 bytes were copied. With padding all of the line lies in the
+// extent of the first block, and the 17th byte behind what it reserves. Stale reads a block that was freed: it stands where delay keeps it from use, but
+// isn't live.
+#[test]
+fn a_guard_finds_an_access_where_it_goes_wrong(rt: HostRuntime) -> Result<(), Fail> {
+    play_rows(
+        &rt,
+        rt.alloc(),
+        r#"
+        overflow
+        options=--guard extent; in=0100000000 0200002800 78*39 0a; end=Finished 0 2 [] 303 2; out=0200002800 78*39 0a; left=; record=rx record 2 window 4 frame line/m 00012100 - 00000010/m 00012310 - 00000010/end 303 2/; report=rx report 1/failure 0 point 2 cause BadAccess at 0001007c/try 0 checkpoint 1 env pad result survived/end 0 taken 2 steps 303/
+        options=--guard block; in=0100000000 0200002800 78*39 0a; end=GaveUp { point: 2, cause: BadAccess } 5 2 [] 233 2; out=; left=; record=rx record 2 window 4 frame line/m 00012000 - 00000010/m 00012010 - 00000010/end 233 2/; report=rx report 1/failure 0 point 2 cause BadAccess at 0001007c/try 0 checkpoint 1 env pad result BadAccess/try 1 checkpoint 1 env zero result BadAccess/try 2 checkpoint 1 env isolate result BadAccess/try 3 checkpoint 1 env delay result BadAccess/try 4 checkpoint 1 env all result BadAccess/try 5 checkpoint 0 env pad result BadAccess/try 6 checkpoint 0 env zero result BadAccess/try 7 checkpoint 0 env isolate result BadAccess/try 8 checkpoint 0 env delay result BadAccess/try 9 checkpoint 0 env all result BadAccess/end 5 taken 2 steps 233/
+        # A message that fits its block is no failure.
+        options=--guard block; in=0100000000 0200000300 68690a; end=Finished 0 2 [] 81 2; out=0200000300 68690a; left=
+        words=run p --record r --report t --guard blocks; in=0100000000 0200000300 68690a; files=1; end=BadWords 2 0 [] 0 0; out=; left=0100000000 0200000300 68690a
+
+        stale
+        options=--guard extent; in=0100000000 0200000200 610a 0200000200 620a; end=Finished 0 2 [] 141 3; out=0200000200 610a 0200000200 620a; left=; record=rx record 2 window 4 frame line/m 00012000 - 00000040/m 00012040 - 00000040/end 141 3/; report=rx report 1/failure 0 point 3 cause AssertFailed 3 at 000100e0/try 0 checkpoint 2 env pad result AssertFailed 3/try 1 checkpoint 2 env zero result AssertFailed 3/try 2 checkpoint 2 env isolate result AssertFailed 3/try 3 checkpoint 2 env delay result AssertFailed 3/try 4 checkpoint 2 env all result AssertFailed 3/try 5 checkpoint 1 env pad result AssertFailed 3/try 6 checkpoint 1 env zero result AssertFailed 3/try 7 checkpoint 1 env isolate result AssertFailed 3/try 8 checkpoint 1 env delay result survived/end 0 taken 3 steps 141/
+        options=--guard block; in=0100000000 0200000200 610a 0200000200 620a; end=GaveUp { point: 3, cause: AssertFailed(3) } 5 2 [] 131 3; out=0200000200 610a; left=; record=rx record 2 window 4 frame line/m 00012000 - 00000040/m 00012000 - 00000040/end 131 3/; report=rx report 1/failure 0 point 3 cause AssertFailed 3 at 000100e0/try 0 checkpoint 2 env pad result AssertFailed 3/try 1 checkpoint 2 env zero result AssertFailed 3/try 2 checkpoint 2 env isolate result AssertFailed 3/try 3 checkpoint 2 env delay result AssertFailed 3/try 4 checkpoint 2 env all result AssertFailed 3/try 5 checkpoint 1 env pad result AssertFailed 3/try 6 checkpoint 1 env zero result AssertFailed 3/try 7 checkpoint 1 env isolate result AssertFailed 3/try 8 checkpoint 1 env delay result BadAccess/try 9 checkpoint 1 env all result BadAccess/try 10 checkpoint 0 env pad result AssertFailed 3/try 11 checkpoint 0 env zero result AssertFailed 3/try 12 checkpoint 0 env isolate result AssertFailed 3/try 13 checkpoint 0 env delay result BadAccess/try 14 checkpoint 0 env all result BadAccess/end 5 taken 3 steps 131/
     "#,
     )
 }
@@ -294,4 +318,77 @@ fn a_record_is_converted_as_its_row_says(rt: HostRuntime) -> Result<(), Fail> {
         words=convert p r r; in=0100000000 0200000300 68690a; before=rx record 1 window 4 frame line/end 34 2/; end=BadWords 2 0 [] 0 0; out=; left=0100000000 0200000300 68690a; record=rx record 1 window 4 frame line/end 34 2/
     "#,
     )
+}
+
+// Clients of a port are served one after another. The echo takes an open, a line and a close of each.
+#[test]
+fn a_port_is_served_as_its_row_says(rt: HostRuntime) -> Result<(), Fail> {
+    play_rows(
+        &rt,
+        rt.alloc(),
+        r#"
+        echo
+        words=serve p 80 2 --record r --report t; clients=hi/|there/; in=0100000000; end=Finished 0 0 [] 82 6; replies=hi/|there/|; calls= bound 80 accepted took 3 of 4096 gave 3 of 3 took 0 of 4096 closed accepted took 6 of 4096 gave 6 of 6 took 0 of 4096 closed; out=; left=0100000000; record=rx record 2 window 4 frame line/end 82 6/; report=rx report 1/end 0 taken 6 steps 82/
+        words=serve p 65535 1 --record r --report t --form json; clients=hi/|there/; end=Finished 0 0 [] 44 3; replies=hi/|; calls= bound 65535 accepted took 3 of 4096 gave 3 of 3 took 0 of 4096 closed; record=rx record 2 window 4 frame line/end 44 3/; report={"report":1}/{"end":0,"steps":44,"taken":3}/
+        # The bind fails.
+        words=serve p 80 2 --record r --report t; clients=hi/|hi/; bind=1; end=ReadFault 7 0 [] 0 0; replies=; calls= failed Bind; record=rx record 2 window 4 frame line/; report=rx report 1/
+        # The first accept fails, or the second one, or there is no third client.
+        words=serve p 80 2 --record r --report t; clients=hi/|hi/; accept=1; end=ReadFault 7 0 [] 6 0; replies=; calls= bound 80 failed Accept; record=rx record 2 window 4 frame line/; report=rx report 1/
+        words=serve p 80 2 --record r --report t; clients=hi/|hi/; accept=2; end=ReadFault 7 0 [] 44 3; replies=hi/|; calls= bound 80 accepted took 3 of 4096 gave 3 of 3 took 0 of 4096 closed failed Accept; record=rx record 2 window 4 frame line/; report=rx report 1/
+        words=serve p 80 3 --record r --report t; clients=hi/|hi/; end=ReadFault 7 0 [] 82 6; replies=hi/|hi/|; record=rx record 2 window 4 frame line/; report=rx report 1/
+        # The second give fails: the client is gone, and the next one is served.
+        words=serve p 80 2 --record r --report t; clients=hi/|hi/; moves=1; give=2; end=Finished 0 0 [] 82 6; replies=h|hi/|; calls= bound 80 accepted took 1 of 4096 took 1 of 4096 took 1 of 4096 gave 1 of 3 failed Give closed accepted took 1 of 4096 took 1 of 4096 took 1 of 4096 gave 1 of 3 gave 1 of 2 gave 1 of 1 took 0 of 4096 closed; record=rx record 2 window 4 frame line/end 82 6/; report=rx report 1/end 0 taken 6 steps 82/
+        # The first take fails, or the second one, behind half a line, which is dropped.
+        words=serve p 80 2 --record r --report t; clients=hi/|hi/; take=1; end=Finished 0 0 [] 64 5; replies=|hi/|; calls= bound 80 accepted failed Take closed accepted took 3 of 4096 gave 3 of 3 took 0 of 4096 closed; record=rx record 2 window 4 frame line/end 64 5/; report=rx report 1/end 0 taken 5 steps 64/
+        words=serve p 80 2 --record r --report t; clients=hi/|hi/; moves=2; take=2; end=Finished 0 0 [] 64 5; replies=|hi/|; calls= bound 80 accepted took 2 of 4096 failed Take closed accepted took 2 of 4096 took 1 of 4096 gave 2 of 3 gave 1 of 1 took 0 of 4096 closed; record=rx record 2 window 4 frame line/end 64 5/; report=rx report 1/end 0 taken 5 steps 64/
+        # No file is loaded, and the listener isn't called.
+        words=serve q 80 2 --record r --report t; clients=hi/|hi/; end=FileFault 9 0 [] 0 0; replies=; calls=; record=none; report=none
+    "#,
+    )
+}
+
+// Overflow fails at the long line of the first client, and is served on with padding for four items, of which the second client's line is one; or is
+// none behind a line more, where it fails again.
+#[test]
+fn a_guest_that_fails_serves_a_port(rt: HostRuntime) -> Result<(), Fail> {
+    play_rows(
+        &rt,
+        rt.alloc(),
+        r#"
+        overflow
+        words=serve p 80 2 --record r --report t; clients=xxxxxxxxxxxxxxxxxxxxxxxxxxxxxxxxxxxxxxx/|yyyyyyyyyyyyyyyyyyyyyyyyyyyyyyyyyyyyyyy/; end=Finished 0 4 [] 620 6; replies=xxxxxxxxxxxxxxxxxxxxxxxxxxxxxxxxxxxxxxx/|yyyyyyyyyyyyyyyyyyyyyyyyyyyyyyyyyyyyyyy/|; calls= bound 80 accepted took 40 of 4096 gave 40 of 40 took 0 of 4096 closed accepted took 40 of 4096 gave 40 of 40 took 0 of 4096 closed; record=rx record 2 window 4 frame line/m 00012100 - 00000010/m 00012310 - 00000010/m 00012100 - 00000010/m 00012310 - 00000010/end 620 6/; report=rx report 1/failure 0 point 2 cause AssertFailed 1 at 000100ac/try 0 checkpoint 1 env pad result survived/end 0 taken 6 steps 620/
+        words=serve p 80 2 --record r --report t; clients=xxxxxxxxxxxxxxxxxxxxxxxxxxxxxxxxxxxxxxx//|yyyyyyyyyyyyyyyyyyyyyyyyyyyyyyyyyyyyyyy/; end=Finished 0 6 [] 673 7; replies=xxxxxxxxxxxxxxxxxxxxxxxxxxxxxxxxxxxxxxx//|yyyyyyyyyyyyyyyyyyyyyyyyyyyyyyyyyyyyyyy/|; calls= bound 80 accepted took 41 of 4096 gave 40 of 40 gave 1 of 1 took 0 of 4096 closed accepted took 40 of 4096 gave 40 of 40 took 0 of 4096 closed; record=rx record 2 window 4 frame line/m 00012100 - 00000010/m 00012310 - 00000010/m 00012100 - 00000010/m 00012310 - 00000010/m 00012100 - 00000010/m 00012310 - 00000010/end 673 7/; report=rx report 1/failure 0 point 2 cause AssertFailed 1 at 000100ac/try 0 checkpoint 1 env pad result survived/failure 1 point 6 cause AssertFailed 1 at 000100ac/try 0 checkpoint 5 env pad result survived/end 0 taken 7 steps 673/
+    "#,
+    )
+}
+
+// Adds a text with a key's number for each `#`.
+fn push_key(text: &mut String, alloc: Global, form: &str, number: u8) -> Result<(), AllocError> {
+    let digits = format!(in alloc; "{number}")?;
+    let one = form.replace(alloc, "#", digits.as_str())?;
+    text.push_str(one.as_str())
+}
+
+// A text for each of the keys 0 to 98.
+fn for_each_key(alloc: Global, form: &str) -> Result<String, AllocError> {
+    let mut text = String::new(alloc);
+    for number in 0..99 {
+        push_key(&mut text, alloc, form, number)?;
+    }
+    Ok(text)
+}
+
+// The key of 40 letters of the first client runs over its block; the second client is given what the first one set. The counts are those of
+// `compare/second`, which was written from the rules.
+#[test]
+fn a_store_of_keys_serves_a_port(rt: HostRuntime) -> Result<(), Fail> {
+    let alloc = rt.alloc();
+    let sets = for_each_key(alloc, "set k# v#/")?;
+    let gets = for_each_key(alloc, "get k#/")?;
+    let values = for_each_key(alloc, "v#/")?;
+    let done = "ok/".repeat(alloc, 100)?;
+    let rows = format!(in alloc;
+        "keys\nwords=serve p 80 2 --record r --report t; clients={sets}set aaaaaaaaaaaaaaaaaaaaaaaaaaaaaaaaaaaaaaaa z/|{gets}get k0/; end=Finished 0 400 [] 199745 204; replies={done}|{values}v0/|; report=rx report 1/failure 0 point 101 cause AssertFailed 6 at 0001015c/try 0 checkpoint 100 env pad result survived/end 0 taken 204 steps 199745/"
+    )?;
+    play_rows(&rt, alloc, rows.as_str())
 }

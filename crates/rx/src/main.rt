@@ -5,34 +5,56 @@
 ghost use Rattle.std.specs.Prelude.{◌≡◌, ◌<◌};
 ghost use Rattle.rx_serve.specs.Status.{status_of};
 
+mod blame;
+mod descriptors;
 mod message;
+mod outputs;
 mod telling;
 
 use command_line::{Command, read_command};
+use descriptors::hold_closed;
+use outputs::{Objection, find_objection};
 use rx_io::{StdFiles, StdSink, StdSource, Steps};
 use rx_serve::{End, run_rx};
+use std::alloc::AllocError;
 use std::env;
 use std::marker::Brand;
 use std::process::ExitCode;
 use std::sync::ledger::{Blank, Ledger};
 use tcp_edge::TcpListenerEdge;
-use telling::{tell, tell_memory, tell_not_utf8};
+use telling::{tell, tell_memory, tell_not_utf8, tell_objection};
 
 // The status where memory ran out, and where the words are those of no command.
 const NO_MEMORY: u8 = 10;
 
 const BAD_WORDS: u8 = 2;
 
+// The status where a file can't be written, or would be lost by it.
+const NO_FILE: u8 = 9;
+
 // For how many seconds a client is waited for: what the words of `serve` say. 0 is without limit, and stands where no client comes.
-fn patience_of(rt: &HostRuntime, words: &[String]) -> u64 {
-    match read_command(rt.alloc(), words) {
-        Ok(Some(Command::Serve(serve))) => u64::from(serve.patience),
-        _ => 0,
+fn patience_of(rt: &HostRuntime, words: &[String]) -> Result<u64, AllocError> {
+    match read_command(rt.alloc(), words)? {
+        Some(Command::Serve(serve)) => Ok(u64::from(serve.patience)),
+        _ => Ok(0),
     }
 }
 
-// Runs the command of these words over the real streams, files and ports.
-fn run<L: Ledger>(rt: &HostRuntime, words: &[String], blank: Blank) -> End
+// The status of what speaks against writing the files of these words, which is told, if anything does. Nothing was touched then.
+fn refused_outputs(rt: &HostRuntime, words: &[String]) -> Option<u8> {
+    let Ok(Some(command)) = read_command(rt.alloc(), words) else {
+        return None;
+    };
+    let found = find_objection(rt, &command)?;
+    tell_objection(rt, found);
+    match found {
+        Objection::OneFile(_, _) => Some(BAD_WORDS),
+        Objection::Lost(_) => Some(NO_FILE),
+    }
+}
+
+// Runs the command of these words over the real streams, files and ports, where a client is waited for so many seconds.
+fn run<L: Ledger>(rt: &HostRuntime, words: &[String], patience: u64, blank: Blank) -> End
     requires name { blank.name ≡ L.name }
     requires parts { blank.parts ≡ L.parts }
     requires some { 0 < blank.parts }
@@ -42,7 +64,7 @@ fn run<L: Ledger>(rt: &HostRuntime, words: &[String], blank: Blank) -> End
     let mut files = StdFiles::make(rt, alloc);
     let mut input = StdSource::make(rt);
     let mut output = StdSink::make(rt);
-    let mut listener = TcpListenerEdge::make(rt, patience_of(rt, words));
+    let mut listener = TcpListenerEdge::make(rt, patience);
     let mut steps = Steps::<L>::start(blank);
     run_rx(
         alloc,
@@ -56,6 +78,8 @@ fn run<L: Ledger>(rt: &HostRuntime, words: &[String], blank: Blank) -> End
 }
 
 fn main(rt: HostRuntime) -> ExitCode {
+    // Held as long as the program runs.
+    let _closed = hold_closed(&rt);
     let alloc = rt.alloc();
     // Words that aren't UTF-8 are no words of a command.
     let words: Vec<String> = match env::args(&rt) {
@@ -71,7 +95,14 @@ fn main(rt: HostRuntime) -> ExitCode {
             return ExitCode::from(BAD_WORDS);
         }
     };
-    let end = run::<Brand>(&rt, words.as_slice(), Blank::new(1));
+    if let Some(status) = refused_outputs(&rt, words.as_slice()) {
+        return ExitCode::from(status);
+    }
+    let Ok(patience) = patience_of(&rt, words.as_slice()) else {
+        tell_memory(&rt);
+        return ExitCode::from(NO_MEMORY);
+    };
+    let end = run::<Brand>(&rt, words.as_slice(), patience, Blank::new(1));
     if end.status != 0 {
         tell(&rt, end.answer, words.as_slice());
     }

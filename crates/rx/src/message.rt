@@ -23,6 +23,21 @@ fn frame_flaw(kind: u8) -> &'static str {
     }
 }
 
+// What to build a program with, whose file is refused by this number: for who didn't write the file by hand.
+fn advice(kind: u8) -> &'static str {
+    match kind {
+        2 => ": only an executable is run, and this is none",
+        3 | 6 =>
+            ": it is for another machine. A C compiler for RISC-V makes one by -march=rv32im -mabi=ilp32 -static",
+        5 | 9 =>
+            ": it isn't a static executable. Link it by -static and without -pie, as guests/Makefile does",
+        7 =>
+            ": it has compressed or floating-point instructions. Compile it by -march=rv32im -mabi=ilp32",
+        10 => ": it has thread-local data, of which errno of a C library is mostly the cause",
+        _ => "",
+    }
+}
+
 /// A program file that is refused.
 pub fn write_refused<W: fmt::Write>(
     f: &mut fmt::Formatter<W>,
@@ -32,10 +47,19 @@ pub fn write_refused<W: fmt::Write>(
 ) -> fmt::Result {
     let refusal = ElfRefusal::Refused(kind);
     write!(f, "the program file {program} isn't run: {refusal}")?;
-    match field {
-        Some(field) => write!(f, "; {field}"),
-        None => Ok(()),
+    if let Some(field) = field {
+        write!(f, "; {field}")?;
     }
+    let advice = advice(kind);
+    write!(f, "{advice}")
+}
+
+// What to know of the whole input, where its first frame is refused already.
+fn hint(offset: u64) -> &'static str {
+    if offset == 0 {
+        return ". Standard input has to be frames: docs/USING.md says how they are written";
+    }
+    ""
 }
 
 /// What ended a session or a replay from without.
@@ -43,7 +67,11 @@ pub fn write_outside<W: fmt::Write>(f: &mut fmt::Formatter<W>, answer: Answer) -
     match answer {
         Answer::InputRefused { kind, offset } => {
             let flaw = frame_flaw(kind);
-            write!(f, "the input's frame at byte {offset} is refused: {flaw}")
+            let hint = hint(offset);
+            write!(
+                f,
+                "the input's frame at byte {offset} is refused: {flaw}{hint}"
+            )
         }
         Answer::MessageTooLong { conn } => write!(
             f,

@@ -4,7 +4,9 @@ ghost use Rattle.elf_image.specs.Layout.{IsWindow};
 ghost use Rattle.command_line.specs.Commands.{run_shown, serve, serve_shown};
 ghost use Rattle.command_line.specs.Ranges.{AreInRange, HasRanges};
 
+use crate::blame::{Blame, find_blame};
 use crate::message::{write_outside, write_refused};
+use crate::outputs::Objection;
 use command_line::{
     AsmCommand, Command, ConvertCommand, ReplayCommand, RunCommand, ServeCommand, complaint,
     read_command, usage,
@@ -26,6 +28,24 @@ pub fn tell_memory(rt: &HostRuntime) {
 pub fn tell_not_utf8(rt: &HostRuntime) {
     let _ = eprintln!(rt; "rx: a word isn't UTF-8, so no command has these words");
     tell_usage(rt, "");
+}
+
+/// Tells what speaks against writing a file.
+pub fn tell_objection(rt: &HostRuntime, objection: Objection<'_>) {
+    let _ = match objection {
+        Objection::OneFile(first, second) => {
+            eprintln!(rt;
+                "rx: {first} and {second} are one file: a file that is written needs a name of its own"
+            )
+        }
+        Objection::Lost(output) => {
+            let name = output.name;
+            let kind = output.kind.name();
+            eprintln!(rt;
+                "rx: {name} is there, and isn't {kind}: it would be lost, so nothing was done"
+            )
+        }
+    };
 }
 
 // How a command is written; all of them, where the name is that of none.
@@ -85,6 +105,8 @@ struct RunMessage<'a> {
     budget: u32,
     /// The field that the program file is refused for, where it was found.
     field: Option<RefusedField>,
+    /// The file that couldn't be used, where it was found.
+    blame: Option<Blame<'a>>,
 }
 
 impl RunMessage<'_> {
@@ -120,18 +142,23 @@ impl RunMessage<'_> {
             "the program {program} failed with {point} items taken, opens and closes among them: "
         )?;
         self.cause(f, cause)?;
-        write!(f, "; the report {report} says where, and what was tried")
+        write!(
+            f,
+            "; the report {report} says where, and what was tried. Where most trials are Contradicts, --hold may help, and --every where the fault lies further back than the checkpoints reach"
+        )
     }
 
-    // Which file it was isn't known.
     fn file_fault<W: fmt::Write>(&self, f: &mut fmt::Formatter<W>) -> fmt::Result {
         let program = self.program;
         let recording = self.recording;
         let report = self.report;
-        write!(
-            f,
-            "the program file {program} can't be read, or the record {recording} or the report {report} can't be written"
-        )
+        match &self.blame {
+            Some(blame) => write!(f, "{blame}"),
+            None => write!(
+                f,
+                "the program file {program} couldn't be read, or the record {recording} or the report {report} couldn't be written: is the disk full?"
+            ),
+        }
     }
 }
 
@@ -179,6 +206,7 @@ fn run_message<'a>(
         report: run.report,
         budget: run.budget,
         field: refused_field(rt, answer, run.program, window),
+        blame: find_blame(rt, answer, &[run.program], &[run.recording, run.report]),
     }
 }
 
@@ -240,6 +268,8 @@ struct AsmMessage<'a> {
     out: &'a str,
     /// What is wrong with a refused text, where it was found.
     explanation: Option<String>,
+    /// The file that couldn't be used, where it was found.
+    blame: Option<Blame<'a>>,
 }
 
 impl AsmMessage<'_> {
@@ -250,19 +280,25 @@ impl AsmMessage<'_> {
             None => write!(f, "the text {source} isn't assembled: line {line} is wrong"),
         }
     }
+
+    fn file_fault<W: fmt::Write>(&self, f: &mut fmt::Formatter<W>) -> fmt::Result {
+        let source = self.source;
+        let out = self.out;
+        match &self.blame {
+            Some(blame) => write!(f, "{blame}"),
+            None => write!(
+                f,
+                "the text {source} couldn't be read, or {out} couldn't be written: is the disk full?"
+            ),
+        }
+    }
 }
 
 impl fmt::Display for AsmMessage<'_> {
     fn fmt<W: fmt::Write>(&self, f: &mut fmt::Formatter<W>) -> fmt::Result {
         let source = self.source;
-        let out = self.out;
         match self.answer {
-            Answer::FileFault => {
-                write!(
-                    f,
-                    "the text {source} can't be read, or {out} can't be written"
-                )
-            }
+            Answer::FileFault => self.file_fault(f),
             Answer::TooLarge => write!(
                 f,
                 "the text {source} has more than {MAX_SOURCE} bytes, which is the limit"
@@ -291,6 +327,7 @@ fn tell_asm(rt: &HostRuntime, answer: Answer, asm: &AsmCommand<'_>) {
         source: asm.source,
         out: asm.out,
         explanation: explanation(rt, answer, asm.source),
+        blame: find_blame(rt, answer, &[asm.source], &[asm.out]),
     };
     let _ = eprintln!(rt; "rx: {message}");
 }
@@ -305,6 +342,38 @@ struct ReplayMessage<'a> {
     recording: &'a str,
     /// The field that the program file is refused for, where it was found.
     field: Option<RefusedField>,
+    /// The file that couldn't be used, where it was found.
+    blame: Option<Blame<'a>>,
+    /// Whether the record ends before its last line.
+    is_cut: bool,
+}
+
+impl ReplayMessage<'_> {
+    fn file_fault<W: fmt::Write>(&self, f: &mut fmt::Formatter<W>) -> fmt::Result {
+        let program = self.program;
+        let recording = self.recording;
+        match &self.blame {
+            Some(blame) => write!(f, "{blame}"),
+            None => write!(
+                f,
+                "the program file {program} or the record {recording} couldn't be read"
+            ),
+        }
+    }
+
+    fn refused<W: fmt::Write>(&self, f: &mut fmt::Formatter<W>, line: u32) -> fmt::Result {
+        let recording = self.recording;
+        if self.is_cut {
+            return write!(
+                f,
+                "the record {recording} isn't replayed: it ends before line {line}, so its last line is missing, as where its session was broken off"
+            );
+        }
+        write!(
+            f,
+            "the record {recording} isn't replayed: line {line} isn't of its form"
+        )
+    }
 }
 
 impl fmt::Display for ReplayMessage<'_> {
@@ -312,18 +381,12 @@ impl fmt::Display for ReplayMessage<'_> {
         let program = self.program;
         let recording = self.recording;
         match self.answer {
-            Answer::FileFault => write!(
-                f,
-                "the program file {program} or the record {recording} can't be read"
-            ),
+            Answer::FileFault => self.file_fault(f),
             Answer::TooLarge => write!(
                 f,
                 "the program file {program} has more than {MAX_PROGRAM} bytes, or the record {recording} more than {MAX_RECORD}: these are the limits"
             ),
-            Answer::RecordRefused { line } => write!(
-                f,
-                "the record {recording} isn't replayed: line {line} isn't of its form"
-            ),
+            Answer::RecordRefused { line } => self.refused(f, line),
             Answer::Mismatch { step } => write!(
                 f,
                 "the program {program} doesn't go on as the record {recording} says: it went as recorded for {step} instructions"
@@ -348,6 +411,22 @@ fn recorded_window(rt: &HostRuntime, recording: &str) -> Option<u32>
     }
 }
 
+// Whether a record that is refused has no such line: the session that wrote it was broken off.
+fn is_cut(rt: &HostRuntime, answer: Answer, recording: &str) -> bool {
+    let Answer::RecordRefused { line } = answer else {
+        return false;
+    };
+    let Ok(text) = StdFiles::make(rt, rt.alloc()).load(rt.alloc(), recording, MAX_RECORD) else {
+        return false;
+    };
+    let ended = text
+        .as_slice()
+        .iter()
+        .filter(|byte| **byte == b'\n')
+        .count() as u64;
+    ended + 1 == u64::from(line) && text.as_slice().last() == Some(&b'\n')
+}
+
 fn tell_replay(rt: &HostRuntime, answer: Answer, replay: &ReplayCommand<'_>) {
     let field = match recorded_window(rt, replay.recording) {
         Some(window) => refused_field(rt, answer, replay.program, window),
@@ -358,6 +437,8 @@ fn tell_replay(rt: &HostRuntime, answer: Answer, replay: &ReplayCommand<'_>) {
         program: replay.program,
         recording: replay.recording,
         field,
+        blame: find_blame(rt, answer, &[replay.program, replay.recording], &[]),
+        is_cut: is_cut(rt, answer, replay.recording),
     };
     let _ = eprintln!(rt; "rx: {message}");
 }
@@ -377,10 +458,13 @@ impl fmt::Display for ConvertMessage<'_> {
         let recording = self.replayed.recording;
         let out = self.out;
         match self.replayed.answer {
-            Answer::FileFault => write!(
-                f,
-                "the program file {program} or the record {recording} can't be read, or {out} can't be written"
-            ),
+            Answer::FileFault => match &self.replayed.blame {
+                Some(blame) => write!(f, "{blame}"),
+                None => write!(
+                    f,
+                    "the program file {program} or the record {recording} couldn't be read, or {out} couldn't be written: is the disk full?"
+                ),
+            },
             _ => write!(f, "{}", self.replayed),
         }
     }
@@ -397,6 +481,13 @@ fn tell_convert(rt: &HostRuntime, answer: Answer, convert: &ConvertCommand<'_>) 
             program: convert.program,
             recording: convert.recording,
             field,
+            blame: find_blame(
+                rt,
+                answer,
+                &[convert.program, convert.recording],
+                &[convert.out],
+            ),
+            is_cut: is_cut(rt, answer, convert.recording),
         },
         out: convert.out,
     };

@@ -7,7 +7,7 @@ use Rattle.schedule_file.specs.Laws.{OneReading}
 use Rattle.schedule_file.specs.Lines.{line_of}
 use Rattle.replay.specs.Laws.{HasSession}
 use Rattle.over_trunk.specs.Laws.{IsWithin, IsAsRecorded, IsConverted, ConvertsToItself, SameBytesAreReplayed, SessionIsConverted}
-use Rattle.rx_serve.proofs.Terms.{List, None, Ok, Option, Result, Some, [], ap, append-nil, arith, inl, inr, length, map, refl, subst, sym, take, true, ℕ, ◌++◌, ◌<◌, ◌∙◌, ◌≡◌, ◌≤◌, take-append-drop, none-some, same_Some, All, Err, IsSomeAnd, Contents, Stream, Image, IsImage, refusal, Answer, journal_of, IsEnd, items_in, NoneFailed, noted, Recorded, IsChoice, IsRecord, record_of, text_of, AreAsks, unnoted_of, keeping_for, bounds_of, ConvertsTrunk, ReplaysTrunk, WritesSends, ConvertValue, ReplayValue, RunValue, End, program_limit, Outside, Writes, options_of, rules_of_run, window_of, trunk_of, replayed, HasServed, HasBeenReplayed, HasRecord, HasRecording, HasReplayCause, window_in, LeavesText, HasSameOutside, IsReplayedBy, RecordsAreConverted, RecordsAreReplayed, SecondVersionStays}
+use Rattle.rx_serve.proofs.Terms.{List, None, Ok, Option, Result, Some, [], ap, append-nil, arith, inl, inr, length, map, refl, subst, sym, take, true, ℕ, ◌++◌, ◌<◌, ◌∙◌, ◌≡◌, ◌≤◌, take-append-drop, none-some, same_Some, All, Err, IsSomeAnd, Contents, Stream, Image, IsImage, refusal, Answer, journal_of, IsEnd, items_in, NoneFailed, noted, Recorded, IsChoice, IsRecord, record_of, text_of, AreAsks, unnoted_of, keeping_for, bounds_of, ConvertsTrunk, ReplaysTrunk, WritesSends, ConvertValue, ReplayValue, RunValue, End, program_limit, Outside, Writes, options_of, rule_of, rules_of_run, window_of, trunk_of, replayed, HasServed, HasBeenReplayed, HasRecord, HasRecording, HasReplayCause, window_in, LeavesText, HasSameOutside, IsReplayedBy, RecordsAreConverted, RecordsAreReplayed, SecondVersionStays}
 use Rattle.rx_serve.proofs.RouteLemmas.{to_trunk}
 use Rattle.rx_serve.proofs.ConvertLemmas.{as_replay}
 use Rattle.rx_serve.proofs.ChoiceRanges.{choices_fine}
@@ -45,7 +45,7 @@ module _ (value : RunValue) (replaying : ReplayValue) (files files_later again :
   is_record : IsRecord left
   is_record =
       let serves = served.noted.serves in
-      let few = few_counts (options_of value) (options_in_range value ranges (options_of value) refl) (λ heap at len. true) served.noted in
+      let few = few_counts (options_of value) (options_in_range value ranges (options_of value) refl) (rule_of value.guard) served.noted in
       let fine =
       choices_fine served.image (items_in (rules_of_run value).bounds (journal_of serves.telling.account)) serves.telling.account.survivor.now.choices serves.telling.account.survivor.now.steps serves.telling.account.survivor.now.state
       (subst AreAsks all_choices served.noted.asks) serves.is.is.ended.account.ran in

@@ -134,11 +134,11 @@ served_all conns rules (Some before) (Some later) session came goes = record {
 }
 
 -- of the answers of the allocator of a run the first ones stand in the record, and the others are the tail
-record Recorded (session : Session) (end : End) (recording : List Choice) : Type 0 where
+pub record Recorded (session : Session) (end : End) (recording : List Choice) : Type 0 where
   pub count : length recording ≡ end.recorded
   pub all : session.survivor.now.choices ≡ recording ++ end.tail
 
-recorded_in : (session : Session) (end : End) (why : Stop) (recording : List Choice) (told : List Episode) {before now : Option Unnoted} (episodes : List Episode)
+pub recorded_in : (session : Session) (end : End) (why : Stop) (recording : List Choice) (told : List Episode) {before now : Option Unnoted} (episodes : List Episode)
     → HasNoted (noted (Some []) (Some []) before) (noted (Some recording) (Some told) now) why session.survivor.now.choices episodes end.recorded end.tail → Recorded session end recording
 recorded_in session end why recording told episodes has = record {
   count = ap (λ (list : List Choice). length list) has.choices_noted ∙ length-take-le end.recorded session.survivor.now.choices has.low;

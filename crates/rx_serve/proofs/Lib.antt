@@ -7,6 +7,7 @@ pub mod NotingLemmas
 pub mod CallingLemmas
 pub mod RouteLemmas
 pub mod HeadlineLemmas
+pub mod GuardLemmas
 pub mod RunLemmas
 mod RecordLemmas
 mod ReplayLemmas
@@ -15,4 +16,7 @@ mod ChoiceRanges
 mod CommandLemmas
 mod EndsLemmas
 pub mod SessionLaws
+mod PortOrder
+mod PortSends
+mod ServeLaws
 pub mod Lemmas

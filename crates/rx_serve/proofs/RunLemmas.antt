@@ -2,7 +2,8 @@
 use Rattle.run_history.specs.declared.answer.Answer.TheVariants as answer
 use Rattle.rx_io.specs.declared.fault.IoFault.TheVariants as fault
 use Rattle.session_state.specs.Serving.{IsReadyToServe}
-use Rattle.rx_serve.proofs.Terms.{Bool, List, Ok, Option, arith, inl, inr, refl, subst, sym, true, ℕ, ◌<◌, ◌^◌, ◌∙◌, ◌≡◌, ◌≤◌, Err, IoFault, FileCall, Rose, Contents, Choice, Heap, Image, Answer, Stop, answer_of, Rules, Keeping, MAX_TAKEN, CallsFront, Options, AreInRange, keeping_for, rules_of, Outcome, IsBegun, SessionState, RunValue, End, IsUntouched, Outside, HasImage, HasLoadCause, options_of, rules_of_run, window_of, HasNoSession, Route, ClosesFiles, IsFilesAnswer, ServesNoted, StartsFiles, CallsServed, before_session, HasBegun, StartsPartly, HasNotBegun, HasServed}
+use Rattle.rx_serve.proofs.Terms.{Bool, List, Ok, Option, ap, arith, inl, inr, refl, subst, sym, ℕ, ◌<◌, ◌^◌, ◌∙◌, ◌≡◌, ◌≤◌, Err, IoFault, FileCall, Rose, Contents, Choice, Heap, Image, Answer, Stop, answer_of, Rules, Keeping, MAX_TAKEN, CallsFront, Options, AreInRange, keeping_for, rules_of, Outcome, IsBegun, SessionState, RunValue, End, IsUntouched, Outside, HasImage, HasLoadCause, options_of, rule_of, rules_of_run, window_of, HasNoSession, Route, ClosesFiles, IsFilesAnswer, ServesNoted, StartsFiles, CallsServed, before_session, HasBegun, StartsPartly, HasNotBegun, HasServed}
+use Rattle.rx_serve.proofs.GuardLemmas.{keeps_to_blocks}
 use Rattle.rx_serve.proofs.HeadlineLemmas.{headline}
 use Rattle.rx_serve.proofs.NotingLemmas.{closes_same, closes_whole, few_counts, whole_at}
 
@@ -21,10 +22,6 @@ noted_of value route old new started served calls calls_later outcome s = record
   asks = s.asks;
 }
 
--- every access keeps the rule
-abbrev all_permitted : Heap → ℕ → ℕ → Bool
-all_permitted heap at len = true
-
 -- the image of a program file, in the window that the command asks for
 image_of : {told : Option Contents} {image : Image} (value : RunValue) (options : Options) → options ≡ options_of value → HasImage told value.program options.window image → HasImage told value.program (window_of value) image
 image_of {told = told} {image = image} value options is program = subst (λ (o : Options). HasImage told value.program o.window image) is program
@@ -38,6 +35,11 @@ note_cause value told fault.Memory end note = subst (HasLoadCause told value.pro
 pub rose_within : {start from to end : ℕ} → start ≤ from → to ≤ end → Rose from to → Rose start end
 rose_within before behind (inl risen) = inl (omega (arith, before, behind, risen))
 rose_within before behind (inr last) = inr (omega (arith, behind, last))
+
+-- a count of 0 hasn't risen
+pub not_risen : Rose 0 0 → ⊥
+not_risen (inl risen) = omega arith
+not_risen (inr last) = omega arith
 
 -- the program has no image, so no session began
 pub not_loaded : (value : RunValue) (told later : Option Contents) (options : Options) (end : Answer) → options ≡ options_of value → HasLoadCause told value.program options.window end → later ≡ told
@@ -81,12 +83,11 @@ not_begun value old new answered end why is nothing untouched called = record {
 
 module _ {R : Type 0} where
   pub has_begun : (value : RunValue) (told loaded later : Option Contents) (options : Options) {image : Image} {rule : R} {session : SessionState R} → options ≡ options_of value → HasImage told value.program options.window image → loaded ≡ told
-      → StartsFiles value loaded later (Ok tt) → IsBegun image options rule session → HasBegun value told later session
+      → StartsFiles value loaded later (Ok tt) → IsBegun image options rule session → HasBegun value rule told later session
   has_begun value told loaded later options {image = image} {rule = rule} {session = session} is program same starts begun = record {
     image = image;
     program = image_of value options is program;
     starts = subst (λ files. StartsFiles value files later (Ok tt)) same starts;
-    rule = rule;
     begun = subst (λ (o : Options). IsBegun image o rule session) is begun;
   }
 
@@ -98,20 +99,25 @@ module _ {R : Type 0} where
   pub ready : (image : Image) (options : Options) (rule : R) (session : SessionState R) → IsBegun image options rule session → IsReadyToServe session
   ready image options rule session begun = record { image = image; begun = begun_own image options rule session begun }
 
-  -- a session that served a trunk, as an end
-  pub run_ends : (value : RunValue) (route : Route) (old new : Outside) (started served : Option Contents) (calls calls_later : Option (List FileCall)) {image : Image} (options : Options) {rule : R} {session : SessionState R}
-      (end : End) (why : Stop) {answer : Answer} {recorded : ℕ} {tail : List Choice} {taken steps taken_told steps_told : ℕ} → options ≡ options_of value → HasImage old.files value.program options.window image → IsBegun image options rule session
+  -- a session that served under the rule of its command's guard, as an end
+  pub run_ends : (permits : R → Heap → ℕ → ℕ → Bool) (value : RunValue) (route : Route) (old new : Outside) (started served : Option Contents) (calls calls_later : Option (List FileCall)) {image : Image} (options : Options) {rule : R} {session : SessionState R}
+      (end : End) (why : Stop) {answer : Answer} {recorded : ℕ} {tail : List Choice} {taken steps taken_told steps_told : ℕ} → permits rule ≡ rule_of value.guard → options ≡ options_of value → HasImage old.files value.program options.window image → IsBegun image options rule session
       → StartsFiles value old.files started (Ok tt)
-      → ServesNoted (rules_of session.options all_permitted) (keeping_for session.options) image value route (record old { files = started; calls = calls }) (record new { files = served; calls = calls_later }) (record { stop = why; recorded = recorded; tail = tail; taken = taken; steps = steps })
+      → ServesNoted (rules_of session.options (permits session.cpu.rule)) (keeping_for session.options) image value route (record old { files = started; calls = calls }) (record new { files = served; calls = calls_later }) (record { stop = why; recorded = recorded; tail = tail; taken = taken; steps = steps })
       → taken_told ≡ taken → steps_told ≡ steps → ClosesFiles value taken_told steps_told served new.files (answer_of why) answer → CallsServed value old.calls new.calls (answer_of why) answer
       → end.answer ≡ answer → end.recorded ≡ recorded → end.tail ≡ tail → end.taken ≡ taken → end.steps ≡ steps → HasServed value route old new end
-  run_ends value route old new started served calls calls_later {image = image} options {rule = rule} {session = session} end why {answer = answer} {recorded = recorded} {tail = tail} {taken = taken} {steps = steps} {taken_told = taken_told} {steps_told = steps_told} is program begun starts serves same_taken same_steps closes called answered recorded_is tail_is taken_is steps_is =
+  run_ends permits value route old new started served calls calls_later {image = image} options {rule = rule} {session = session} end why {answer = answer} {recorded = recorded} {tail = tail} {taken = taken} {steps = steps} {taken_told = taken_told} {steps_told = steps_told} own is program begun starts serves same_taken same_steps closes called answered recorded_is tail_is taken_is steps_is =
       let settings : session.options ≡ options_of value = begun.options_are ∙ is in
-      let Noted : Options → Outcome → Type 0 = λ o outcome. ServesNoted (rules_of o all_permitted) (keeping_for o) image value route (record old { files = started }) (record new { files = served }) outcome in
+      let Rule : Type 0 = Heap → ℕ → ℕ → Bool in
+      let Noted : Options → Rule → Outcome → Type 0 = λ o rule outcome. ServesNoted (rules_of o rule) (keeping_for o) image value route (record old { files = started }) (record new { files = served }) outcome in
+      let rule_is : permits session.cpu.rule ≡ rule_of value.guard = ap permits begun.cpu.rule_is ∙ own in
       let outcome : Outcome = record { stop = why; recorded = recorded; tail = tail; taken = taken; steps = steps } in
       let same : outcome ≡ record { stop = why; recorded = end.recorded; tail = end.tail; taken = end.taken; steps = end.steps } =
       λ i. record { stop = why; recorded = (sym recorded_is) i; tail = (sym tail_is) i; taken = (sym taken_is) i; steps = (sym steps_is) i } in
-      let noted = subst (Noted (options_of value)) same (subst (λ o. Noted o outcome) settings (noted_of value route old new started served calls calls_later outcome serves)) in
+      let noted =
+      subst (Noted (options_of value) (rule_of value.guard)) same
+      (subst (λ rule. Noted (options_of value) rule outcome) rule_is
+      (subst (λ o. Noted o (permits session.cpu.rule) outcome) settings (noted_of value route old new started served calls calls_later outcome serves))) in
       let closed : ClosesFiles value end.taken end.steps served new.files (answer_of why) end.answer =
       subst (λ a. ClosesFiles value end.taken end.steps served new.files (answer_of why) a) (sym answered)
       (subst (λ t. ClosesFiles value t end.steps served new.files (answer_of why) answer) (same_taken ∙ sym taken_is) (subst (λ n. ClosesFiles value taken_told n served new.files (answer_of why) answer) (same_steps ∙ sym steps_is) closes)) in
@@ -127,11 +133,12 @@ module _ {R : Type 0} where
         called = subst (CallsServed value old.calls new.calls (answer_of why)) (sym answered) called;
         texts = closes_whole value noted.choices noted.episodes noted.left end.taken end.steps old.files started served new.files (answer_of why) end.answer starts noted.stands (whole_at why noted.left end.tail noted.serves.is.notes.missing noted.serves.is.notes.handed) closed;
         headline = headline (rules_of_run value) (keeping_for (options_of value)) image route why end noted.choices noted.episodes _ _ (closes_same value end.taken end.steps served new.files (answer_of why) end.answer closed) noted.counted noted.serves;
+        guarded = keeps_to_blocks value.guard (rules_of_run value) (keeping_for (options_of value)) image why end noted.choices noted.episodes refl noted.serves.is;
       }
 
   -- how many items were taken, and how many instructions done, fit into a record
-  pub counts_fit : {value : RunValue} {route : Route} {old new : Outside} {image : Image} (options : Options) {rule : R} {session : SessionState R} {outcome : Outcome}
+  pub counts_fit : (permits : R → Heap → ℕ → ℕ → Bool) {value : RunValue} {route : Route} {old new : Outside} {image : Image} (options : Options) {rule : R} {session : SessionState R} {outcome : Outcome}
       → AreInRange options → IsBegun image options rule session
-      → ServesNoted (rules_of session.options all_permitted) (keeping_for session.options) image value route old new outcome
+      → ServesNoted (rules_of session.options (permits session.cpu.rule)) (keeping_for session.options) image value route old new outcome
       → (outcome.taken ≤ MAX_TAKEN) × (outcome.steps < 2 ^ 63)
-  counts_fit options {session = session} ranges begun serves = few_counts session.options (subst AreInRange (sym begun.options_are) ranges) all_permitted serves
+  counts_fit permits options {session = session} ranges begun serves = few_counts session.options (subst AreInRange (sym begun.options_are) ranges) (permits session.cpu.rule) serves

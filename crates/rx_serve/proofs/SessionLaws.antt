@@ -7,7 +7,7 @@ use Rattle.rx_serve.proofs.RouteLemmas.{to_trunk}
 use Rattle.rx_serve.proofs.NotingLemmas.{closes_same}
 
 -- a fault of the two files says nothing of the input
-complete_note : (rules : Rules) (session : Session) (why : IoFault) (end : Answer) → IsFilesAnswer why end → (stopped : Stop) × (end ≡ answer_of stopped) × IsComplete rules session stopped
+pub complete_note : (rules : Rules) (session : Session) (why : IoFault) (end : Answer) → IsFilesAnswer why end → (stopped : Stop) × (end ≡ answer_of stopped) × IsComplete rules session stopped
 complete_note rules session fault.Failed end note = (stop.Breaks session_break.FileFault, note, tt)
 complete_note rules session fault.Memory end note = (stop.Breaks session_break.Memory, note, tt)
 

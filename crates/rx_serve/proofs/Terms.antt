@@ -9,20 +9,21 @@ pub use Rattle.run_history.proofs.Runs.{allocated_keeps, next_parts, received_ke
 pub use Rattle.session_history.proofs.Ended.{at_its_end, came_to, holds_at_end, is_end_answer}
 pub use Rattle.session_history.proofs.Growing.{ByChoice, ByEnd, ByItem, ByItself, BySend, Moved, moved}
 pub use Rattle.file_notes.proofs.CallingLemmas.{calls_then, front_all, front_behind, front_first}
-pub use Rattle.rx_serve.specs.Terms.{Added, AddsAlone, Answer, AreAsks, AreInRange, AreTwo, AtEnd, Calls, CallsFront, Choice, Chooses, ComesUntold, Coming, Contents, ConvertValue, ConvertsTrunk, Effect, Emits, Ends, EndsAfter, EndsAt, EndsBy, Episode, Fails, FileCall, Form, Goes, GoesOverPort, HasCause, HasComeTo, HasNoted, HasPassedAll, HasRanges, Heap, Image, InRecord, InReport, IoFault, IsAccount, IsAsk, IsBegun, IsChoice, IsComplete, IsDrained, IsEnd, IsHandedLast, IsImage, IsNoteStop, IsOutcome, IsRecord, Item, Keeping, Left, ListenEntry, Loaded, MAX_TAKEN, Machine, Names, NoOtherEnd, NoneFailed, Noted, Nothing, Options, Outcome, Parts, Prefix, Recorded, ReplayValue, ReplaysTrunk, Rose, Rules, Run, RunValue, SendsAreWritten, ServeValue, ServesPort, ServesTrunk, Session, SessionState, Stands, Started, State, Stop, Stream, Telling, Unnoted, Wants, WritesSends, after, answer_of, asm, bounds_of, command_of, convert, convert_shown, effect, end_answer, entries_of, events_in, fits, given_to, have_names, heap_end, heap_start, is_ask, items_in, journal_of, keeping_for, lines_of, noted, onto, output, payload, positional, record_of, refused_behind, refused_from, refused_line, refused_lines, refused_under, replay, replay_shown, rules_of, run, run_shown, serve, serve_shown, session_value, starting, starts_of, text_of, texts_of, unnoted_of, written}
-unfoldable pub use Rattle.rx_serve.specs.Terms.{allocated, conns_row, does, end_of, head_of, is_run, is_serve, next, port_row, received, record_row, refusal, report_row, run_form, run_value, serve_form, serve_value, start, start_machine}
+pub use Rattle.rx_serve.specs.Terms.{Added, AddsAlone, Answer, AreAsks, AreInRange, AreTwo, AtEnd, Calls, CallsFront, Choice, Chooses, ComesUntold, Coming, Contents, ConvertValue, ConvertsTrunk, Effect, Emits, Ends, EndsAfter, EndsAt, EndsBy, Episode, Fails, FileCall, Form, Goes, GoesOverPort, Guard, HasCause, HasComeTo, HasNoted, HasPassedAll, HasRanges, Heap, Image, InRecord, InReport, IoFault, IsAccount, IsAsk, IsBegun, IsChoice, IsComplete, IsDrained, IsEnd, IsHandedLast, IsImage, IsNoteStop, IsOutcome, IsRecord, Item, Keeping, KeepsToLiveBlocks, Left, ListenEntry, Loaded, MAX_TAKEN, Machine, Names, NoOtherEnd, NoneFailed, Noted, Nothing, Options, Outcome, Parts, Prefix, Recorded, ReplayValue, ReplaysTrunk, Rose, Rules, Run, RunValue, SendsAreWritten, ServeValue, ServesPort, ServesTrunk, Session, SessionState, Stands, Started, State, Stop, Stream, Telling, Unnoted, Wants, WritesSends, after, answer_of, asm, bounds_of, command_of, convert, convert_shown, effect, end_answer, entries_of, events_in, fits, given_to, have_names, heap_end, heap_start, is_ask, items_in, journal_of, keeping_for, lines_of, noted, onto, output, payload, positional, record_of, refused_behind, refused_from, refused_line, refused_lines, refused_under, replay, replay_shown, rules_of, run, run_shown, serve, serve_shown, starting, starts_of, text_of, texts_of, unnoted_of, written}
+unfoldable pub use Rattle.rx_serve.specs.Terms.{allocated, conns_row, does, end_of, head_of, is_run, is_serve, next, permits, port_row, received, record_row, refusal, report_row, run_form, run_value, serve_form, serve_value, start, start_machine}
 pub use Rattle.rx_serve.specs.declared.ending.End.{End}
 pub use Rattle.rx_serve.specs.Limits.{program_limit}
 pub use Rattle.rx_serve.specs.Outside.{HasFaults, IsUntouched, Outside, faults, outside}
 pub use Rattle.rx_serve.specs.Loading.{HasFile, HasImage, HasLoadCause}
 pub use Rattle.rx_serve.specs.Assembly.{Assembles, HasAsmCause, LoadsText, Writes, WritesAssembled}
 pub use Rattle.rx_serve.specs.Status.{status_of}
-pub use Rattle.rx_serve.specs.Settings.{options_of, rules_of_run, window_of}
+pub use Rattle.rx_serve.specs.Settings.{options_of, rule_of, rules_of_run, window_of}
 pub use Rattle.rx_serve.specs.Ended.{HasNoSession}
 pub use Rattle.rx_serve.specs.Route.{GoesOver, IsDone, IsServed, Passed, PassedOver, PassedPort, PassedTrunk, Port, Route, Serves, Trunk, trunk_of}
 pub use Rattle.rx_serve.specs.Noting.{ClosesFiles, EndsFiles, HaveTexts, IsFilesAnswer, ServesNoted, StartsFiles, names_of, report_form}
 pub use Rattle.rx_serve.specs.Calling.{CallsAnswer, CallsAsm, CallsConvert, CallsEnding, CallsServed, CallsWrite, before_session, replayed, replaying}
 pub use Rattle.rx_serve.specs.Headline.{Headline, LastExits, received_items}
+pub use Rattle.rx_serve.specs.Guarding.{KeepsToBlocks}
 pub use Rattle.rx_serve.specs.Beginning.{HasBegun, StartsPartly}
 pub use Rattle.rx_serve.specs.Running.{HasNotBegun, HasServed}
 pub use Rattle.rx_serve.specs.Serving.{IsBindAnswer, ServeEnds}

@@ -19,18 +19,17 @@ pub record StartsBehind (value : RunValue) (files files_later : Option Contents)
 abbrev pub StartsPartly : RunValue → Option Contents → Option Contents → Answer → Type 0
 StartsPartly value files files_later end = (files_later ≡ files) ⊎ StartsBehind value files files_later end
 
--- the program has this image, both files have their first lines, and the session stands at the program's start
-pub record HasBegun {R : Type 0} (value : RunValue) (files files_later : Option Contents) (session : SessionState R) : Type 0 where
+-- the program has this image, both files have their first lines, and the session stands at the program's start under this access rule
+pub record HasBegun {R : Type 0} (value : RunValue) (rule : R) (files files_later : Option Contents) (session : SessionState R) : Type 0 where
   pub image : Image
   pub program : HasImage files value.program (window_of value) image
   pub starts : StartsFiles value files files_later (Ok tt)
-  pub rule : R
   pub begun : IsBegun image (options_of value) rule session
 
 -- a session that has begun, or why there is none
-abbrev pub BeginsSession : {R : Type 0} → RunValue → Option Contents → Option Contents → Result (SessionState R) Answer → Type 0
-BeginsSession value files files_later (Ok session) = HasBegun value files files_later session
-BeginsSession value files files_later (Err end) = HasLoadCause files value.program (window_of value) end × StartsPartly value files files_later end
+abbrev pub BeginsSession : {R : Type 0} → RunValue → R → Option Contents → Option Contents → Result (SessionState R) Answer → Type 0
+BeginsSession value rule files files_later (Ok session) = HasBegun value rule files files_later session
+BeginsSession value rule files files_later (Err end) = HasLoadCause files value.program (window_of value) end × StartsPartly value files files_later end
 
 -- the calls on the files until then
 abbrev pub CallsBegin : {S : Type 0} → RunValue → Option (List FileCall) → Option (List FileCall) → Result S Answer → Type 0

@@ -1,6 +1,6 @@
--- What holds of a `run`, and of a `replay` and a `convert` of the record that it left.
-use Rattle.std.specs.Prelude.{[], ◌≡◌, List, Option, Some, None}
-use Rattle.rx_serve.specs.Terms.{ListenEntry, Contents, Stream, Answer, Stop, IsComplete, IsEnd, answer_of, Recorded, VERSION, AreAllHeeded, WritesSends, CommandValue, ConvertValue, ReplayValue, RunValue}
+-- What holds of a `run` and of a `serve`, and of a `replay` and a `convert` of the record that a `run` left.
+use Rattle.std.specs.Prelude.{[], ◌≡◌, ◌≢◌, ◌++◌, ℕ, false, List, Option, Some, None}
+use Rattle.rx_serve.specs.Terms.{ListenEntry, Contents, Stream, Answer, Stop, IsComplete, IsEnd, answer_of, Recorded, VERSION, AreAllHeeded, WritesSends, CommandValue, ConvertValue, ReplayValue, RunValue, ServeValue, State, given_to, journal_of, output}
 use Rattle.rx_serve.specs.Settings.{rules_of_run}
 use Rattle.command_line.specs.Ranges.{AreInRange}
 use Rattle.run_history.specs.declared.answer.Answer.TheVariants as answer
@@ -11,7 +11,10 @@ use Rattle.rx_serve.specs.Commands.{ConvertEnds, ReplayEnds, Ends}
 use Rattle.rx_serve.specs.Limits.{record_limit}
 use Rattle.rx_serve.specs.Loading.{IsTooLarge}
 use Rattle.rx_serve.specs.Outside.{Outside}
-use Rattle.rx_serve.specs.Route.{trunk_of}
+use Rattle.rx_serve.specs.Route.{Port, trunk_of}
+use Rattle.rx_serve.specs.Serving.{ServeEnds}
+use Rattle.session_history.specs.Heeding.{AreHeeded}
+use Rattle.session_history.specs.Opened.{is_gone}
 use Rattle.rx_serve.specs.Replaying.{HasRecord}
 
 -- A `replay` has what a `run` had: the same bytes as its program, as its record those that the run left, and the same input from its first byte.
@@ -73,3 +76,31 @@ abbrev pub AllSendsAreWritten : Type 0
 AllSendsAreWritten =
     (value : RunValue) (input : Stream) (old new : Outside) (end : End) (served : HasServed value (trunk_of (record old { input = Some input }) new) (record old { input = Some input }) new end) →
     IsEnd end.answer → value.hold ≡ 0 → served.noted.serves.telling.account.earlier ≡ [] → WritesSends old.output new.output served.noted.serves.telling.account.survivor.now.state.sends
+
+-- No answer of a `serve` says that its input is refused, nor that a give failed.
+abbrev pub NoServeIsRefused : Type 0
+NoServeIsRefused =
+    (value : ServeValue) (calls calls_later : Option (List ListenEntry)) (old new : Outside) (end : End) → ServeEnds value calls calls_later old new end →
+    ((kind offset : ℕ) → end.answer ≢ answer.InputRefused kind offset) × (end.answer ≢ answer.WriteFault)
+
+-- Where no limit refuses an event that came from the clients of a port, no answer of its session says so: at Finished every item was taken; else the
+-- program ended itself or failed, or there was a fault or want of memory.
+abbrev pub GoodClientsAreServed : Type 0
+GoodClientsAreServed =
+    (value : ServeValue) (calls calls_later : Option (List ListenEntry)) (old new : Outside) (end : End) (served : HasServed value.session (Port value.conns calls calls_later) old new end) →
+    AreHeeded (rules_of_run value.session).bounds (journal_of served.noted.serves.telling.account) →
+    (why : Stop) × (end.answer ≡ answer_of why) × IsComplete (rules_of_run value.session) served.noted.serves.telling.account why
+
+-- for each connection the gives among the calls that were made behind those before took all that a run sends there
+pub record GivesAll (before : List ListenEntry) (later : Option (List ListenEntry)) (state : State) : Type 0 where
+  pub calls : List ListenEntry
+  pub made : later ≡ Some (before ++ calls)
+  pub all : (conn : ℕ) → given_to conn calls ≡ output state conn
+
+-- So it is at an end of a `serve` that needed no recovery and found no client gone.
+abbrev pub AllSendsAreGiven : Type 0
+AllSendsAreGiven =
+    (value : ServeValue) (calls : List ListenEntry) (calls_later : Option (List ListenEntry)) (old new : Outside) (end : End)
+    (served : HasServed value.session (Port value.conns (Some calls) calls_later) old new end) →
+    IsEnd end.answer → value.session.hold ≡ 0 → served.noted.serves.telling.account.earlier ≡ [] → ((conn : ℕ) → is_gone conn (journal_of served.noted.serves.telling.account) ≡ false) →
+    GivesAll calls calls_later served.noted.serves.telling.account.survivor.now.state

@@ -10,6 +10,7 @@ pub mod Route
 pub mod Noting
 pub mod Calling
 pub mod Headline
+pub mod Guarding
 pub mod Beginning
 pub mod Running
 pub mod Serving

@@ -5,6 +5,7 @@ use Rattle.rx_serve.specs.declared.ending.End.{End}
 use Rattle.rx_serve.specs.Beginning.{StartsPartly}
 use Rattle.rx_serve.specs.Calling.{CallsServed, before_session}
 use Rattle.rx_serve.specs.Ended.{HasNoSession}
+use Rattle.rx_serve.specs.Guarding.{KeepsToBlocks}
 use Rattle.rx_serve.specs.Headline.{Headline}
 use Rattle.rx_serve.specs.Loading.{HasImage, HasLoadCause}
 use Rattle.rx_serve.specs.Noting.{StartsFiles, ServesNoted, ClosesFiles, HaveTexts}
@@ -21,7 +22,8 @@ pub record HasNotBegun (value : RunValue) (old new : Outside) (end : End) : Type
   pub nothing : HasNoSession end
 
 -- A session of the program served, between the first and the last lines of its two files: one account of it, from which the bytes taken
--- and passed follow, with the cause of the session's end behind it, and of which the headline is true. At an end the record and the report are whole.
+-- and passed follow, with the cause of the session's end behind it, and of which the headline is true, and what the guard of the heap gives. At an end
+-- the record and the report are whole.
 pub record HasServed (value : RunValue) (route : Route) (old new : Outside) (end : End) : Type 0 where
   pub image : Image
   pub program : HasImage old.files value.program (window_of value) image
@@ -34,3 +36,4 @@ pub record HasServed (value : RunValue) (route : Route) (old new : Outside) (end
   pub called : CallsServed value old.calls new.calls (answer_of why) end.answer
   pub texts : IsEnd end.answer → HaveTexts value noted.choices noted.episodes end.answer end.taken end.steps old.files new.files
   pub headline : Headline (rules_of_run value) image noted.serves.telling.account noted.choices route end
+  pub guarded : KeepsToBlocks value.guard (rules_of_run value) image noted.serves.telling.account noted.choices end

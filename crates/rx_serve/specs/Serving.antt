@@ -1,5 +1,5 @@
 -- The command `serve`: a session of a program for the clients of a port.
-use Rattle.std.specs.Prelude.{◌≡◌, ◌⊎◌, List, Option, Ok, Err}
+use Rattle.std.specs.Prelude.{◌≡◌, ◌≢◌, ◌⊎◌, List, Option, Ok, Err}
 use Rattle.rx_io.specs.declared.fault.IoFault.TheVariants as fault
 use Rattle.rx_io.specs.Listening.{Binds}
 use Rattle.run_history.specs.declared.answer.Answer.TheVariants as answer
@@ -32,13 +32,14 @@ pub record HasNotBound (value : ServeValue) (calls calls_later : Option (List Li
   pub nothing : HasNoSession end
 
 -- The port was bound, behind the first lines of both files, and a session of the program served its connections. Nothing was read of the input, nor
--- written to the output.
+-- written to the output. No give that failed is answered.
 pub record HasServedPort (value : ServeValue) (calls calls_later : Option (List ListenEntry)) (old new : Outside) (end : End) : Type 0 where
   pub bound : Option (List ListenEntry)
   pub bind : Binds calls bound value.port (Ok tt)
   pub served : HasServed value.session (Port value.conns bound calls_later) old new end
   pub same_input : new.input ≡ old.input
   pub same_output : new.output ≡ old.output
+  pub never_write_fault : end.answer ≢ answer.WriteFault
 
 -- what `serve` leaves: no session began, and the listener wasn't called; or its port couldn't be bound; or a session served
 abbrev pub ServeEnds : ServeValue → Option (List ListenEntry) → Option (List ListenEntry) → Outside → Outside → End → Type 0

@@ -1,6 +1,8 @@
 -- What a session is held to, by the command that asks for it.
-use Rattle.std.specs.Prelude.{ℕ, ◌*◌, ◌^◌, true}
-use Rattle.rx_serve.specs.Terms.{Rules, Options, rules_of, RunValue}
+use Rattle.std.specs.Prelude.{ℕ, ◌*◌, ◌^◌, Bool, true}
+use Rattle.command_line.specs.declared.run_words.Guard.TheVariants as guarded
+use Rattle.heap_guard.specs.declared.guard.GuardMode.TheVariants as mode
+use Rattle.rx_serve.specs.Terms.{Heap, permits, Rules, Options, rules_of, Guard, RunValue}
 use Rattle.rx_serve.specs.declared.settings.TheConstants.{MAX_ITEMS, MAX_EVENTS}
 
 -- the bytes of the program's window
@@ -20,6 +22,12 @@ options_of value = record {
   max_events = MAX_EVENTS;
 }
 
--- no access is refused beside those that the program's own memory refuses
+-- What else has to hold of an access: nothing, so that the program's own memory alone refuses one; or what the guard of the heap permits.
+abbrev pub rule_of : Guard → Heap → ℕ → ℕ → Bool
+rule_of guarded.Off = λ heap at len. true
+rule_of guarded.Extent = permits mode.Extent
+rule_of guarded.Block = permits mode.Block
+
+-- what a session allows its guest, by its guard, and its link
 abbrev pub rules_of_run : RunValue → Rules
-rules_of_run value = rules_of (options_of value) (λ heap at len. true)
+rules_of_run value = rules_of (options_of value) (rule_of value.guard)

@@ -24,6 +24,8 @@ pub use Rattle.run_history.specs.Machine.{Chooses, Effect, Emits, Ends, Fails, G
 unfoldable pub use Rattle.run_history.specs.Machine.{start, start_machine}
 pub use Rattle.run_history.specs.Run.{Run, after, effect, output}
 unfoldable pub use Rattle.run_history.specs.Run.{does, next}
+unfoldable pub use Rattle.heap_guard.specs.Guard.{permits}
+pub use Rattle.heap_guard.specs.Guarded.{KeepsToExtents, KeepsToLiveBlocks}
 pub use Rattle.session_history.specs.declared.ends.Stop.{Stop}
 pub use Rattle.session_history.specs.Account.{HasPassedAll, IsAccount, Session, journal_of}
 pub use Rattle.session_history.specs.AccountLaws.{IsComplete}
@@ -56,7 +58,8 @@ pub use Rattle.over_trunk.specs.Replaying.{ReplaysTrunk, WritesSends}
 pub use Rattle.over_trunk.specs.Serving.{GoesOverTrunk, IsRecordedUpTo, IsTrunkFault, ServesTrunk}
 pub use Rattle.over_port.specs.Calls.{given_to}
 pub use Rattle.over_port.specs.Serving.{EndsAfter, GoesOverPort, ServesPort}
-pub use Rattle.command_line.specs.Commands.{AsmValue, CommandValue, ConvertValue, ReplayValue, RunValue, ServeValue, asm, command_of, convert, convert_shown, fits, have_names, positional, replay, replay_shown, run, run_shown, serve, serve_shown, session_value}
+pub use Rattle.command_line.specs.declared.run_words.Guard.{Guard}
+pub use Rattle.command_line.specs.Commands.{AsmValue, CommandValue, ConvertValue, ReplayValue, RunValue, ServeValue, asm, command_of, convert, convert_shown, fits, have_names, positional, replay, replay_shown, run, run_shown, serve, serve_shown}
 unfoldable pub use Rattle.command_line.specs.Commands.{is_run, is_serve, run_form, run_value, serve_form, serve_value}
 pub use Rattle.command_line.specs.Parts.{Parts, texts_of}
 pub use Rattle.command_line.specs.Ranges.{HasRanges}

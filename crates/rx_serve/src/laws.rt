@@ -1,11 +1,12 @@
 //! Laws of the commands.
-ghost use Rattle.rx_serve.specs.Laws.{RecordsAreReplayed, RecordsAreConverted, SecondVersionStays, GoodInputIsTaken, AllSendsAreWritten, OnlyBadWordsAreRefused};
+ghost use Rattle.rx_serve.specs.Laws.{RecordsAreReplayed, RecordsAreConverted, SecondVersionStays, GoodInputIsTaken, AllSendsAreWritten, NoServeIsRefused, GoodClientsAreServed, AllSendsAreGiven, OnlyBadWordsAreRefused};
 
 use over_trunk::laws::{
     converts_to_itself, no_other_end, same_bytes_are_replayed, sends_are_written,
     session_is_converted,
 };
 use schedule_file::laws::one_reading;
+use session_history::account_laws::{no_other_answer, sent_is_passed};
 
 /// The record that `run` left at an end is replayed by `replay` over the same program and the same input, to the frames of the sends of its run.
 pub fn records_are_replayed()
@@ -48,4 +49,23 @@ pub fn all_sends_are_written()
     ensures { AllSendsAreWritten }
 {
     sends_are_written();
+}
+
+/// No answer of a `serve` says that its input is refused, nor that a give failed.
+pub fn no_serve_is_refused()
+    ensures { NoServeIsRefused }
+{}
+
+/// Where no limit refuses an event that came from the clients of a port, no answer of a `serve` says so.
+pub fn good_clients_are_served()
+    ensures { GoodClientsAreServed }
+{
+    no_other_answer();
+}
+
+/// At an end of a `serve` without a recovery, where no client was found gone, each connection was given all that the run sends there.
+pub fn all_sends_are_given()
+    ensures { AllSendsAreGiven }
+{
+    sent_is_passed();
 }

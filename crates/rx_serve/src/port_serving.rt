@@ -16,14 +16,16 @@ ghost use Rattle.rx_serve.specs.Noting.{names_of, ServesNoted};
 ghost use Rattle.rx_serve.specs.Outside.{outside, faults, HasFaults};
 ghost use Rattle.rx_serve.specs.Route.{Port};
 ghost use Rattle.rx_serve.specs.Serving.{IsBindAnswer, ServeEnds};
+ghost use Rattle.rx_serve.specs.Settings.{rule_of};
 ghost use Rattle.rx_serve.specs.Status.{status_of};
 
 use crate::ending::End;
 use crate::noting::{end_notes, report_form};
 use crate::serving::begin_session;
-use command_line::ServeCommand;
+use command_line::{Guard, ServeCommand};
 use file_notes::{FileNames, FileNotes};
-use guest_space::AccessRule;
+use guest_space::{AccessRule, AllMapped};
+use heap_guard::{GuardMode, HeapGuard};
 use over_port::serve_port;
 use run_history::Answer;
 use rx_engine::Session;
@@ -58,6 +60,7 @@ fn serve_port_noted<R: AccessRule, F: Files, E: Listener, L: Ledger>(
         → ServesNoted (rules_of session.old.options (R.rule session.old.cpu.rule)) (keeping_for session.old.options) image (run_shown serve.now.session) (Port serve.now.conns (E.told listener.old) (E.told listener.new)) (outside (F.told files.old) (F.calls files.old) input output steps.old) (outside (F.told files.new) (F.calls files.new) input output steps.new) (outcome_of why session.new)) }
     ensures adds { AddsAlone (names_of (run_shown serve.now.session)) (F.calls files.old) (F.calls files.new) }
     ensures later { F.faults files.old ≤ F.faults files.new }
+    ensures fixed { E.fixed listener.new ≡ E.fixed listener.old }
     ensures faults { (output : ℕ) → HasFaults (faults (F.faults files.old) (E.faults listener.old) output) (faults (F.faults files.new) (E.faults listener.new) output) result }
     ensures counted_at_least { steps.old + session.new.steps ≤ steps.new }
 {
@@ -72,11 +75,11 @@ fn serve_port_noted<R: AccessRule, F: Files, E: Listener, L: Ledger>(
     answer
 }
 
-/// Loads the program of a command and lets it serve the connections of a port, one after another, with a record and a report of it
-/// in two files. The port is bound once these have their first lines.
-pub fn serve_program<F: Files, N: Listener, L: Ledger>(
+// Loads the program of a command and lets it serve the connections of a port under an access rule, which is that of the command's guard.
+fn serve_under<R: AccessRule + Drop, F: Files, N: Listener, L: Ledger>(
     alloc: Global,
     serve: &ServeCommand<'_>,
+    rule: R,
     files: &mut F,
     listener: &mut N,
     steps: &mut Steps<L>,
@@ -85,12 +88,14 @@ pub fn serve_program<F: Files, N: Listener, L: Ledger>(
     requires two { AreTwo (names_of (run_shown serve.now.session)) }
     requires port { serve.now.port < 2 ^ 16 }
     requires conns { (1 ≤ serve.now.conns) × (serve.now.conns ≤ 4096) }
+    requires rule { R.rule rule ≡ rule_of serve.now.session.guard }
     ensures ends { (input : Option Stream) (output : Option (List ℕ)) → ServeEnds (serve_shown serve.now) (N.told listener.old) (N.told listener.new) (outside (F.told files.old) (F.calls files.old) input output steps.old) (outside (F.told files.new) (F.calls files.new) input output steps.new) result }
     ensures faults { (output : ℕ) → HasFaults (faults (F.faults files.old) (N.faults listener.old) output) (faults (F.faults files.new) (N.faults listener.new) output) result.answer }
+    ensures fixed { N.fixed listener.new ≡ N.fixed listener.old }
     ensures status { result.status ≡ status_of result.answer }
     ensures counted_at_least { steps.old + result.steps ≤ steps.new }
 {
-    let mut session = match begin_session(alloc, &serve.session, files) {
+    let mut session = match begin_session(alloc, &serve.session, rule, files) {
         Ok(session) => session,
         Err(answer) => return End::without_session(alloc, answer),
     };
@@ -107,4 +112,36 @@ pub fn serve_program<F: Files, N: Listener, L: Ledger>(
         session.steps(),
     );
     End::of_session(answer, session.into_end())
+}
+
+/// Loads the program of a command and lets it serve the connections of a port, one after another, with a record and a report of it
+/// in two files. The port is bound once these have their first lines. The access rule is chosen here, once, by the guard that the command asks for.
+pub fn serve_program<F: Files, N: Listener, L: Ledger>(
+    alloc: Global,
+    serve: &ServeCommand<'_>,
+    files: &mut F,
+    listener: &mut N,
+    steps: &mut Steps<L>,
+) -> End
+    requires in_range { AreInRange (run_shown serve.now.session) }
+    requires two { AreTwo (names_of (run_shown serve.now.session)) }
+    requires port { serve.now.port < 2 ^ 16 }
+    requires conns { (1 ≤ serve.now.conns) × (serve.now.conns ≤ 4096) }
+    ensures ends { (input : Option Stream) (output : Option (List ℕ)) → ServeEnds (serve_shown serve.now) (N.told listener.old) (N.told listener.new) (outside (F.told files.old) (F.calls files.old) input output steps.old) (outside (F.told files.new) (F.calls files.new) input output steps.new) result }
+    ensures faults { (output : ℕ) → HasFaults (faults (F.faults files.old) (N.faults listener.old) output) (faults (F.faults files.new) (N.faults listener.new) output) result.answer }
+    ensures fixed { N.fixed listener.new ≡ N.fixed listener.old }
+    ensures status { result.status ≡ status_of result.answer }
+    ensures counted_at_least { steps.old + result.steps ≤ steps.new }
+{
+    match serve.session.guard {
+        Guard::Off => serve_under(alloc, serve, AllMapped, files, listener, steps),
+        Guard::Extent => {
+            let rule = HeapGuard::over(GuardMode::Extent);
+            serve_under(alloc, serve, rule, files, listener, steps)
+        }
+        Guard::Block => {
+            let rule = HeapGuard::over(GuardMode::Block);
+            serve_under(alloc, serve, rule, files, listener, steps)
+        }
+    }
 }

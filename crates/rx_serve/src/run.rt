@@ -46,8 +46,9 @@ pub fn run_rx<F: Files, S: Source, K: Sink, N: Listener, L: Ledger>(
     // A fault is answered only where the count of that object's own faults rose.
     ensures faults { HasFaults (faults (F.faults files.old) (heard_by (command_of (texts_of words.now)) (S.faults input.old) (N.faults listener.old)) (K.faults output.old)) (faults (F.faults files.new) (heard_by (command_of (texts_of words.now)) (S.faults input.new) (N.faults listener.new)) (K.faults output.new)) result.answer }
 
-    // Only `serve` calls the listener.
+    // Only `serve` calls the listener, and no command changes what of it no call changes.
     ensures listener { (Listens (command_of (texts_of words.now)) → ⊥) → listener.new ≡ listener.old }
+    ensures fixed { N.fixed listener.new ≡ N.fixed listener.old }
     ensures status { result.status ≡ status_of result.answer }
     ensures counted_at_least { steps.old + result.steps ≤ steps.new }
 {

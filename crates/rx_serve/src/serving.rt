@@ -9,29 +9,32 @@ ghost use Rattle.rx_serve.specs.Beginning.{BeginsSession, CallsBegin};
 ghost use Rattle.rx_serve.specs.Commands.{RunEnds};
 ghost use Rattle.rx_serve.specs.Noting.{names_of};
 ghost use Rattle.rx_serve.specs.Outside.{outside, faults, HasFaults};
+ghost use Rattle.rx_serve.specs.Settings.{rule_of};
 ghost use Rattle.rx_serve.specs.Status.{status_of};
 
 use crate::ending::End;
 use crate::loading::load_image;
 use crate::noting::{end_notes, note_answer, serve_noted, start_notes};
 use crate::settings::options_of;
-use command_line::RunCommand;
-use guest_space::AllMapped;
+use command_line::{Guard, RunCommand};
+use guest_space::{AccessRule, AllMapped};
+use heap_guard::{GuardMode, HeapGuard};
 use run_history::Answer;
 use rx_engine::Session;
 use rx_io::{Files, Sink, Source, Steps};
 use std::alloc::Global;
 use std::sync::ledger::Ledger;
 
-// Loads the program of a command, starts its record and its report, and begins its session.
-pub(crate) fn begin_session<F: Files>(
+// Loads the program of a command, starts its record and its report, and begins its session under an access rule.
+pub(crate) fn begin_session<R: AccessRule + Drop, F: Files>(
     alloc: Global,
     run: &RunCommand<'_>,
+    rule: R,
     files: &mut F,
-) -> Result<Session<AllMapped>, Answer>
+) -> Result<Session<R>, Answer>
     requires in_range { AreInRange (run_shown run.now) }
     requires two { AreTwo (names_of (run_shown run.now)) }
-    ensures begins { BeginsSession (run_shown run.now) (F.told files.old) (F.told files.new) result }
+    ensures begins { BeginsSession (run_shown run.now) rule (F.told files.old) (F.told files.new) result }
     ensures calls { CallsBegin (run_shown run.now) (F.calls files.old) (F.calls files.new) result }
     ensures later { F.faults files.old ≤ F.faults files.new }
     ensures file_fault { result ≡ Err answer.FileFault → Rose (F.faults files.old) (F.faults files.new) }
@@ -45,13 +48,41 @@ pub(crate) fn begin_session<F: Files>(
     if let Err(fault) = start_notes(alloc, files, run) {
         return Err(note_answer(fault));
     }
-    match Session::begin(alloc, &image, &options, AllMapped) {
+    match Session::begin(alloc, &image, &options, rule) {
         Ok(session) => Ok(session),
         Err(_) => Err(Answer::Memory),
     }
 }
 
-/// Loads the program of a command and lets it serve, with a record and a report of it in two files.
+// Loads the program of a command and lets it serve under an access rule, which is that of the command's guard.
+fn run_under<R: AccessRule + Drop, F: Files, S: Source, K: Sink, L: Ledger>(
+    alloc: Global,
+    run: &RunCommand<'_>,
+    rule: R,
+    files: &mut F,
+    input: &mut S,
+    output: &mut K,
+    steps: &mut Steps<L>,
+) -> End
+    requires in_range { AreInRange (run_shown run.now) }
+    requires two { AreTwo (names_of (run_shown run.now)) }
+    requires rule { R.rule rule ≡ rule_of run.now.guard }
+    ensures ends { RunEnds (run_shown run.now) (outside (F.told files.old) (F.calls files.old) (S.told input.old) (K.told output.old) steps.old) (outside (F.told files.new) (F.calls files.new) (S.told input.new) (K.told output.new) steps.new) result }
+    ensures faults { HasFaults (faults (F.faults files.old) (S.faults input.old) (K.faults output.old)) (faults (F.faults files.new) (S.faults input.new) (K.faults output.new)) result.answer }
+    ensures status { result.status ≡ status_of result.answer }
+    ensures counted_at_least { steps.old + result.steps ≤ steps.new }
+{
+    let mut session = match begin_session(alloc, run, rule, files) {
+        Ok(session) => session,
+        Err(answer) => return End::without_session(alloc, answer),
+    };
+    let ended = serve_noted(alloc, run, &mut session, files, input, output, steps);
+    let answer = end_notes(alloc, files, run, ended, session.taken(), session.steps());
+    End::of_session(answer, session.into_end())
+}
+
+/// Loads the program of a command and lets it serve, with a record and a report of it in two files. The access rule is chosen here, once, by the
+/// guard that the command asks for: without one nothing more is tested of an access.
 pub fn run_program<F: Files, S: Source, K: Sink, L: Ledger>(
     alloc: Global,
     run: &RunCommand<'_>,
@@ -67,11 +98,15 @@ pub fn run_program<F: Files, S: Source, K: Sink, L: Ledger>(
     ensures status { result.status ≡ status_of result.answer }
     ensures counted_at_least { steps.old + result.steps ≤ steps.new }
 {
-    let mut session = match begin_session(alloc, run, files) {
-        Ok(session) => session,
-        Err(answer) => return End::without_session(alloc, answer),
-    };
-    let ended = serve_noted(alloc, run, &mut session, files, input, output, steps);
-    let answer = end_notes(alloc, files, run, ended, session.taken(), session.steps());
-    End::of_session(answer, session.into_end())
+    match run.guard {
+        Guard::Off => run_under(alloc, run, AllMapped, files, input, output, steps),
+        Guard::Extent => {
+            let rule = HeapGuard::over(GuardMode::Extent);
+            run_under(alloc, run, rule, files, input, output, steps)
+        }
+        Guard::Block => {
+            let rule = HeapGuard::over(GuardMode::Block);
+            run_under(alloc, run, rule, files, input, output, steps)
+        }
+    }
 }

@@ -1,11 +1,11 @@
-use Rattle.command_line.proofs.Terms.{ap, unwrap_or, ℕ, ◌∙◌, Text, number_of, form_row, frame_row, record_row, report_row, form_of, frame_of}
+use Rattle.command_line.proofs.Terms.{ap, unwrap_or, ℕ, ◌∙◌, Text, number_of, form_row, frame_row, guard_row, record_row, report_row, form_of, frame_of, guard_of}
 use Rattle.command_line.proofs.run_words.session_from.Goals as goal
 
 abbrev number_read : Text → ℕ
 number_read text = unwrap_or (number_of text) 0
 
 pub returns : goal.returns
-unfolding form_row frame_row record_row report_row
+unfolding form_row frame_row guard_row record_row report_row
 returns c =
     λ p read i. record {
       program = c.value_in.ensures _ read.program i;
@@ -19,4 +19,5 @@ returns c =
       every = (c.number_or_zero-3.ensures ∙ ap number_read (c.value_in-8.ensures _ read.options.1.1.1.1.1.1.0)) i;
       frames = (c.number_or_zero-4.ensures ∙ ap number_read (c.value_in-9.ensures _ read.options.1.1.1.1.1.1.1.0)) i;
       budget = (c.number_or_zero-5.ensures ∙ ap number_read (c.value_in-10.ensures _ read.options.1.1.1.1.1.1.1.1.0)) i;
+      guard = (c.guard_of.ensures ∙ ap guard_of (c.value_in-11.ensures _ read.options.1.1.1.1.1.1.1.1.1.0)) i;
     }

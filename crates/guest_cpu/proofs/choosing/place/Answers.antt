@@ -1,5 +1,5 @@
 use Rattle.std.specs.Prelude.{length}
-use Rattle.guest_cpu.proofs.Terms.{arith, subst, sym, false, true, ◌≡◌, ◌∙◌, nat_lt, bytes_asked, is_clear, live_blocks, most_blocks}
+use Rattle.guest_cpu.proofs.Terms.{arith, subst, sym, true, ◌∙◌, ◌≡◌, nat_lt, bytes_asked, is_clear, live_blocks, most_blocks}
 use Rattle.guest_cpu.proofs.PlaceLemmas.{is_placed}
 use Rattle.guest_cpu.proofs.ChoiceLemmas.{room_is, room_answer, placed_live}
 use Rattle.guest_cpu.proofs.choosing.place.Goals as goal

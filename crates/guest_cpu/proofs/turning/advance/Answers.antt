@@ -1,31 +1,43 @@
-use Rattle.guest_cpu.proofs.Terms.{None, Some, ap, refl, rules, sym, ◌∙◌, flat, limits_of, machine_of, standing}
-use Rattle.guest_cpu.proofs.TurnLemmas.{turn_hangs, turn_unfetched, is_at}
-use Rattle.guest_cpu.proofs.StepTurns.{stepped, step_failed}
+use Rattle.guest_cpu.proofs.Terms.{refl, rules, ◌<◌, flat, limits_of, standing}
+use Rattle.guest_cpu.proofs.MeetLemmas.{still}
+use Rattle.guest_cpu.proofs.TurnLemmas.{turn_hangs, turned_in, sends_in}
 use Rattle.guest_cpu.proofs.turning.advance.Goals as goal
 
 pub returns-then-core-from-clause-turned : goal.returns-then-core-from-clause-turned
-returns-then-core-from-clause-turned g c =
-    record { written = None; turns = turn_hangs (limits_of c.args.budget _) c.args.env (standing c.args.core.now (flat c.args.space.now)) (search rules); wrote = refl }
+returns-then-core-from-clause-turned g c = still (turn_hangs (limits_of c.args.budget _) c.args.env (standing c.args.core.now (flat c.args.space.now)) (search rules))
+
+pub returns-in-Ok-None-clause-turned : goal.returns-in-Ok-None-clause-turned
+returns-in-Ok-None-clause-turned g c =
+    let early : c.args.core.now.marks.since < c.args.budget = search rules in turned_in _ _ _ early (rw c.in-Ok-None.field-0-is at c.in-Ok-None.ensures.turned) (λ written wrote. record { written = written; turns = refl; wrote = wrote })
+
+pub returns-in-Ok-Some-Asks-clause-turned : goal.returns-in-Ok-Some-Asks-clause-turned
+returns-in-Ok-Some-Asks-clause-turned g c =
+    let early : c.args.core.now.marks.since < c.args.budget = search rules in turned_in _ _ _ early (rw (c.in-Ok-Some-Asks.field-0-is, c.in-Ok-Some-Asks.field-0-0-is) at c.in-Ok-Some-Asks.ensures.turned) (λ written wrote. record { written = written; turns = refl; wrote = wrote })
+
+pub returns-in-Ok-Some-Emits-clause-turned : goal.returns-in-Ok-Some-Emits-clause-turned
+returns-in-Ok-Some-Emits-clause-turned g c =
+    let early : c.args.core.now.marks.since < c.args.budget = search rules in turned_in _ _ _ early (rw (c.in-Ok-Some-Emits.field-0-is, c.in-Ok-Some-Emits.field-0-0-is) at c.in-Ok-Some-Emits.ensures.turned) (λ written wrote. record { written = written; turns = refl; wrote = wrote })
+
+pub returns-in-Ok-Some-Exits-clause-turned : goal.returns-in-Ok-Some-Exits-clause-turned
+returns-in-Ok-Some-Exits-clause-turned g c =
+    let early : c.args.core.now.marks.since < c.args.budget = search rules in turned_in _ _ _ early (rw (c.in-Ok-Some-Exits.field-0-is, c.in-Ok-Some-Exits.field-0-0-is) at c.in-Ok-Some-Exits.ensures.turned) (λ written wrote. record { written = written; turns = refl; wrote = wrote })
+
+pub returns-in-Ok-Some-Failed-clause-turned : goal.returns-in-Ok-Some-Failed-clause-turned
+returns-in-Ok-Some-Failed-clause-turned g c =
+    let early : c.args.core.now.marks.since < c.args.budget = search rules in turned_in _ _ _ early (rw (c.in-Ok-Some-Failed.field-0-is, c.in-Ok-Some-Failed.field-0-0-is) at c.in-Ok-Some-Failed.ensures.turned) (λ written wrote. record { written = written; turns = refl; wrote = wrote })
+
+pub returns-in-Ok-Some-Allocates-clause-turned : goal.returns-in-Ok-Some-Allocates-clause-turned
+returns-in-Ok-Some-Allocates-clause-turned g c =
+    let early : c.args.core.now.marks.since < c.args.budget = search rules in
+    let stays = rw (c.in-Ok-Some-Allocates.field-0-is, c.in-Ok-Some-Allocates.field-0-0-is) at c.in-Ok-Some-Allocates.ensures.lasts in
+    turned_in _ _ _ early (rw (c.in-Ok-Some-Allocates.field-0-is, c.in-Ok-Some-Allocates.field-0-0-is) at c.in-Ok-Some-Allocates.ensures.turned) (λ written wrote. rw (stays.0, stays.1) at c.allocate.ensures.turned)
+
+pub returns-in-Ok-Some-Frees-clause-turned : goal.returns-in-Ok-Some-Frees-clause-turned
+returns-in-Ok-Some-Frees-clause-turned g c =
+    let early : c.args.core.now.marks.since < c.args.budget = search rules in
+    let stays = rw (c.in-Ok-Some-Frees.field-0-is, c.in-Ok-Some-Frees.field-0-0-is) at c.in-Ok-Some-Frees.ensures.lasts in
+    turned_in _ _ _ early (rw (c.in-Ok-Some-Frees.field-0-is, c.in-Ok-Some-Frees.field-0-0-is) at c.in-Ok-Some-Frees.ensures.turned) (λ written wrote. rw stays.1 (still (rw stays.0 at c.free.ensures.turned (flat c.args.space.now))))
 
 pub returns-in-Err-clause-turned : goal.returns-in-Err-clause-turned
 returns-in-Err-clause-turned g c =
-    record {
-      written = None;
-      turns = turn_unfetched (limits_of c.args.budget _) c.args.env (standing c.args.core.now (flat c.args.space.now)) c.in-Err.cause (search rules) (sym c.next_instr.ensures.value ∙ c.in-Err.is);
-      wrote = refl;
-    }
-
-pub returns-in-Ecall-clause-turned : goal.returns-in-Ecall-clause-turned
-returns-in-Ecall-clause-turned g c =
-    c.call.ensures.turned (limits_of c.args.budget _) refl (search rules)
-    ((is_at (machine_of c.args.core.now (flat c.args.space.now)) c.in-Ok.instr (sym c.next_instr.ensures.value ∙ c.in-Ok.is)).found_is ∙ ap (λ i. Some i) c.in-Ecall.is)
-
-pub returns-in-Ok-step-clause-turned : goal.returns-in-Ok-step-clause-turned
-returns-in-Ok-step-clause-turned g c =
-    stepped (limits_of c.args.budget (g.R.AccessRule.rule c.args.rule.now)) c.args.env c.in-Ok.instr c.args.core.now c.count.new.self c.step.new.regs c.args.space.now c.step.new.space c.step.result (search rules)
-    (sym c.next_instr.ensures.value ∙ c.in-Ok.is) c.in_default.not-Ecall c.in-Ok-step.is (c.step.ensures.done (machine_of c.args.core.now (flat c.args.space.now)) c.args.budget) c.step.ensures.pages c.count.ensures
-
-pub returns-in-Err-step-clause-turned : goal.returns-in-Err-step-clause-turned
-returns-in-Err-step-clause-turned g c =
-    step_failed (limits_of c.args.budget (g.R.AccessRule.rule c.args.rule.now)) c.args.env c.in-Ok.instr c.args.core.now c.step.new.regs c.args.space.now c.step.new.space c.step.result c.in-Err-step.cause (search rules)
-    (sym c.next_instr.ensures.value ∙ c.in-Ok.is) c.in_default.not-Ecall c.in-Err-step.is (c.step.ensures.done (machine_of c.args.core.now (flat c.args.space.now)) c.args.budget) c.step.ensures.pages
+    let early : c.args.core.now.marks.since < c.args.budget = search rules in let lacks = c.in-Err.ensures.turned in (lacks.0, lacks.1, sends_in _ _ _ early lacks.2)

@@ -11,22 +11,23 @@ returns-clause-served g c =
     let made = c.make-link.ensures in
     let went = c.serve.ensures.outside.0 in
     let has = c.serve.ensures.served in
-    let served : (image : Image) → IsBegun image c.args.session.now.options c.args.session.now.cpu.rule c.args.session.now
-    → ServesPort c.args.conns (rules_by g.R.AccessRule.rule c.args.session.now) (keeping_for c.args.session.now.options) image (g.E.Listener.told c.make-link.result.listener.now) (g.E.Listener.told c.serve.new.link.listener.now)
-    (outcome_of has.why c.serve.new.self) (g.N.Notes.shown c.args.notes.now).told (g.N.Notes.shown c.serve.new.notes).told (c.serve.new.steps - c.args.steps.now) =
-    λ image begun.
-    serves c.args.conns (rules_by g.R.AccessRule.rule c.args.session.now) (keeping_for c.args.session.now.options) image
-    (seen_of (λ s. g.E.Listener.told s.now) (λ s. g.E.Listener.faults s.now) c.make-link.result) (seen_of (λ s. g.E.Listener.told s.now) (λ s. g.E.Listener.faults s.now) c.serve.new.link)
-    (subst IsJustBound (λ i. g.E.Listener.told ((sym made.listener) i).now) c.requires.bound)
-    made.conns went.conns went.went (port_stands c.serve.new.link)
-    (made.told ∙ (λ i. told_nothing (g.E.Listener.told ((sym made.listener) i).now))) refl refl
-    (has.served image begun).0.recovered
-    (left_recorded (rules_by g.R.AccessRule.rule c.args.session.now) image (has.served image begun).0.recovered.telling c.serve.new.self has.why has.keeping (has.served image begun).1) in
     let ended = (has.served c.requires.begun.image c.requires.begun.begun).0.recovered.is.is.ended in record {
       why = has.why;
-      is = has.is;
-      served = search (rules, served);
-      notes = has.notes;
+      is = search (rules, has.is);
+      served =
+          λ image begun.
+          let recovered = has.served image (search (rules, begun)) in
+          search (
+            rules,
+            serves c.args.conns (rules_by g.R.AccessRule.rule c.args.session.now) (keeping_for c.args.session.now.options) image
+                (seen_of (λ s. g.E.Listener.told s.now) (λ s. g.E.Listener.faults s.now) c.make-link.result) (seen_of (λ s. g.E.Listener.told s.now) (λ s. g.E.Listener.faults s.now) c.serve.new.link)
+                (subst IsJustBound (λ i. g.E.Listener.told ((sym made.listener) i).now) c.requires.bound)
+                (search (rules, made.conns)) went.conns went.went (port_stands c.serve.new.link)
+                (made.told ∙ (λ i. told_nothing (g.E.Listener.told ((sym made.listener) i).now))) refl refl
+                recovered.0.recovered
+                (left_recorded (rules_by g.R.AccessRule.rule c.args.session.now) image recovered.0.recovered.telling c.serve.new.self has.why has.keeping recovered.1),
+          );
+      notes = search (rules, has.notes);
       never_refused = λ kind offset is. no_refusal has.why kind offset ended (sym has.is ∙ is);
       never_write_fault = λ is. no_write_fault refl refl has.link.cause (sym has.is ∙ is);
     }

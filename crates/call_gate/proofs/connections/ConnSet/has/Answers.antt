@@ -1,4 +1,5 @@
-use Rattle.call_gate.proofs.Terms.{arith, length, ◌/◌, ◌<◌, ◌∙◌, ◌≤◌, le-ltb}
+use Rattle.std.proofs.Common.{arith, length, ◌/◌, ◌<◌, ◌∙◌, ◌≤◌}
+use Rattle.std.proofs.lemmas.Bool.{le-ltb}
 use Rattle.call_gate.proofs.Flags.{read_flag, read_past}
 use Rattle.call_gate.proofs.connections.ConnSet.has.Goals as goal
 

@@ -1,4 +1,6 @@
-use Rattle.call_gate.proofs.Terms.{ap, ◌∙◌, no_connections, flags_of}
+use Rattle.std.proofs.Common.{ap, ◌∙◌}
+use Rattle.run_history.specs.Machine.{no_connections}
+use Rattle.call_gate.specs.Flags.{flags_of}
 use Rattle.call_gate.proofs.Flags.{flags_none}
 use Rattle.call_gate.proofs.connections.ConnSet.make.Goals as goal
 

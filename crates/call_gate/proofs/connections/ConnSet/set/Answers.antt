@@ -1,4 +1,4 @@
-use Rattle.call_gate.proofs.Terms.{ap, arith, length, set, sym, ◌/◌, ◌<◌, ◌∙◌, ◌≤◌}
+use Rattle.std.proofs.Common.{ap, arith, length, set, sym, ◌/◌, ◌<◌, ◌∙◌, ◌≤◌}
 use Rattle.call_gate.proofs.Flags.{with_bit, without_bit, flags_kept}
 use Rattle.call_gate.proofs.connections.ConnSet.set.Goals as goal
 

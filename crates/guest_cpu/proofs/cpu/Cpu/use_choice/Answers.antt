@@ -1,4 +1,4 @@
-use Rattle.guest_cpu.proofs.Terms.{subst, ◌≡◌, flat, live_blocks, set_range, standing, chosen_standing, live_with_choice, CpuState, cpu_state, live_of}
+use Rattle.guest_cpu.proofs.Terms.{subst, ◌≡◌, live_blocks, flat, set_range, standing, chosen_standing, live_with_choice, CpuState, cpu_state, live_of}
 use Rattle.guest_cpu.proofs.CpuLemmas.{moved_cpu}
 use Rattle.guest_cpu.proofs.cpu.Cpu.use_choice.Goals as goal
 

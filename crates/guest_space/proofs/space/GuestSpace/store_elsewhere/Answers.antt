@@ -1,23 +1,21 @@
 use Rattle.guest_space.proofs.Terms.{arith, subst, sym, ◌%◌, ◌+◌, ◌-◌, ◌≤◌, All-replicate, All-set, PAGE, little_bytes, GuestPages, IsLawfulSpace, AreWindows, IsLoadWindow, IsStoreWindow}
+use Rattle.guest_space.proofs.StretchLemmas.{parts_open}
 use Rattle.guest_space.proofs.SpaceLemmas.{parts_place}
 use Rattle.guest_space.proofs.WindowLemmas.{parts_number, parts_stay, store_windows_stay, window_after, windows_kept}
 use Rattle.guest_space.proofs.space.GuestSpace.store_elsewhere.Goals as goal
 use Rattle.guest_space.proofs.space.GuestSpace.store_elsewhere.Goals.{then-place-before, else-place-before}
 
-pub reaches-requires-clause-holds : goal.reaches-requires-clause-holds
-reaches-requires-clause-holds c = c.none-stretch.ensures 2 c.args.self.now.spans
-
 pub overflow_sub-near : goal.overflow_sub-near
-overflow_sub-near c = (parts_place 2 c.self.inside.base c.self.inside.spans.items c.self.inside.store c.self.inside.code.value c.args.self.now c.args.at 4 c.self.invariant c.self.view_is (omega arith) c.if-not-reaches.ensures.held).0
+overflow_sub-near c = (parts_place 2 c.self.inside.base c.self.inside.spans.items c.self.inside.store c.self.inside.code.value c.args.self.now c.args.at 4 c.self.invariant c.self.view_is (omega arith) ((parts_open 2 c.self.inside.base c.self.inside.spans.items _ c.self.inside.store c.self.inside.code.value c.args.self.now _ c.self.view_is c.deref.ensures.value c.in-Some.ensures.open).held c.args.at c.in-Some.ensures.has.0 c.in-Some.ensures.has.1)).0
 
 pub place-before-requires : goal.place-before-requires
 place-before-requires c =
-    let room = parts_place 2 c.self.inside.base c.self.inside.spans.items c.self.inside.store c.self.inside.code.value c.args.self.now c.args.at 4 c.self.invariant c.self.view_is (omega arith) c.if-not-reaches.ensures.held in
+    let room = parts_place 2 c.self.inside.base c.self.inside.spans.items c.self.inside.store c.self.inside.code.value c.args.self.now c.args.at 4 c.self.invariant c.self.view_is (omega arith) ((parts_open 2 c.self.inside.base c.self.inside.spans.items _ c.self.inside.store c.self.inside.code.value c.args.self.now _ c.self.view_is c.deref.ensures.value c.in-Some.ensures.open).held c.args.at c.in-Some.ensures.has.0 c.in-Some.ensures.has.1) in
     omega arith
 
 pub place-requires : goal.place-requires
 place-requires c =
-    let room = parts_place 2 c.self.inside.base c.self.inside.spans.items c.self.inside.store c.self.inside.code.value c.args.self.now c.args.at 4 c.self.invariant c.self.view_is (omega arith) c.if-not-reaches.ensures.held in
+    let room = parts_place 2 c.self.inside.base c.self.inside.spans.items c.self.inside.store c.self.inside.code.value c.args.self.now c.args.at 4 c.self.invariant c.self.view_is (omega arith) ((parts_open 2 c.self.inside.base c.self.inside.spans.items _ c.self.inside.store c.self.inside.code.value c.args.self.now _ c.self.view_is c.deref.ensures.value c.in-Some.ensures.open).held c.args.at c.in-Some.ensures.has.0 c.in-Some.ensures.has.1) in
     let same = parts_stay c.args.self.now c.put_number.new.self c.self.inside.base c.self-2.inside.base c.self.inside.spans.items c.self-2.inside.spans.items c.self.inside.store c.self-2.inside.store c.self.inside.code.value c.self-2.inside.code.value c.self.view_is c.self-2.view_is c.args.at (little_bytes c.args.size c.args.value) c.if-not-put_number.ensures.1 in
     omega (arith, room, same)
 
@@ -39,7 +37,7 @@ returns-clause-holds c =
     ] in
     record {
       loads = after.loads;
-      stores = All-set (IsStoreWindow c.put_number.new.self) c.if-place-before.windows.stores c.args.register c.window_at.result
-          (window_after c.args.self.now c.put_number.new.self c.args.at c.args.size c.args.value c.window_at.result so put c.if-not-reaches.ensures.held (omega arith) within c.window_at.ensures.window c.window_at.ensures.page)
+      stores = All-set (IsStoreWindow c.put_number.new.self) c.if-place-before.windows.stores c.args.register c.window_in.result
+          (window_after c.args.self.now c.put_number.new.self c.args.at c.args.size c.args.value c.window_in.result so put ((parts_open 2 c.self.inside.base c.self.inside.spans.items _ c.self.inside.store c.self.inside.code.value c.args.self.now _ c.self.view_is c.deref.ensures.value c.in-Some.ensures.open).held c.args.at c.in-Some.ensures.has.0 c.in-Some.ensures.has.1) (omega arith) within c.window_in.ensures.window c.window_in.ensures.page)
           after.stores;
     }

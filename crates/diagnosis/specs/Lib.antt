@@ -1,0 +1,4 @@
+pub mod Terms
+pub mod Diagnosis
+pub mod Examined
+pub mod Laws
