@@ -2,6 +2,10 @@
 #![tactic(auto)]
 
 #[cfg(test)]
+mod answering;
+#[cfg(test)]
+mod crowd_tests;
+#[cfg(test)]
 mod listener_tests;
 #[cfg(test)]
 mod rx_io_tests;

@@ -1,5 +1,5 @@
 use Rattle.std.proofs.Common.{◌≡◌, true}
-use Rattle.outside_tests.proofs.listener_tests.answered.Given as goal
+use Rattle.outside_tests.proofs.answering.answered.Given as goal
 
 abbrev pub invariant-turns : goal.invariant-turns
 invariant-turns g l = record {

@@ -1,0 +1,10 @@
+pub mod Terms
+pub mod Connections
+pub mod Crowding
+pub mod CrowdPlans
+pub mod Streams
+pub mod Inputs
+pub mod Scripts
+pub mod TameCrowds
+pub mod MemoryCrowds
+pub mod ConnectionLaws

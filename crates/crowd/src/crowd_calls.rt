@@ -1,0 +1,54 @@
+// What a crowd was asked and what it answered, as plain data.
+use rx_io::Bytes;
+
+/// What can be done without waiting: a client can be accepted, or a connection be read of.
+#[derive(Clone, Copy, Debug, PartialEq, Eq)]
+pub enum Ready {
+    Accepts,
+    Reads(u16),
+}
+
+/// A kind of calls on a crowd that can fail.
+#[derive(Clone, Copy, Debug, PartialEq, Eq)]
+pub enum CrowdCall {
+    Bind,
+    Wait,
+    Accept,
+    Take,
+    Give,
+}
+
+/// A call that failed. A take and a give have their connection.
+#[derive(Clone, Copy, Debug, PartialEq, Eq)]
+pub enum FailedCall {
+    Bind,
+    Wait,
+    Accept,
+    Take(u16),
+    Give(u16),
+}
+
+/// A call on a crowd with its answer. `Accepted`, `Took`, `Gave` and `Closed` have the number of their connection. `Took` has
+/// besides the bytes that were taken and the buffer's length, `Gave` the bytes that were given and how many were offered. A
+/// call that answered `Memory` leaves no entry.
+#[derive(Debug, Drop)]
+pub enum CrowdEntry {
+    Bound(u16),
+    Waited {
+        may_accept: bool,
+        ready: Ready,
+    },
+    Accepted(u16),
+    Took {
+        conn: u16,
+        bytes: Bytes,
+        room: usize,
+    },
+    Gave {
+        conn: u16,
+        bytes: Bytes,
+        offered: usize,
+    },
+    Closed(u16),
+    Failed(FailedCall),
+}

@@ -1,0 +1,43 @@
+// A crowd that is lent: no call changes which object the reference is to.
+ghost use Rattle.std.specs.Borrow.{GName};
+
+use crate::{Crowd, Ready};
+use rx_io::IoFault;
+
+impl<T: Crowd> Crowd for &mut T {
+    ghost told = { λ s. T.told s.now };
+
+    ghost connections = { λ s. T.connections s.now };
+
+    ghost faults = { λ s. T.faults s.now };
+
+    ghost connection_faults = { λ s. T.connection_faults s.now };
+
+    ghost Fixed = { GName × T.Fixed };
+
+    ghost fixed = { λ s. (s.ghost_name, T.fixed s.now) };
+
+    fn bind(&mut self, port: u16) -> Result<(), IoFault> {
+        Crowd::bind(&mut **self, port)
+    }
+
+    fn wait(&mut self, may_accept: bool) -> Result<Ready, IoFault> {
+        Crowd::wait(&mut **self, may_accept)
+    }
+
+    fn accept(&mut self) -> Result<(), IoFault> {
+        Crowd::accept(&mut **self)
+    }
+
+    fn take(&mut self, conn: u16, buf: &mut [u8]) -> Result<usize, IoFault> {
+        Crowd::take(&mut **self, conn, buf)
+    }
+
+    fn give(&mut self, conn: u16, bytes: &[u8]) -> Result<usize, IoFault> {
+        Crowd::give(&mut **self, conn, bytes)
+    }
+
+    fn close(&mut self, conn: u16) {
+        Crowd::close(&mut **self, conn)
+    }
+}

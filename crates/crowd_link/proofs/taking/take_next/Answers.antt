@@ -1,0 +1,33 @@
+use Rattle.crowd_link.proofs.Terms.{Bool, Err, List, Ok, ap, arith, subst, sym, ℕ, ◌∙◌, nil_from_length, Place, TakesNext, ended_place}
+use Rattle.crowd_link.proofs.JournalLemmas.{only_open}
+use Rattle.crowd_link.proofs.StepLemmas.{end_takes, none_done, piece_takes, take_fails}
+use Rattle.links.specs.declared.journal.LinkEvent.TheVariants as event
+use Rattle.crowd_link.proofs.taking.take_next.Goals as goal
+
+pub returns-then-len-eq0-clause-takes : goal.returns-then-len-eq0-clause-takes
+returns-then-len-eq0-clause-takes g c =
+    let told = g.C.Crowd.told in
+    let place = c.args.place.now in
+    let call = c.in-Ok.ensures.calls in
+    let opened = only_open _ (none_done place.closing place.stages c.requires.nothing c.requires.stands.closing c.args.conn) (c.requires.none c.args.conn) (sym (c.requires.stands.present c.args.conn) ∙ c.requires.connected) in
+    subst (λ (l : List Bool). TakesNext c.args.limits (told c.args.crowd.now) (told c.take_piece.new.crowd) l place (ended_place c.args.conn place) (Ok (event.Closes c.args.conn))) (sym c.in-Ok.ensures.connections)
+    (end_takes c.args.limits (told c.args.crowd.now) (told c.take_piece.new.crowd) (g.C.Crowd.connections c.args.crowd.now) place c.requires.stands c.args.conn c.in-Ok.bytes.items call.0 call.1 call.2
+    (nil_from_length c.in-Ok.bytes.items (omega (arith, c.in-Ok.bytes.ok.0))) opened c.requires.few c.requires.nothing)
+
+pub returns-else-len-eq0-clause-takes : goal.returns-else-len-eq0-clause-takes
+returns-else-len-eq0-clause-takes g c =
+    let told = g.C.Crowd.told in
+    let place = c.args.place.now in
+    let call = c.in-Ok.ensures.calls in
+    let opened = only_open _ (none_done place.closing place.stages c.requires.nothing c.requires.stands.closing c.args.conn) (c.requires.none c.args.conn) (sym (c.requires.stands.present c.args.conn) ∙ c.requires.connected) in
+    subst (λ (l : List ℕ). TakesNext c.args.limits (told c.args.crowd.now) (told c.take_piece.new.crowd) (g.C.Crowd.connections c.take_piece.new.crowd) place place (Ok (event.Piece c.args.conn l))) (sym c.from_vec.ensures)
+    (subst (λ (l : List Bool). TakesNext c.args.limits (told c.args.crowd.now) (told c.take_piece.new.crowd) l place place (Ok (event.Piece c.args.conn c.in-Ok.bytes.items))) (sym c.in-Ok.ensures.connections)
+    (piece_takes c.args.limits (told c.args.crowd.now) (told c.take_piece.new.crowd) (g.C.Crowd.connections c.args.crowd.now) place c.requires.stands c.args.conn c.in-Ok.bytes.items call.0 call.1 call.2
+    (omega (arith, c.in-Ok.bytes.ok.0)) opened c.requires.few))
+
+pub returns-in-Err-clause-takes : goal.returns-in-Err-clause-takes
+returns-in-Err-clause-takes g c =
+    let told = g.C.Crowd.told in
+    let place = c.args.place.now in
+    subst (λ (l : List Bool). TakesNext c.args.limits (told c.args.crowd.now) (told c.take_piece.new.crowd) l place place (Err c.in-Err.fault)) (sym c.in-Err.ensures.connections)
+    (take_fails c.args.limits (told c.args.crowd.now) (told c.take_piece.new.crowd) (g.C.Crowd.connections c.args.crowd.now) place c.requires.stands c.args.conn c.in-Err.fault c.in-Err.ensures.calls)

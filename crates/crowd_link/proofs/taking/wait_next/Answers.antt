@@ -1,0 +1,12 @@
+use Rattle.crowd_link.proofs.StepLemmas.{wait_fails, wait_then}
+use Rattle.crowd_link.proofs.taking.wait_next.Goals as goal
+
+pub returns-in-Ok-clause-takes : goal.returns-in-Ok-clause-takes
+returns-in-Ok-clause-takes g c =
+    let told = g.C.Crowd.told in
+    wait_then c.args.limits (told c.args.crowd.now) (told c.wait_ready.new.crowd) (told c.serve_ready.new.crowd) (g.C.Crowd.connections c.wait_ready.new.crowd) (g.C.Crowd.connections c.serve_ready.new.crowd)
+    c.args.place.now c.serve_ready.new.place c.serve_ready.result c.in-Ok.ensures.waits c.serve_ready.ensures.takes
+
+pub returns-in-Err-clause-takes : goal.returns-in-Err-clause-takes
+returns-in-Err-clause-takes g c =
+    wait_fails c.args.limits (g.C.Crowd.told c.args.crowd.now) (g.C.Crowd.told c.wait_ready.new.crowd) (g.C.Crowd.connections c.wait_ready.new.crowd) c.args.place.now c.in-Err.fault c.in-Err.ensures.goes c.in-Err.ensures.waits

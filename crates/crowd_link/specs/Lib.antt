@@ -1,0 +1,11 @@
+pub mod Terms
+pub mod Stages
+pub mod StageTables
+pub mod Served
+pub mod Standing
+pub mod Steps
+pub mod Taking
+pub mod Gives
+pub mod CrowdLinks
+pub mod CallLaws
+pub mod CrowdLaws

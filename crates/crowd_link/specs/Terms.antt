@@ -1,0 +1,20 @@
+-- The words that this crate's definitions are written in: those of crates below, and types of its code.
+pub use Rattle.rx_io.specs.declared.fault.IoFault.{IoFault}
+pub use Rattle.rx_io.specs.Faults.{HasCause, Rose}
+pub use Rattle.rx_io.specs.Planned.{one_more}
+pub use Rattle.rx_io.specs.Prefix.{Prefix}
+pub use Rattle.links.specs.declared.journal.Entry.{Entry}
+pub use Rattle.links.specs.declared.journal.Given.{Given}
+pub use Rattle.links.specs.declared.journal.Given.TheVariants.{All, Gone}
+pub use Rattle.links.specs.declared.journal.LinkEvent.{LinkEvent}
+pub use Rattle.links.specs.declared.journal.LinkFault.{LinkFault}
+pub use Rattle.links.specs.declared.journal.LinkFault.TheVariants.{Memory, ReadFault, Refused, WriteFault}
+pub use Rattle.links.specs.LinkForms.{handed_by, told_by}
+pub use Rattle.links.specs.Links.{ComesUntold, Counts, Enters, Gives, GivesAtClose, GoesBy, Handed, HasGiveCause, IsGone, Phase, Phases, Tells, TellsHanded, Told, cut_entries}
+pub use Rattle.links.specs.Seen.{IsSound, Seen}
+pub use Rattle.crowd.specs.declared.crowd.Crowd.{Ghosts}
+pub use Rattle.crowd.specs.declared.crowd_calls.CrowdEntry.{CrowdEntry}
+pub use Rattle.crowd.specs.declared.crowd_calls.Ready.{Ready}
+pub use Rattle.crowd.specs.ConnectionLaws.{open_fewer, open_more, open_within}
+pub use Rattle.crowd.specs.Connections.{IsConnectedAfter, IsReady, is_open, open_count, without}
+pub use Rattle.crowd.specs.Crowding.{CrowdAccepts, CrowdWaits, Logs}
