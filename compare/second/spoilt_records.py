@@ -15,7 +15,7 @@ from second.record import RecordRefused, choice_line, end_line, head_line, is_po
 from second.said import answer_of, is_told
 
 NO_BUDGET = 0  # a replay has none
-OLD = b"what was there"
+OLD = b"rx record 1 what was there"
 
 # What came of a replay or a conversion: the answer, the status, the output, and the new record.
 Came = collections.namedtuple("Came", "answer status output new")

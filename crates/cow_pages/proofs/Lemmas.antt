@@ -1,7 +1,7 @@
 -- The lemmas that the proofs of this crate's functions cite.
 pub use Rattle.cow_pages.proofs.Counting.{has-get_or}
 pub use Rattle.cow_pages.proofs.Walks.{Counting, Uncounting, counted_room, counting_added, counting_all, counting_fits, counting_more, give_all, give_free, give_kept, give_room, not-live, rise_none, rise_some, uncount_free, uncount_kept, uncount_live, uncounting_all, uncounting_more, uncounting_removed, uncounting_some}
-pub use Rattle.cow_pages.proofs.Renewals.{at_most_one, recounts_none, recounts_on, renewed_all, renewed_room, renewed_some, same_more, same_on, same_part, stand_all, stand_more, stay_here, stay_set, walked, walked_counts}
+pub use Rattle.cow_pages.proofs.Renewals.{recounts_none, recounts_on, renewed_all, renewed_room, renewed_some, same_more, same_on, same_part, stand_all, stand_more, walked, walked_counts}
 pub use Rattle.cow_pages.proofs.Stores.{count_read, held-is, lawful, shared-is, used-sum}
 pub use Rattle.cow_pages.proofs.Copying.{free_there, moved_apart, moved_owns, moved_sound, stay_owns}
 pub use Rattle.cow_pages.proofs.Runs.{byte_done, byte_is, byte_lawful, copied_done, part_done, part_lawful, place_room, run_is, used_one}

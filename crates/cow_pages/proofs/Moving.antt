@@ -1,5 +1,5 @@
 -- The moves of pages that are kept.
-use Rattle.cow_pages.proofs.Terms.{All, IsSome, List, ap, arith, false, get_or, inl, inr, length, refl, set, subst, sym, true, ℕ, ◌%◌, ◌+◌, ◌<◌, ◌∙◌, ◌≡◌, ◌≤◌, cases_eq, cases_lt, false≢true, get_or-replicate, get_or-set_other, get_or-set_same, length-replicate, length-set, replicate, All-get_or, All-set, All-weaker, Slot, MOST, RECENT, Pages, slot_at, AreBlank, AreInside, AreLogged, AreMoved, IsKept, IsLogged, IsSlot, IsSound, pages_of}
+use Rattle.cow_pages.proofs.Terms.{All, IsSome, List, ap, arith, false, get_or, inl, inr, length, refl, replicate, set, subst, sym, true, ℕ, ◌%◌, ◌+◌, ◌<◌, ◌∙◌, ◌≡◌, ◌≤◌, cases_eq, cases_lt, false≢true, get_or-replicate, get_or-set_other, get_or-set_same, length-replicate, length-set, All-get_or, All-set, All-weaker, MOST, RECENT, Slot, Pages, slot_at, AreBlank, AreInside, AreLogged, AreMoved, IsKept, IsLogged, IsLoggedSince, IsSlot, IsSound, pages_of}
 use Rattle.cow_pages.proofs.Stores.{slot_within, slot_saved}
 use Rattle.cow_pages.proofs.Slots.{slot_table}
 use Rattle.cow_pages.proofs.Making.{IsBlank}
@@ -102,12 +102,7 @@ logged_made pages size count recent live slots some zeros blank =
     }
 
 -- what a save over a slot asks of the moves
-pub record OverMoves (count seen : ℕ) (recent table live : List ℕ) : Type 0 where
-  pub inside : AreInside (length table) recent
-  pub order : seen ≤ count
-  pub moved : AreMoved count recent seen table live
-
-pub over_moves : (pages frames held : ℕ) (pool live counts free : List ℕ) (reserved : ℕ) (slots : List Slot) (count : ℕ) (recent : List ℕ) (store : Pages) (i : ℕ) (table line : List ℕ) (slot : Slot) → IsKept pages frames held pool live counts free reserved slots count recent → pages_of pages frames pool live slots ≡ store → IsSome (slot_at store i) → table ≡ slot.table.items → line ≡ live → slot ≡ get_or slots i slot → OverMoves count slot.seen recent table line
+pub over_moves : (pages frames held : ℕ) (pool live counts free : List ℕ) (reserved : ℕ) (slots : List Slot) (count : ℕ) (recent : List ℕ) (store : Pages) (i : ℕ) (table line : List ℕ) (slot : Slot) → IsKept pages frames held pool live counts free reserved slots count recent → pages_of pages frames pool live slots ≡ store → IsSome (slot_at store i) → table ≡ slot.table.items → line ≡ live → slot ≡ get_or slots i slot → IsLoggedSince slot.seen count recent table line
 over_moves pages frames held pool live counts free reserved slots count recent store i table line slot so seen some first second is =
     let here : IsSome (slot_at (pages_of pages frames pool live slots) i) = subst (λ s. IsSome (slot_at s i)) (sym seen) some in
     let less : i < length slots = slot_within pages frames pool live slots i here in

@@ -1,5 +1,5 @@
 -- A table that becomes the live one, entry by entry.
-use Rattle.cow_pages.proofs.Terms.{List, [], ap, arith, cond, drop, false, get_or, inl, inr, length, nat_lt, refl, set, subst, sym, take, true, ℕ, ◌%◌, ◌++◌, ◌+◌, ◌-◌, ◌<◌, ◌||◌, ◌∙◌, ◌∷◌, ◌≡◌, ◌≤◌, ◌⊎◌, cases_eq, cases_lt, le-ltb, lt-ltb, or_right, drop_more, ext_get_or, get_or-append-add, get_or-drop, get_or-set_other, get_or-set_same, get_or-take, length-append, length-set, different, has, IsRenewed, IsStack, Recounts, RECENT, SameUpTo, StandFrom, StaySame, places}
+use Rattle.cow_pages.proofs.Terms.{List, [], ap, arith, cond, drop, false, get_or, inl, inr, length, nat_lt, refl, set, subst, sym, take, true, ℕ, ◌%◌, ◌++◌, ◌+◌, ◌-◌, ◌<◌, ◌||◌, ◌∙◌, ◌∷◌, ◌≡◌, ◌≤◌, ◌⊎◌, cases_eq, cases_lt, le-ltb, lt-ltb, or_right, drop_more, ext_get_or, get_or-append-add, get_or-drop, get_or-set_other, get_or-set_same, get_or-take, length-append, length-set, RECENT, different, has, IsRenewed, IsStack, Recounts, SameUpTo, StandFrom, StaySame, places}
 use Rattle.cow_pages.proofs.Counting.{AreBelow, places-append, places-take-drop, has-get_or, places-set}
 use Rattle.cow_pages.proofs.Walks.{below_append, below_front, below_take, below_drop, places-here, places-there, different-front, in_use, stack_same, uncount_kept, uncount_free, counted_room, not-live, small}
 use Rattle.cow_pages.proofs.Slots.{same_different}

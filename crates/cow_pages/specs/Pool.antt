@@ -87,6 +87,12 @@ pub record AreInside (pages : ℕ) (recent : List ℕ) : Type 0 where
   pub size : length recent ≡ RECENT
   pub below : (k : ℕ) → k < length recent → slice_index recent k < pages
 
+-- The moves since a table was the live one: they are counted from then on, and where they are kept, they are those of the pages at which it isn't.
+pub record IsLoggedSince (seen count : ℕ) (recent table live : List ℕ) : Type 0 where
+  pub inside : AreInside (length table) recent
+  pub order : seen ≤ count
+  pub moved : AreMoved count recent seen table live
+
 -- two places of a list of this length, the first at or before the second
 pub record AreInOrder (start end size : ℕ) : Type 0 where
   pub order : start ≤ end

@@ -1,7 +1,7 @@
 // Walks over a table of frames, which change counts and free frames.
 ghost use Rattle.std.specs.Prelude.{◌≡◌, ◌≢◌, ℕ, ◌+◌, ◌-◌, ◌*◌, ◌^◌, ◌<◌, ◌≤◌, List, [], ◌∷◌, ◌++◌, length, true, nat_lt, if◌then◌else◌, slice_index, slice_set, vec_capacity, IfOk};
 ghost use Rattle.cow_pages.specs.Pages.{different};
-ghost use Rattle.cow_pages.specs.Pool.{places, Counts, IsStack, IsRow, CanUncount, IsRenewed, Recounts, AreInOrder, AreInside, AreMoved, StandFrom, SameUpTo, StaySame};
+ghost use Rattle.cow_pages.specs.Pool.{places, Counts, IsStack, IsRow, CanUncount, IsRenewed, Recounts, AreInOrder, AreInside, IsLoggedSince, StandFrom, SameUpTo, StaySame};
 
 use crate::moves::{Moves, RECENT};
 use std::alloc::{AllocError, Global};
@@ -85,11 +85,8 @@ pub fn renew_table(
     seen: u64,
 ) -> Recount
     requires fits { IsRenewed counts.old table.old live.now free.old.items }
-    requires reserved { length counts.old ≤ vec_capacity free.old }
-    requires short { length table.old < 2 ^ 31 }
-    requires moves { AreInside (length table.old) moves.now.recent.items }
-    requires order { seen ≤ moves.now.count }
-    requires moved { AreMoved moves.now.count moves.now.recent.items seen table.old live.now }
+    requires room { (length counts.old ≤ vec_capacity free.old) × (length table.old < 2 ^ 31) }
+    requires logged { IsLoggedSince seen moves.now.count moves.now.recent.items table.old live.now }
     ensures table { table.new ≡ live.now }
     ensures counts { Recounts counts.old table.old counts.new live.now result.added result.removed }
     ensures few { result.added < 2 ^ 31 }

@@ -39,7 +39,7 @@ pub trait Crowd {
         ensures cause { HasCause (faults self.old) (faults self.new) result }
         ensures other { connection_faults self.new ≡ connection_faults self.old };
 
-    /// CrowdWaits until a client can be accepted, where that is asked for, or an open connection be read of: it has bytes, or its
+    /// Waits until a client can be accepted, where that is asked for, or an open connection be read of: it has bytes, or its
     /// client sends no more, or it has failed. Which of several is answered isn't said.
     fn wait(&mut self, may_accept: bool) -> Result<Ready, IoFault>
         requires some { may_accept ≡ false → 0 < open_count (connections self.old) }
@@ -50,7 +50,7 @@ pub trait Crowd {
         ensures cause { HasCause (faults self.old) (faults self.new) result }
         ensures other { connection_faults self.new ≡ connection_faults self.old };
 
-    /// CrowdWaits for the next connection, whose number is how many were accepted before.
+    /// Waits for the next connection, whose number is how many were accepted before.
     fn accept(&mut self) -> Result<(), IoFault>
         requires few { accepted (connections self.old) < 2 ^ 16 }
         ensures call { CrowdAccepts (told self.old) (told self.new) (accepted (connections self.old)) result }

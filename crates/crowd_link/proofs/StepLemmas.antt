@@ -6,7 +6,7 @@ use Rattle.links.specs.Links as links
 use Rattle.links.specs.declared.journal.Entry.TheVariants as entry
 use Rattle.links.specs.declared.journal.LinkEvent.TheVariants as event
 use Rattle.rx_io.specs.declared.fault.IoFault.TheVariants as io
-use Rattle.crowd_link.proofs.Terms.{Bool, Err, List, None, Ok, Option, Result, Some, [], ap, arith, false, inl, inr, length, nat_lt, refl, subst, sym, true, ℕ, ◌&&◌, ◌++◌, ◌+◌, ◌<◌, ◌∙◌, ◌∷◌, ◌≡◌, ◌≢◌, ◌≤◌, ◌⊎◌, fun_ext, and_parts, cases_lt, ltb-true, length-append, length-set, IsErrOf, slice_set, IoFault, HasCause, LinkEvent, LinkFault, Memory, ReadFault, Refused, WriteFault, ComesUntold, Enters, GoesBy, Phases, CrowdEntry, Ready, open_fewer, open_more, open_within, IsConnectedAfter, IsReady, is_open, open_count, without, CrowdAccepts, CrowdWaits, Logs, Closing, Limits, Place, Stage, Broken, Closed, Dropped, Ended, Open, Unopened, is_broken, is_done, is_given, is_present, phase_of, shown, stage_in, IsCall, MayAccept, Served, after_call, is_closable, served_of, takes_bytes, IsAt, IsClosing, IsWhole, Stands, gives_at, link_journal, phases_at, stage_at, told_at, HasOpenCause, IsTake, NextAt, Settles, StepsTo, TakesNext, TakesPiece, WaitsAt, WentOn, closed_place, dropped_place, ended_place, opened_place, read_fault_of, settled_place, taken, calls_on, calls_same}
+use Rattle.crowd_link.proofs.Terms.{Bool, Err, List, None, Ok, Option, Result, Some, [], ap, arith, false, inl, inr, length, nat_lt, refl, subst, sym, true, ℕ, ◌&&◌, ◌++◌, ◌+◌, ◌<◌, ◌∙◌, ◌∷◌, ◌≡◌, ◌≢◌, ◌≤◌, ◌⊎◌, fun_ext, and_parts, cases_lt, ltb-true, length-append, length-set, IsErrOf, slice_set, IoFault, HasCause, LinkEvent, LinkFault, Memory, ReadFault, Refused, WriteFault, ComesUntold, Enters, GoesBy, Phases, CrowdEntry, Ready, open_fewer, open_more, open_within, IsConnectedAfter, IsReady, is_open, open_count, without, CrowdAccepts, CrowdWaits, Logs, Closing, Limits, Place, Stage, Broken, Closed, Dropped, Ended, Open, Unopened, is_broken, is_done, is_given, is_present, phase_of, shown, stage_in, IsCall, Served, after_call, can_accept, is_closable, served_of, takes_bytes, IsAt, IsClosing, IsWhole, Stands, gives_at, link_journal, phases_at, stage_at, told_at, HasOpenCause, IsTake, NextAt, Settles, StepsTo, TakesNext, TakesPiece, WaitsAt, WentOn, closed_place, dropped_place, ended_place, opened_place, read_fault_of, settled_place, taken, calls_on, calls_same}
 use Rattle.crowd_link.specs.declared.place.Closing.TheVariants as closing
 use Rattle.crowd_link.specs.Taking.{NoneBroken, may_accept}
 use Rattle.crowd_link.proofs.CallLemmas.{logs_same, went_one, went_none, agrees_one, agrees_none, whole_one, whole_none, tells_one, tells_none}
@@ -129,19 +129,18 @@ module _ (limits : Limits) (old new : Option (List CrowdEntry)) (connections : L
   has_closed nothing none served at conn =
       none_closable (stage_at place conn) (served.stages conn) (none_done place.closing place.stages nothing stands.closing conn) (none conn) (at.stages conn)
 
-  may_be : may_accept limits place ≡ true → (served : Served) → IsAt place served → MayAccept limits served
-  may_be may served at =
-      let parts = and_parts _ _ may in
-      let less : place.accepted < limits.conns = ltb-true place.accepted limits.conns parts.0 in
-      let fewer : place.accepted < place.closed + limits.at_once = ltb-true place.accepted (place.closed + limits.at_once) parts.1 in
-      let accepted = at.accepted in
-      let gone = at.closed in
-      record { conns = omega arith; at_once = omega arith }
+  same_may : (served : Served) → IsAt place served → may_accept limits place ≡ can_accept limits served
+  same_may served at =
+      ap (λ accepted. nat_lt accepted limits.conns && nat_lt accepted (place.closed + limits.at_once)) (sym at.accepted)
+      ∙ ap (λ closed. nat_lt served.accepted limits.conns && nat_lt served.accepted (closed + limits.at_once)) (sym at.closed)
+
+  may_be : may_accept limits place ≡ true → (served : Served) → IsAt place served → can_accept limits served ≡ true
+  may_be may served at = sym (same_may served at) ∙ may
 
   pub wait_waits : (may : Bool) (result : Result Ready IoFault) → CrowdWaits old new may result → place.closing ≡ closing.Nothing → NoneBroken place → may ≡ may_accept limits place → WaitsAt limits old new connections place
   unfolding after_call
   wait_waits may (Ok ready) logs nothing none is =
-      still_waits (made.Waited may ready) logs (λ served. refl) (λ served at. ((λ conn. has_closed nothing none served at conn), (λ yes. may_be (sym is ∙ yes) served at)))
+      still_waits (made.Waited may ready) logs (λ served. refl) (λ served at. ((λ conn. has_closed nothing none served at conn), is ∙ same_may served at))
   wait_waits may (Err io.Failed) logs nothing none is = still_waits (made.Failed call.Wait) logs (λ served. refl) (λ served at conn. has_closed nothing none served at conn)
   wait_waits may (Err io.Memory) logs nothing none is = stays_waits logs
 

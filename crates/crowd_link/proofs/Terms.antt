@@ -14,7 +14,7 @@ pub use Rattle.crowd_link.specs.declared.place.Stage.{Stage}
 pub use Rattle.crowd_link.specs.declared.place.Stage.TheVariants.{Broken, Closed, Dropped, Ended, Open, Unopened}
 pub use Rattle.crowd_link.specs.Stages.{broken, first_broken, gones_behind, is_broken, is_done, is_given, is_present, phase_of, shown, stage_behind}
 pub use Rattle.crowd_link.specs.StageTables.{stage_in}
-pub use Rattle.crowd_link.specs.Served.{IsCall, MayAccept, Served, closed_entries, closes, entries_of, fresh_served, gives_all, gives_gone, gives_part, is_closable, opens, takes_bytes, with_part, with_stage}
+pub use Rattle.crowd_link.specs.Served.{IsCall, Served, can_accept, closed_entries, closes, entries_of, fresh_served, gives_all, gives_gone, gives_part, is_closable, opens, takes_bytes, with_part, with_stage}
 unfoldable pub use Rattle.crowd_link.specs.Served.{AreCalls, after_call, served_after, served_of}
 pub use Rattle.crowd_link.specs.Standing.{Agrees, IsAt, IsClosing, IsJustBound, IsWhole, NoOther, Stands, gives_at, phases_at, stage_at, with_ends}
 unfoldable pub use Rattle.crowd_link.specs.Standing.{link_journal, told_at}

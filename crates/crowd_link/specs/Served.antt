@@ -1,5 +1,5 @@
 -- What the calls on a crowd make of its connections, as the journal of a link.
-use Rattle.std.specs.Prelude.{◌≡◌, ℕ, ◌+◌, ◌<◌, nat_lt, ◌==◌, Bool, true, false, List, [], ◌∷◌, ◌++◌, length, if◌then◌else◌}
+use Rattle.std.specs.Prelude.{◌≡◌, ℕ, ◌+◌, ◌<◌, nat_lt, ◌==◌, ◌&&◌, Bool, true, false, List, [], ◌∷◌, ◌++◌, length, if◌then◌else◌}
 use Rattle.crowd_link.specs.Terms.{Entry, LinkEvent, CrowdEntry}
 use Rattle.crowd_link.specs.declared.place.Limits.{Limits}
 use Rattle.crowd_link.specs.declared.place.Stage.{Stage}
@@ -117,27 +117,26 @@ is_closable Broken = true
 is_closable Dropped = false
 is_closable Closed = false
 
--- a client may be accepted: fewer connections than the link has were, and fewer are open than may be at the same time
-pub record MayAccept (limits : Limits) (served : Served) : Type 0 where
-  pub conns : served.accepted < limits.conns
-  pub at_once : served.accepted < served.closed + limits.at_once
+-- whether a client may be accepted: fewer connections than the link has were, and fewer are open than may be at the same time
+abbrev pub can_accept : Limits → Served → Bool
+can_accept limits served = nat_lt served.accepted limits.conns && nat_lt served.accepted (served.closed + limits.at_once)
 
 -- each connection that may be closed was
 abbrev pub HasClosed : Served → Type 0
 HasClosed served = (conn : ℕ) → is_closable (served.stages conn) ≡ false
 
--- A link makes such a call there. It waits where each connection that is gone was closed, and for a client only where one may be accepted. It
+-- A link makes such a call there. It waits where each connection that is gone was closed, and for a client exactly where one may be accepted. It
 -- takes into 4096 bytes, from a connection whose end wasn't found; it gives to one that isn't closed; it closes one that is gone; it binds never.
 abbrev pub IsCall : Limits → Served → CrowdEntry → Type 0
 IsCall limits served (made.Bound number) = ⊥
-IsCall limits served (made.Waited may_accept ready) = HasClosed served × (may_accept ≡ true → MayAccept limits served)
-IsCall limits served (made.Accepted conn) = (conn ≡ served.accepted) × MayAccept limits served
+IsCall limits served (made.Waited may_accept ready) = HasClosed served × (may_accept ≡ can_accept limits served)
+IsCall limits served (made.Accepted conn) = (conn ≡ served.accepted) × (can_accept limits served ≡ true)
 IsCall limits served (made.Took conn bytes room) = (served.stages conn ≡ Open) × (room ≡ 4096)
 IsCall limits served (made.Gave conn bytes offered) = (is_present (served.stages conn) ≡ true) × (0 < length bytes)
 IsCall limits served (made.Closed conn) = is_closable (served.stages conn) ≡ true
 IsCall limits served (made.Failed call.Bind) = ⊥
 IsCall limits served (made.Failed call.Wait) = HasClosed served
-IsCall limits served (made.Failed call.Accept) = MayAccept limits served
+IsCall limits served (made.Failed call.Accept) = can_accept limits served ≡ true
 IsCall limits served (made.Failed (call.Take conn)) = served.stages conn ≡ Open
 IsCall limits served (made.Failed (call.Give conn)) = is_present (served.stages conn) ≡ true
 

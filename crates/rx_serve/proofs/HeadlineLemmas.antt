@@ -2,18 +2,14 @@
 use Rattle.session_history.specs.declared.ends.SessionBreak.TheVariants as session_break
 use Rattle.session_history.specs.declared.ends.SessionEnd.TheVariants as session_end
 use Rattle.session_history.specs.declared.ends.Stop.TheVariants as stop
-use Rattle.links.specs.declared.journal.Entry.{Entry}
 use Rattle.run_history.specs.declared.answer.Answer.TheVariants as answer
 use Rattle.run_history.specs.Run.{run}
 use Rattle.session_history.specs.Owing.{OwesNothing}
-use Rattle.session_history.specs.Giving.{AreGiven}
-use Rattle.session_history.proofs.Endings.{passed_all, received_at_end}
 use Rattle.session_history.specs.declared.ends.SessionEnd.{SessionEnd}
 use Rattle.session_history.specs.Ends.{EndsBy}
 use Rattle.over_trunk.specs.Trunk.{StopsTrunk, Carries}
-use Rattle.rx_io.specs.Sends.{sent_to}
 use Rattle.session_history.specs.Passing.{passed_in}
-use Rattle.rx_serve.proofs.Terms.{IfSome, List, None, Option, Some, [], ap, append-nil, arith, drop, length, refl, subst, suc, sym, true, zero, ℕ, ◌++◌, ◌∙◌, ◌≡◌, ◌≤◌, length-take-le, take-append-drop, none-some, option_and_then_some, same_Some, Item, ListenEntry, IsDrained, Stream, Prefix, Coming, events_in, Choice, payload, Image, Answer, next_parts, Chooses, Effect, Emits, Ends, Fails, Goes, State, Wants, start, Run, after, effect, next, output, Stop, at_its_end, came_to, holds_at_end, is_end_answer, HasPassedAll, IsAccount, Session, journal_of, AtEnd, EndsAt, HasComeTo, IsEnd, answer_of, end_answer, Rules, entries_of, Episode, Unnoted, noted, Keeping, HasNoted, IsOutcome, Telling, given_to, EndsAfter, GoesOverPort, End, GoesOver, IsDone, IsServed, Passed, PassedOver, PassedPort, PassedTrunk, Port, Route, Serves, Trunk, Headline, LastExits, received_items}
+use Rattle.rx_serve.proofs.Terms.{IfSome, List, None, Option, Some, [], ap, append-nil, arith, drop, length, refl, subst, suc, sym, true, zero, ℕ, ◌++◌, ◌∙◌, ◌≡◌, ◌≤◌, length-take-le, take-append-drop, none-some, option_and_then_some, same_Some, Item, ListenEntry, IsDrained, Stream, Prefix, sent_to, Entry, Coming, events_in, Choice, payload, Image, Answer, next_parts, Chooses, Effect, Emits, Ends, Fails, Goes, State, Wants, start, Run, after, effect, next, output, Stop, at_its_end, came_to, holds_at_end, is_end_answer, passed_all, received_at_end, HasPassedAll, IsAccount, Session, journal_of, AtEnd, EndsAt, HasComeTo, IsEnd, answer_of, end_answer, AreGiven, Rules, entries_of, Episode, Unnoted, noted, Keeping, HasNoted, IsOutcome, Telling, given_to, EndsAfter, GoesOverPort, End, GoesOver, IsDone, IsServed, Passed, PassedOver, PassedPort, PassedTrunk, Port, Route, Serves, Trunk, Headline, LastExits, received_items}
 
 ended_of : Option State → Option ℕ
 ended_of None = None

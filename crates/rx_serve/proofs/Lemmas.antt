@@ -8,3 +8,4 @@ pub use Rattle.rx_serve.proofs.ReplayLemmas.{has_recording, no_file_fault, no_re
 pub use Rattle.rx_serve.proofs.ConvertLemmas.{as_replay, leaves_text, not_file_fault, not_read_of_writes, not_write_of_writes}
 pub use Rattle.rx_serve.proofs.CommandLemmas.{records_are_converted, records_are_replayed, second_version_stays}
 pub use Rattle.rx_serve.proofs.SessionLaws.{all_sends_are_written, good_input_is_taken}
+pub use Rattle.rx_serve.proofs.ServeLaws.{all_sends_are_given, good_clients_are_served, no_serve_is_refused}

@@ -1,6 +1,5 @@
 -- No connection of a port is opened that was closed before.
-use Rattle.std.proofs.Common.{Bool, List, [], ap, append-nil, arith, false, if◌then◌else◌, inl, inr, length, nat_lt, refl, suc, subst, sym, true, zero, ℕ, ◌++◌, ◌+◌, ◌<◌, ◌==◌, ◌∙◌, ◌∷◌, ◌≡◌, ◌⊎◌}
-use Rattle.std.proofs.lemmas.Bool.{ne_eqb, or_from, or_parts}
+use Rattle.std.proofs.Common.{◌==◌}
 use Rattle.links.proofs.Journaled.{events_in-append}
 use Rattle.links.specs.declared.journal.Entry.TheVariants as entry
 use Rattle.links.specs.declared.journal.LinkEvent.TheVariants as event
@@ -8,9 +7,11 @@ use Rattle.port_link.specs.declared.place.Stage.{Stage}
 use Rattle.port_link.specs.Stages.{broken}
 use Rattle.rx_io.specs.declared.listener_calls.ListenCall.TheVariants as call
 use Rattle.rx_io.specs.declared.listener_calls.ListenEntry.TheVariants as listen
-use Rattle.session_history.specs.AccountLaws.{OpensOnce}
-use Rattle.session_history.specs.Opened.{closes}
-use Rattle.over_port.specs.Terms.{ListenEntry, Entry, LinkEvent, events_in, Place, Broken, Dropping, Ended, Open, Waiting, AreCalls, IsCall, Port, after_call, closed_entries, entries_of, fresh_port, gives_all, gives_part, port_after, takes_bytes, with_part, link_journal, with_close, with_ends}
+use Rattle.port_link.specs.declared.place.Place.{Place}
+use Rattle.port_link.specs.declared.place.Stage.TheVariants.{Broken, Dropping, Ended, Open, Waiting}
+use Rattle.port_link.specs.Ports.{AreCalls, IsCall, Port, after_call, closed_entries, entries_of, fresh_port, gives_all, gives_part, port_after, takes_bytes, with_part}
+use Rattle.port_link.specs.Standing.{link_journal, with_close, with_ends}
+use Rattle.rx_serve.proofs.Terms.{Bool, List, [], ap, append-nil, arith, false, if◌then◌else◌, inl, inr, length, nat_lt, refl, subst, suc, sym, true, zero, ℕ, ◌++◌, ◌+◌, ◌<◌, ◌∙◌, ◌∷◌, ◌≡◌, ◌⊎◌, ne_eqb, or_from, or_parts, ListenEntry, Entry, LinkEvent, events_in, OpensOnce, closes}
 
 -- ---- one event more
 

@@ -1,19 +1,11 @@
 -- At an end of a session over a port without a recovery the gives took all that its run sends.
-use Rattle.std.proofs.Common.{List, Some, [], ap, if◌then◌else◌, map, subst, sym, ℕ, ◌++◌, ◌==◌, ◌∙◌, ◌∷◌, ◌≡◌, false, refl}
-use Rattle.std.specs.Prelude.{flat_map}
+use Rattle.std.proofs.Common.{◌==◌}
 use Rattle.links.specs.declared.journal.Entry.TheVariants as entry
-use Rattle.links.specs.Links.{Piece, pieces_in}
-use Rattle.run_history.specs.Run.{output}
 use Rattle.session_history.specs.declared.ends.SessionBreak.TheVariants as session_break
 use Rattle.session_history.specs.declared.ends.Stop.TheVariants as stop
-use Rattle.session_history.specs.AccountLaws.{OpensOnce, PassesAtOnce, SentIsPassed, piece_of}
-use Rattle.session_history.specs.Ends.{EndsBy, IsEnd, OwesNothingAtEnd}
-use Rattle.session_history.specs.Opened.{is_gone}
-use Rattle.session_history.proofs.Ended.{at_its_end}
-use Rattle.over_port.specs.Terms.{ListenEntry, Send, sent_to, Entry, ComesUntold, Image, Stop, Session, answer_of, events_in, journal_of, IsEnded, Rules}
-use Rattle.over_port.specs.Calls.{given_to}
-use Rattle.over_port.specs.Serving.{CalledPort}
+use Rattle.session_history.specs.Ends.{EndsBy}
 use Rattle.over_port.proofs.CallLemmas.{gave, given_is}
+use Rattle.rx_serve.proofs.Terms.{List, Some, [], ap, false, if◌then◌else◌, map, refl, subst, sym, ℕ, ◌++◌, ◌∙◌, ◌∷◌, ◌≡◌, flat_map, ListenEntry, Send, sent_to, Entry, ComesUntold, Piece, events_in, pieces_in, Image, output, Stop, at_its_end, Session, journal_of, OpensOnce, PassesAtOnce, SentIsPassed, piece_of, IsEnd, IsEnded, OwesNothingAtEnd, answer_of, Rules, is_gone, given_to, CalledPort}
 use Rattle.rx_serve.proofs.PortOrder.{opens_once}
 
 abbrev piece_for : ℕ → Piece → List ℕ

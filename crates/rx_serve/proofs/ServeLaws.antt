@@ -1,23 +1,12 @@
 -- What the laws of sessions say of a `serve`.
-use Rattle.std.proofs.Common.{append_assoc}
 use Rattle.std.specs.Prelude.{◌≢◌}
-use Rattle.links.specs.declared.journal.Entry.{Entry}
-use Rattle.links.specs.declared.journal.LinkEvent.{LinkEvent}
 use Rattle.rx_io.specs.declared.fault.IoFault.TheVariants as fault
 use Rattle.run_history.specs.declared.answer.Answer.TheVariants as answer
-use Rattle.session_history.specs.AccountLaws.{NoOtherAnswer, SentIsPassed}
-use Rattle.session_history.specs.Ends.{IsEnded, before_end}
-use Rattle.session_history.specs.Giving.{AreGiven}
-use Rattle.session_history.specs.Heeding.{AreHeeded, heeded}
-use Rattle.session_history.specs.Opened.{is_gone}
-use Rattle.session_history.proofs.Endings.{events_in-given, given_broken}
-use Rattle.over_port.specs.Serving.{CalledPort}
+use Rattle.rx_serve.proofs.Terms.{List, None, Option, Some, [], ap, append_assoc, false, inl, inr, subst, sym, ℕ, ◌++◌, ◌∙◌, ◌≡◌, IoFault, ListenEntry, Entry, LinkEvent, ComesUntold, Coming, events_in, Image, Answer, Stop, events_in-given, given_broken, Session, journal_of, IsComplete, NoOtherAnswer, SentIsPassed, IsEnd, IsEnded, answer_of, before_end, AreGiven, AreHeeded, heeded, Rules, entries_of, is_gone, CalledPort, GoesOverPort, RunValue, End, Outside, HasLoadCause, rules_of_run, window_of, Port, IsFilesAnswer, HasServed, IsBindAnswer, ServeEnds, AllSendsAreGiven, GivesAll, GoodClientsAreServed, NoServeIsRefused}
 use Rattle.rx_serve.proofs.PortSends.{all_given}
 use Rattle.over_port.proofs.ServeLemmas.{no_refusal}
-use Rattle.rx_serve.specs.Laws.{AllSendsAreGiven, GivesAll, GoodClientsAreServed, NoServeIsRefused}
 use Rattle.rx_serve.proofs.NotingLemmas.{closes_other, closes_same}
 use Rattle.rx_serve.proofs.SessionLaws.{complete_note}
-use Rattle.rx_serve.proofs.Terms.{[], Image, List, None, Option, Some, ap, inl, inr, subst, sym, ℕ, ◌++◌, ◌∙◌, ◌≡◌, ComesUntold, Coming, HasLoadCause, HasServed, IoFault, IsBindAnswer, IsComplete, IsFilesAnswer, ListenEntry, Port, RunValue, Rules, ServeEnds, Session, Stop, answer_of, entries_of, events_in, journal_of, rules_of_run, window_of, Answer, End, Outside, GoesOverPort, IsEnd, false}
 
 -- a session that passes pieces alone at its end took all of its events before
 events_at_end : (session : Session) → AreGiven session.ending → AreGiven session.broken → events_in (journal_of session) ≡ events_in (before_end session)

@@ -1,6 +1,6 @@
 -- What holds of a `run` and of a `serve`, and of a `replay` and a `convert` of the record that a `run` left.
 use Rattle.std.specs.Prelude.{[], ◌≡◌, ◌≢◌, ◌++◌, ℕ, false, List, Option, Some, None}
-use Rattle.rx_serve.specs.Terms.{ListenEntry, Contents, Stream, Answer, Stop, IsComplete, IsEnd, answer_of, Recorded, VERSION, AreAllHeeded, WritesSends, CommandValue, ConvertValue, ReplayValue, RunValue, ServeValue, State, given_to, journal_of, output}
+use Rattle.rx_serve.specs.Terms.{ListenEntry, Contents, Stream, Answer, State, output, Stop, journal_of, IsComplete, IsEnd, answer_of, AreHeeded, is_gone, Recorded, VERSION, AreAllHeeded, WritesSends, given_to, CommandValue, ConvertValue, ReplayValue, RunValue, ServeValue}
 use Rattle.rx_serve.specs.Settings.{rules_of_run}
 use Rattle.command_line.specs.Ranges.{AreInRange}
 use Rattle.run_history.specs.declared.answer.Answer.TheVariants as answer
@@ -13,8 +13,6 @@ use Rattle.rx_serve.specs.Loading.{IsTooLarge}
 use Rattle.rx_serve.specs.Outside.{Outside}
 use Rattle.rx_serve.specs.Route.{Port, trunk_of}
 use Rattle.rx_serve.specs.Serving.{ServeEnds}
-use Rattle.session_history.specs.Heeding.{AreHeeded}
-use Rattle.session_history.specs.Opened.{is_gone}
 use Rattle.rx_serve.specs.Replaying.{HasRecord}
 
 -- A `replay` has what a `run` had: the same bytes as its program, as its record those that the run left, and the same input from its first byte.

@@ -2,8 +2,7 @@
 use Rattle.std.specs.Prelude.{◌≡◌, ℕ, List, ◌++◌, true, Option, Some, IfSome}
 use Rattle.std.specs.Io.KnownBytes.{Appends}
 use Rattle.session_history.specs.declared.ends.SessionEnd.TheVariants as session_end
-use Rattle.session_history.specs.Opened.{is_open}
-use Rattle.rx_serve.specs.Terms.{ListenEntry, IsDrained, Stream, Prefix, ComesUntold, Coming, payload, Image, Answer, output, Stop, Session, journal_of, AtBreak, IsEnd, Rules, Noted, Keeping, IsOutcome, Outcome, Telling, GoesOverTrunk, IsRecordedUpTo, IsTrunkFault, given_to, EndsAfter, GoesOverPort}
+use Rattle.rx_serve.specs.Terms.{ListenEntry, IsDrained, Stream, Prefix, ComesUntold, Coming, payload, Image, Answer, output, Stop, Session, journal_of, AtBreak, IsEnd, Rules, is_open, Noted, Keeping, IsOutcome, Outcome, Telling, GoesOverTrunk, IsRecordedUpTo, IsTrunkFault, given_to, EndsAfter, GoesOverPort}
 use Rattle.rx_serve.specs.Outside.{Outside}
 
 -- A trunk, by what its source and its sink told before and after; or so many connections of a port, by the calls that its listener told before and

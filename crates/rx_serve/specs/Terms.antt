@@ -9,7 +9,10 @@ pub use Rattle.rx_io.specs.Faults.{HasCause, Rose}
 pub use Rattle.rx_io.specs.Named.{Contents, Holds}
 pub use Rattle.rx_io.specs.Outside.{IsDrained, Stream}
 pub use Rattle.rx_io.specs.Prefix.{Prefix}
-pub use Rattle.links.specs.Links.{ComesUntold, Coming, events_in}
+pub use Rattle.rx_io.specs.Sends.{Send, sent_to}
+pub use Rattle.links.specs.declared.journal.Entry.{Entry}
+pub use Rattle.links.specs.declared.journal.LinkEvent.{LinkEvent}
+pub use Rattle.links.specs.Links.{ComesUntold, Coming, Piece, events_in, pieces_in}
 pub use Rattle.block_book.specs.declared.choice.Choice.{Choice}
 pub use Rattle.block_book.specs.Heap.{Heap}
 pub use Rattle.trunk_wire.specs.Pieces.{payload}
@@ -28,10 +31,12 @@ unfoldable pub use Rattle.heap_guard.specs.Guard.{permits}
 pub use Rattle.heap_guard.specs.Guarded.{KeepsToExtents, KeepsToLiveBlocks}
 pub use Rattle.session_history.specs.declared.ends.Stop.{Stop}
 pub use Rattle.session_history.specs.Account.{HasPassedAll, IsAccount, Session, journal_of}
-pub use Rattle.session_history.specs.AccountLaws.{IsComplete}
-pub use Rattle.session_history.specs.Ends.{AtBreak, AtEnd, EndsAt, HasComeTo, IsEnd, answer_of, end_answer}
-pub use Rattle.session_history.specs.Heeding.{items_in}
+pub use Rattle.session_history.specs.AccountLaws.{IsComplete, NoOtherAnswer, OpensOnce, PassesAtOnce, SentIsPassed, piece_of}
+pub use Rattle.session_history.specs.Ends.{AtBreak, AtEnd, EndsAt, HasComeTo, IsEnd, IsEnded, OwesNothingAtEnd, answer_of, before_end, end_answer}
+pub use Rattle.session_history.specs.Giving.{AreGiven}
+pub use Rattle.session_history.specs.Heeding.{AreHeeded, heeded, items_in}
 pub use Rattle.session_history.specs.Lawful.{Rules, entries_of}
+pub use Rattle.session_history.specs.Opened.{closes, is_gone, is_open}
 pub use Rattle.session_notes.specs.declared.episode.Episode.{Episode}
 pub use Rattle.session_notes.specs.Noting.{NoneFailed, Noted, Unnoted, noted}
 pub use Rattle.recovery.specs.Handling.{Keeping}
@@ -57,7 +62,7 @@ pub use Rattle.over_trunk.specs.EndLaws.{AreAllHeeded, NoOtherEnd, SendsAreWritt
 pub use Rattle.over_trunk.specs.Replaying.{ReplaysTrunk, WritesSends}
 pub use Rattle.over_trunk.specs.Serving.{GoesOverTrunk, IsRecordedUpTo, IsTrunkFault, ServesTrunk}
 pub use Rattle.over_port.specs.Calls.{given_to}
-pub use Rattle.over_port.specs.Serving.{EndsAfter, GoesOverPort, ServesPort}
+pub use Rattle.over_port.specs.Serving.{CalledPort, EndsAfter, GoesOverPort, ServesPort}
 pub use Rattle.command_line.specs.declared.run_words.Guard.{Guard}
 pub use Rattle.command_line.specs.Commands.{AsmValue, CommandValue, ConvertValue, ReplayValue, RunValue, ServeValue, asm, command_of, convert, convert_shown, fits, have_names, positional, replay, replay_shown, run, run_shown, serve, serve_shown}
 unfoldable pub use Rattle.command_line.specs.Commands.{is_run, is_serve, run_form, run_value, serve_form, serve_value}

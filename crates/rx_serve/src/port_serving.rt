@@ -86,8 +86,7 @@ fn serve_under<R: AccessRule + Drop, F: Files, N: Listener, L: Ledger>(
 ) -> End
     requires in_range { AreInRange (run_shown serve.now.session) }
     requires two { AreTwo (names_of (run_shown serve.now.session)) }
-    requires port { serve.now.port < 2 ^ 16 }
-    requires conns { (1 ≤ serve.now.conns) × (serve.now.conns ≤ 4096) }
+    requires listens { (serve.now.port < 2 ^ 16) × ((1 ≤ serve.now.conns) × (serve.now.conns ≤ 4096)) }
     requires rule { R.rule rule ≡ rule_of serve.now.session.guard }
     ensures ends { (input : Option Stream) (output : Option (List ℕ)) → ServeEnds (serve_shown serve.now) (N.told listener.old) (N.told listener.new) (outside (F.told files.old) (F.calls files.old) input output steps.old) (outside (F.told files.new) (F.calls files.new) input output steps.new) result }
     ensures faults { (output : ℕ) → HasFaults (faults (F.faults files.old) (N.faults listener.old) output) (faults (F.faults files.new) (N.faults listener.new) output) result.answer }
@@ -125,8 +124,7 @@ pub fn serve_program<F: Files, N: Listener, L: Ledger>(
 ) -> End
     requires in_range { AreInRange (run_shown serve.now.session) }
     requires two { AreTwo (names_of (run_shown serve.now.session)) }
-    requires port { serve.now.port < 2 ^ 16 }
-    requires conns { (1 ≤ serve.now.conns) × (serve.now.conns ≤ 4096) }
+    requires listens { (serve.now.port < 2 ^ 16) × ((1 ≤ serve.now.conns) × (serve.now.conns ≤ 4096)) }
     ensures ends { (input : Option Stream) (output : Option (List ℕ)) → ServeEnds (serve_shown serve.now) (N.told listener.old) (N.told listener.new) (outside (F.told files.old) (F.calls files.old) input output steps.old) (outside (F.told files.new) (F.calls files.new) input output steps.new) result }
     ensures faults { (output : ℕ) → HasFaults (faults (F.faults files.old) (N.faults listener.old) output) (faults (F.faults files.new) (N.faults listener.new) output) result.answer }
     ensures fixed { N.fixed listener.new ≡ N.fixed listener.old }

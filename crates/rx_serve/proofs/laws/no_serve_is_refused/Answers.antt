@@ -1,4 +1,4 @@
-use Rattle.rx_serve.proofs.ServeLaws.{no_serve_is_refused}
+use Rattle.rx_serve.proofs.Lemmas.{no_serve_is_refused}
 
 pub returns : Rattle.rx_serve.proofs.laws.no_serve_is_refused.Goals.returns
 returns c = no_serve_is_refused

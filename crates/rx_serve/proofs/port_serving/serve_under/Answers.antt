@@ -1,6 +1,6 @@
 use Rattle.port_link.proofs.CallLemmas.{just_bound}
 use Rattle.rx_engine.specs.declared.left.Left.{Left as Leaves}
-use Rattle.rx_serve.proofs.Lemmas.{options_in_range, closes_other, not_read, not_risen, not_write, run_served, bind_faults, begun_own, counts_fit, not_begun, ready, rose_within, run_ends}
+use Rattle.rx_serve.proofs.Lemmas.{options_in_range, closes_other, not_read, not_write, run_served, bind_faults, begun_own, counts_fit, not_begun, not_risen, ready, rose_within, run_ends}
 use Rattle.rx_serve.proofs.Terms.{None, ap, arith, inl, inr, refl, subst, sym, ◌<◌, ◌^◌, ◌∙◌, ◌≤◌, MAX_TAKEN, run_shown, outside, options_of, Port, ClosesFiles, CallsServed, IsBindAnswer}
 use Rattle.rx_serve.proofs.port_serving.serve_under.Goals as goal
 

@@ -16,8 +16,6 @@ serve_program-requires-clause-two g c =
 pub serve_program-requires-clause-in_range : Rattle.rx_serve.proofs.run.run_rx.Goals.serve_program-requires-clause-in_range
 serve_program-requires-clause-in_range g c = session_in_range (serve_shown c.in-Ok-Some-Serve.serve) (search (rules, c.in-Ok-Some-Serve.ensures.ranges))
 
-pub serve_program-requires-clause-port : Rattle.rx_serve.proofs.run.run_rx.Goals.serve_program-requires-clause-port
-serve_program-requires-clause-port g c = port_few (serve_shown c.in-Ok-Some-Serve.serve) (search (rules, c.in-Ok-Some-Serve.ensures.ranges))
-
-pub serve_program-requires-clause-conns : Rattle.rx_serve.proofs.run.run_rx.Goals.serve_program-requires-clause-conns
-serve_program-requires-clause-conns g c = conns_few (serve_shown c.in-Ok-Some-Serve.serve) (search (rules, c.in-Ok-Some-Serve.ensures.ranges))
+pub serve_program-requires-clause-listens : Rattle.rx_serve.proofs.run.run_rx.Goals.serve_program-requires-clause-listens
+serve_program-requires-clause-listens g c =
+    (port_few (serve_shown c.in-Ok-Some-Serve.serve) (search (rules, c.in-Ok-Some-Serve.ensures.ranges)), conns_few (serve_shown c.in-Ok-Some-Serve.serve) (search (rules, c.in-Ok-Some-Serve.ensures.ranges)))

@@ -1,4 +1,4 @@
-use Rattle.cow_pages.proofs.Lemmas.{free_there, logged_moved, moved_apart, moved_owns, moved_sound}
+use Rattle.cow_pages.proofs.Lemmas.{free_there, moved_apart, moved_owns, moved_sound, logged_moved}
 use Rattle.cow_pages.proofs.Terms.{ap, arith, length, refl, subst, sym, ◌*◌, ◌<◌, ◌∙◌, get_or_read, PAGE, is_shared}
 use Rattle.cow_pages.proofs.store.PageStore.copy_page.Goals as goal
 

@@ -1,4 +1,4 @@
-use Rattle.cow_pages.proofs.Lemmas.{lawful, logged_made, made_is, made_sound}
+use Rattle.cow_pages.proofs.Lemmas.{lawful, made_is, made_sound, logged_made}
 use Rattle.cow_pages.proofs.Terms.{refl}
 use Rattle.cow_pages.proofs.store.PageStore.make.Goals as goal
 

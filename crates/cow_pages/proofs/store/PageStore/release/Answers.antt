@@ -1,4 +1,4 @@
-use Rattle.cow_pages.proofs.Lemmas.{logged_released, releasing, releasing_counted, releasing_fits, releasing_home, releasing_lawful, releasing_sound, releasing_view}
+use Rattle.cow_pages.proofs.Lemmas.{releasing, releasing_counted, releasing_fits, releasing_home, releasing_lawful, releasing_sound, releasing_view, logged_released}
 use Rattle.cow_pages.proofs.Terms.{arith, false, refl, common_steps}
 use Rattle.cow_pages.proofs.store.PageStore.release.Goals as goal
 

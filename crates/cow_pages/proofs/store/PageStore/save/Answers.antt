@@ -1,4 +1,4 @@
-use Rattle.cow_pages.proofs.Lemmas.{logged_saved, refilled, saving, saving_few, saving_fits, saving_held, saving_lawful, saving_sound, saving_used, saving_view}
+use Rattle.cow_pages.proofs.Lemmas.{refilled, saving, saving_few, saving_fits, saving_held, saving_lawful, saving_sound, saving_used, saving_view, logged_saved}
 use Rattle.cow_pages.proofs.Terms.{arith, refl, true, with_items}
 use Rattle.cow_pages.proofs.store.PageStore.save.Goals as goal
 

@@ -1,4 +1,4 @@
-use Rattle.cow_pages.proofs.Lemmas.{logged_saved, over_moves, refilled}
+use Rattle.cow_pages.proofs.Lemmas.{refilled, logged_saved, over_moves}
 use Rattle.cow_pages.proofs.Terms.{refl, with_items}
 use Rattle.cow_pages.proofs.SavingOver.{over_fits, saving_over, saving_over_fits, saving_over_sound, saving_over_view, saving_over_held, saving_over_lawful}
 use Rattle.cow_pages.proofs.store.PageStore.save_over.Goals as goal
@@ -6,14 +6,8 @@ use Rattle.cow_pages.proofs.store.PageStore.save_over.Goals as goal
 pub renew_table-recount-requires-clause-fits : goal.renew_table-recount-requires-clause-fits
 renew_table-recount-requires-clause-fits c = over_fits _ _ _ _ _ _ _ _ _ _ _ _ _ _ _ c.self.invariant.sound c.self.view_is c.requires.some c.as_mut_slice.ensures.value c.as_mut_slice-2.ensures.value c.as_slice.ensures.value c.index_mut-saved.ensures.value
 
-pub renew_table-recount-requires-clause-moves : goal.renew_table-recount-requires-clause-moves
-renew_table-recount-requires-clause-moves c = (over_moves _ _ _ _ _ _ _ _ _ _ _ _ _ _ _ _ c.self.invariant c.self.view_is c.requires.some c.as_mut_slice-2.ensures.value c.as_slice.ensures.value c.index_mut-saved.ensures.value).inside
-
-pub renew_table-recount-requires-clause-order : goal.renew_table-recount-requires-clause-order
-renew_table-recount-requires-clause-order c = (over_moves _ _ _ _ _ _ _ _ _ _ _ _ _ _ _ _ c.self.invariant c.self.view_is c.requires.some c.as_mut_slice-2.ensures.value c.as_slice.ensures.value c.index_mut-saved.ensures.value).order
-
-pub renew_table-recount-requires-clause-moved : goal.renew_table-recount-requires-clause-moved
-renew_table-recount-requires-clause-moved c = (over_moves _ _ _ _ _ _ _ _ _ _ _ _ _ _ _ _ c.self.invariant c.self.view_is c.requires.some c.as_mut_slice-2.ensures.value c.as_slice.ensures.value c.index_mut-saved.ensures.value).moved
+pub renew_table-recount-requires-clause-logged : goal.renew_table-recount-requires-clause-logged
+renew_table-recount-requires-clause-logged c = over_moves _ _ _ _ _ _ _ _ _ _ _ _ _ _ _ _ c.self.invariant c.self.view_is c.requires.some c.as_mut_slice-2.ensures.value c.as_slice.ensures.value c.index_mut-saved.ensures.value
 
 pub overflow_sub-self : goal.overflow_sub-self
 overflow_sub-self c =
