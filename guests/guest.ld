@@ -32,7 +32,14 @@ SECTIONS
         __global_pointer$ = . + 0x7f0;
         *(.sdata .sdata.*)
     } :variables
-    .bss : { *(.sbss .sbss.*) *(.bss .bss.*) *(COMMON) } :variables
+    /* Thread-local data, as the errno of a C library. There is one thread, so they stand once, and tp is where they begin. The
+       linker gives those without a value no room of their own: bss has it. */
+    .tdata : { *(.tdata .tdata.*) *(.tbss .tbss.*) } :variables
+    PROVIDE(__tls_base = ADDR(.tdata));
+    .bss : { . += SIZEOF(.tdata); *(.sbss .sbss.*) *(.bss .bss.*) *(COMMON) } :variables
+
+    ASSERT(SIZEOF(.tdata) == 0 || DEFINED(guest_has_thread_pointer),
+           "thread-local data, as the errno of a C library: assemble start.S with -DTHREAD_POINTER")
 
     /DISCARD/ : { *(.riscv.attributes) *(.comment) *(.note .note.*) *(.eh_frame) }
 }
