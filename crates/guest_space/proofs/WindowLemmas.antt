@@ -175,6 +175,8 @@ pub windows_stay : (old new : GuestPages) (at : ℕ) (bytes : List ℕ) (windows
 windows_stay old new at bytes windows put same so = record {
   loads = load_windows_stay old new at bytes windows.loads put (λ page less. ap (λ xs. slice_index xs page) same) so.loads;
   stores = store_windows_stay old new at bytes windows.stores put so.stores;
+  recent_loads = load_windows_stay old new at bytes windows.recent_loads put (λ page less. ap (λ xs. slice_index xs page) same) so.recent_loads;
+  recent_stores = store_windows_stay old new at bytes windows.recent_stores put so.recent_stores;
 }
 
 module _ (old new : GuestPages) (at size value : ℕ) where
@@ -198,6 +200,8 @@ module _ (old new : GuestPages) (at size value : ℕ) where
       record {
         loads = load_windows_stay old new at (little_bytes size value) windows.loads put (numbers_stay old.store new.store (at - old.base) (little_bytes size value) put.pages (omega (arith, many, within)) same) so.loads;
         stores = store_windows_stay old new at (little_bytes size value) windows.stores put so.stores;
+        recent_loads = load_windows_stay old new at (little_bytes size value) windows.recent_loads put (numbers_stay old.store new.store (at - old.base) (little_bytes size value) put.pages (omega (arith, many, within)) same) so.recent_loads;
+        recent_stores = store_windows_stay old new at (little_bytes size value) windows.recent_stores put so.recent_stores;
       }
 
 -- what is known of two spaces that are seen as their parts

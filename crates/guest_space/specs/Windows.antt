@@ -34,7 +34,9 @@ HasAddress window at = (window.start ≤ at) × (at < window.start + window.coun
 abbrev pub load_window : Windows → ℕ → Window
 load_window windows register = slice_index_or windows.loads register record { start = 0; count = 0; place = 0 }
 
--- for each register as a base, the windows of loads and of stores
+-- the windows of loads and of stores, for each register as a base and those that were found of late
 pub record AreWindows (space : GuestPages) (windows : Windows) : Type 0 where
   pub loads : All (IsLoadWindow space) windows.loads
   pub stores : All (IsStoreWindow space) windows.stores
+  pub recent_loads : All (IsLoadWindow space) windows.recent_loads
+  pub recent_stores : All (IsStoreWindow space) windows.recent_stores

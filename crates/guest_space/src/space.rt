@@ -557,7 +557,7 @@ impl GuestSpace {
         self.finds_elsewhere(windows, register, at)
     }
 
-    // Moves the window of a register for loads to an address, and says whether it has it then.
+    // Moves the window of a register for loads to an address, where one was found of late, and says whether it has it then.
     #[cold]
     #[inline(never)]
     fn finds_elsewhere(&self, windows: &mut Windows, register: u8, at: u32) -> bool
@@ -566,11 +566,30 @@ impl GuestSpace {
         ensures holds { AreWindows self.now windows.new }
         ensures has { OnTrue result (HasAddress (load_window windows.new register) at) }
     {
+        let recent = windows.recent_loads[(at / PAGE % 8) as usize];
+        if !recent.has(at) {
+            return self.finds_anew(windows, register, at);
+        }
+        windows.loads[register as usize] = recent;
+        true
+    }
+
+    // The same by a look at the spans.
+    #[cold]
+    #[inline(never)]
+    fn finds_anew(&self, windows: &mut Windows, register: u8, at: u32) -> bool
+        requires register { register < 32 }
+        requires holds { AreWindows self.now windows.old }
+        ensures holds { AreWindows self.now windows.new }
+        ensures has { OnTrue result (HasAddress (load_window windows.new register) at) }
+    {
         let Some(stretch) = stretch_of(&self.spans, READ, at) else {
             return false;
         };
-        windows.loads[register as usize] = self.window_in(READ, stretch, at);
-        windows.loads[register as usize].has(at)
+        let window = self.window_in(READ, stretch, at);
+        windows.loads[register as usize] = window;
+        windows.recent_loads[(at / PAGE % 8) as usize] = window;
+        window.has(at)
     }
 
     // The number of one, two or four bytes that stand from a place on.
@@ -592,11 +611,41 @@ impl GuestSpace {
         }
     }
 
-    // Puts one, two or four bytes of a number where the window of a register doesn't have the address, which is moved there. Where the
-    // page was moved to another frame, the windows of loads are forgotten.
+    // Puts one, two or four bytes of a number where the window of a register doesn't have the address, which is moved there. Else
+    // nothing changed.
     #[cold]
     #[inline(never)]
     fn store_elsewhere(
+        &mut self,
+        windows: &mut Windows,
+        register: u8,
+        at: u32,
+        size: u32,
+        value: u32,
+    ) -> bool
+        requires register { register < 32 }
+        requires small { size ≤ 4 }
+        requires holds { AreWindows self.old windows.old }
+        ensures holds { AreWindows self.new windows.new }
+        ensures stored { MatchBool result ((permitted 2 (flat self.old) at size ≡ true) × Puts self.old at (little_bytes size value) self.new) (self.new ≡ self.old) }
+    {
+        let recent = windows.recent_stores[(at / PAGE % 8) as usize];
+        if !recent.has(at) {
+            return self.store_anew(windows, register, at, size, value);
+        }
+        windows.stores[register as usize] = recent;
+        self.put_from(
+            at,
+            size,
+            value,
+            (recent.place + (at - recent.start)) as usize,
+        )
+    }
+
+    // The same by a look at the spans. Where the page was moved to another frame, the windows of loads are forgotten.
+    #[cold]
+    #[inline(never)]
+    fn store_anew(
         &mut self,
         windows: &mut Windows,
         register: u8,
@@ -626,8 +675,11 @@ impl GuestSpace {
         }
         if self.store.place(near) != before {
             windows.loads = [Window::none(); 32];
+            windows.recent_loads = [Window::none(); 8];
         }
-        windows.stores[register as usize] = self.window_in(WRITE, stretch, at);
+        let window = self.window_in(WRITE, stretch, at);
+        windows.stores[register as usize] = window;
+        windows.recent_stores[(at / PAGE % 8) as usize] = window;
         true
     }
 

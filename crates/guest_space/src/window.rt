@@ -39,11 +39,14 @@ impl Window {
     }
 }
 
-/// For each register where loads and stores with it as their base were last: the next ones mostly are there too.
+/// For each register where loads and stores with it as their base were last: the next ones mostly are there too. Beside them those
+/// that were found of late for any register, each at the number of its page modulo 8.
 #[derive(Clone, Copy)]
 pub struct Windows {
     pub loads: [Window; 32],
     pub stores: [Window; 32],
+    pub recent_loads: [Window; 8],
+    pub recent_stores: [Window; 8],
 }
 
 impl Windows {
@@ -55,6 +58,8 @@ impl Windows {
         Windows {
             loads: [Window::none(); 32],
             stores: [Window::none(); 32],
+            recent_loads: [Window::none(); 8],
+            recent_stores: [Window::none(); 8],
         }
     }
 }

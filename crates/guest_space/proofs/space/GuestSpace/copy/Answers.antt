@@ -1,4 +1,4 @@
-use Rattle.guest_space.proofs.Terms.{arith, inl, inr, length, refl, subst, sym, ℕ, ◌<◌, ◌≡◌, bytes_at, IsLawfulSpace, flat, AreHeld}
+use Rattle.guest_space.proofs.Terms.{arith, inl, inr, length, refl, subst, sym, ◌<◌, ◌≡◌, bytes_at, IsLawfulSpace, flat, AreHeld}
 use Rattle.guest_space.proofs.SpaceLemmas.{parts_copied, parts_run, parts_put, parts_wrote, puts_none, is_held}
 use Rattle.guest_space.proofs.space.GuestSpace.copy.Goals as goal
 
