@@ -1,5 +1,5 @@
 -- What asks and their answers say of the live blocks.
-use Rattle.block_book.proofs.Terms.{Bool, List, None, Option, Some, [], ap, arith, cond, eqb, false, filter, if◌then◌else◌, inl, inr, map, nat_le, nat_lt, not, refl, slice_get, subst, sym, true, ℕ, ◌%◌, ◌&&◌, ◌+◌, ◌<◌, ◌||◌, ◌∙◌, ◌∷◌, ◌≡◌, ◌≤◌, and_parts, cases_Bool, eq-eqb, eqb-true, same_Some, find, list_all, list_any, option_map, is_some, Block, Ask, Calloc, Malloc, Realloc, Delayed, Live, extent_end, extent_start, is_apart, lies_in, reserved_size, touched, Heap, IsHeap, StandWithin, is_live_at, standing_at, standing_of, insert_live, is_clear, live_blocks, same_ask, size_at, without_live, passed}
+use Rattle.block_book.proofs.Terms.{Bool, List, None, Option, Some, [], ap, arith, cond, eqb, false, if◌then◌else◌, inl, inr, nat_lt, not, refl, slice_get, subst, sym, true, ℕ, ◌%◌, ◌&&◌, ◌+◌, ◌||◌, ◌∙◌, ◌∷◌, ◌≡◌, ◌≤◌, and_parts, cases_Bool, eq-eqb, eqb-true, same_Some, find, list_all, list_any, option_map, is_some, Block, Ask, Calloc, Malloc, Realloc, Delayed, Live, extent_end, is_apart, lies_in, touched, Heap, IsHeap, StandWithin, standing_at, standing_of, insert_live, is_clear, live_blocks, same_ask, size_at, passed}
 use Rattle.block_book.proofs.Live.{live-front, live-front_delayed}
 use Rattle.block_book.proofs.Rising.{extent-rises, stand-ordered}
 use Rattle.block_book.proofs.Sizes.{reserved-touched}

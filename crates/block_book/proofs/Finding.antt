@@ -31,7 +31,7 @@ stands-nowhere heap at sound is =
     (any-none at (λ block. eqb block.at at) (at-is-about at) heap.start heap.blocks heap.end sound.standing is))
 
 -- bytes in a block
-in-is-about : (at len : ℕ) → 1 ≤ len → IsAbout at (λ block. lies_in at len (extent_start block) (extent_end block))
+pub in-is-about : (at len : ℕ) → 1 ≤ len → IsAbout at (λ block. lies_in at len (extent_start block) (extent_end block))
 in-is-about at len some block h =
     let p = and_parts (nat_le (extent_start block) at) (nat_le (at + len) (extent_end block)) h in
     let starts = leb-true (extent_start block) at p.0 in

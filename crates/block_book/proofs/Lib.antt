@@ -5,6 +5,7 @@ pub mod Fitting
 pub mod Searches
 pub mod Sound
 pub mod Finding
+pub mod Remembering
 pub mod Rooms
 pub mod Live
 pub mod Asks

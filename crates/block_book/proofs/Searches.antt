@@ -22,10 +22,10 @@ any-above at test about from (block ∷ blocks) to h above =
     ap (λ b. b || list_any test blocks) here ∙ any-above at test about (extent_end block) blocks to h.2 (let b = h.1 in omega arith)
 
 -- how a search goes past one block, or stops at it
-passed-more : (at : ℕ) (block : Block) (blocks : List Block) → nat_le (extent_end block) at ≡ true → passed (block ∷ blocks) at ≡ suc (passed blocks at)
+pub passed-more : (at : ℕ) (block : Block) (blocks : List Block) → nat_le (extent_end block) at ≡ true → passed (block ∷ blocks) at ≡ suc (passed blocks at)
 passed-more at block blocks h = ap (λ b. cond b (1 + passed blocks at) 0) h ∙ omega arith
 
-passed-none : (at : ℕ) (block : Block) (blocks : List Block) → nat_le (extent_end block) at ≡ false → passed (block ∷ blocks) at ≡ 0
+pub passed-none : (at : ℕ) (block : Block) (blocks : List Block) → nat_le (extent_end block) at ≡ false → passed (block ∷ blocks) at ≡ 0
 passed-none at block blocks h = ap (λ b. cond b (1 + passed blocks at) 0) h
 
 -- whether a block passes is said by the block at which the search stops

@@ -83,6 +83,17 @@ impl Block {
             && u64::from(at) + u64::from(len) <= u64::from(self.at) + reserved_size(self.size)
     }
 
+    /// Whether the block is live, and so many bytes from an address on are among those that were asked for.
+    #[inline(always)]
+    pub fn owns(&self, at: u32, len: u32) -> bool
+        requires some { 1 ≤ len }
+        requires within { self.now.at + self.now.size ≤ 2 ^ 32 }
+        ensures { result ≡ (not self.now.delayed && lies_in at len self.now.at (self.now.at + self.now.size)) }
+    {
+        !self.delayed
+            && u64::from(at.wrapping_sub(self.at)) + u64::from(len) <= u64::from(self.size)
+    }
+
     /// Whether the block is delayed, or shares no byte with a block of a size at an address. A block of size 0 has one byte
     /// here.
     #[inline]

@@ -10,6 +10,7 @@ ghost use Rattle.block_book.specs.Search.{passed, FindsLive, HasRoom};
 use crate::block::{Block, reserved_size};
 use crate::standing::Standing;
 use std::alloc::{AllocError, Global};
+use std::cell::Cell;
 use std::marker::Model;
 
 // At most so many blocks stand.
@@ -21,6 +22,8 @@ pub struct Book {
     start: u32,
     end: u32,
     blocks: Vec<Block>,
+    // The place of the block that was searched for last. It may be that of another block now, or of none.
+    last: Cell<usize>,
 }
 
 impl Model for Book {
@@ -46,7 +49,12 @@ impl Book {
         ensures { IfOk result (λ book. book ≡ empty_heap start end) }
     {
         let blocks = Vec::with_capacity(alloc, MOST_BLOCKS)?;
-        Ok(Book { start, end, blocks })
+        Ok(Book {
+            start,
+            end,
+            blocks,
+            last: Cell::new(0),
+        })
     }
 
     /// What is so of every book, for whoever proves something of one. It does nothing.
@@ -181,6 +189,20 @@ impl Book {
         Some(block.size)
     }
 
+    /// Whether the block that was searched for last is live, and so many bytes from an address on are among those that were asked for
+    /// with it. It is a quick way to an answer of `holds` or `reserves`. `false` says nothing, since no clause tells which block that is.
+    #[inline(always)]
+    pub fn last_has(&self, at: u32, len: u32) -> bool
+        requires { 1 ≤ len }
+        ensures held { result ≡ true → is_held self.now at len ≡ true }
+        ensures reserved { result ≡ true → is_reserved self.now at len ≡ true }
+    {
+        match self.block_at(self.last.get()) {
+            Some(block) => block.owns(at, len),
+            None => false,
+        }
+    }
+
     /// Whether so many bytes from an address on lie in the extent of one block, live or delayed.
     pub fn holds(&self, at: u32, len: u32) -> bool
         requires { 1 ≤ len }
@@ -274,14 +296,31 @@ impl Book {
         self.blocks.get(place).copied()
     }
 
-    // The first block whose extent ends above an address: the only one that can have it in its extent.
+    // The first block whose extent ends above an address: the only one that can have it in its extent. The one that was searched
+    // for last is looked at first.
     #[inline]
     fn reached(&self, at: u32) -> Option<Block>
         ensures value { result ≡ slice_get self.now.blocks (passed self.now.blocks at) }
         ensures heap { IsHeap self.now }
         ensures within { self.now.end < 2 ^ 32 }
     {
-        self.block_at(self.passed(at))
+        match self.block_at(self.last.get()) {
+            Some(block) if block.holds(at, 1) => Some(block),
+            _ => self.searched(at),
+        }
+    }
+
+    // The same by a search. Its place is remembered.
+    #[cold]
+    #[inline(never)]
+    fn searched(&self, at: u32) -> Option<Block>
+        ensures value { result ≡ slice_get self.now.blocks (passed self.now.blocks at) }
+        ensures heap { IsHeap self.now }
+        ensures within { self.now.end < 2 ^ 32 }
+    {
+        let place = self.passed(at);
+        self.last.set(place);
+        self.block_at(place)
     }
 
     // The place of the live block at an address.

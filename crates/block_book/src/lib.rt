@@ -5,6 +5,8 @@
 //! What C knows of a block is without the padding.
 //! `place` serves an environment, which chooses. `put` serves a replay, which was told the answer.
 //! What a run calls its heap are the live blocks alone: the law `live_blocks_follow` ties each change to them.
+//! A book remembers the place of the block that was searched for last, in a cell. No clause says what a cell holds, and none needs to:
+//! the block that stands there now is looked at, and taken only where it is the one that a search would find.
 //! Only `Book::make` takes memory. No clause says that.
 #![tactic(auto)]
 
