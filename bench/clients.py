@@ -5,22 +5,30 @@
    They are greetings of guests/http, then posts to guests/board without a fault, and then posts of which each 50th meets board's
    planted fault. Each reply is compared, the board's page is compared in the end, and the report has to have as many failures as
    posts met the fault, all of them recovered. Told are requests a second on the wall, and the processor time of rx for one.
+   The last rows have --many of them over the kept connections. With --at-once there are rows with so many processes of curl at the
+   same time, and with a thread for each kept connection.
 2. The time from a request that meets the fault to its reply, beside that of the posts between. The peer is the same server under a
    supervisor that begins it anew where it is gone: it is killed at that request. What is told of it is the time to the first reply
    of the new one, to another request. The one that met the fault is never answered, and the board's messages are lost.
 3. Clients of guests/http of which each does something else: `nc -N`, where there is one, or a socket that ends its sending and reads
    on; one that leaves in the middle of a request; one that resets its connection while replies are written (SO_LINGER 0); one that
-   never reads. Behind each another client has to get the right reply, and the session has to end as one without a failure.
+   never reads; one that never sends. Behind each another client has to get the right reply, and the session has to end as one
+   without a failure.
+4. With --at-once above --kept: clients beside one that never sends, which must not hold them up; beside one that never reads, which
+   may do so for the patience; many that end their sending, side by side; and one client more than are served at once, which has to
+   wait until one of the others is given up.
 
-No wait is longer than --patience and a few seconds. Ports are free ones of 127.0.0.1.
+No wait is longer than --patience and a few seconds, and no row of 1 takes longer than --seconds. Ports are free ones of 127.0.0.1.
 
-usage: clients.py [--requests N] [--episodes N] [--kept N] [--patience SECONDS] [--at-once N] [RX]
+usage: clients.py [--requests N] [--many N] [--episodes N] [--kept N] [--patience SECONDS] [--seconds N] [--at-once N] [RX]
 RX is the built rx, crates/rx/out/rx unless it is given. With --at-once it is given that option, and kept connections stand side by side.
 The status is 0 where each reply came and is right.
 """
 
 import argparse
+import concurrent.futures
 import os
+import re
 import shutil
 import socket
 import statistics
@@ -40,6 +48,8 @@ EVERY = 50  # which posts meet the fault
 SHOWN = 20  # messages on the board's page
 BETWEEN = 25  # posts from one to the next there
 LONGEST = 20  # seconds for a reply
+PROCESSES = 32  # of curl at once, at most
+EACH = 50  # requests of a client beside another one
 
 
 class Wrong(Exception):
@@ -187,7 +197,7 @@ class Greetings:
     def reply(self, number):
         return 200, b"Hello, n%d!\n" % number
 
-    def check_page(self, port):
+    def check_page(self, port, in_order):
         """Nothing is kept."""
 
 
@@ -224,29 +234,58 @@ class Posts:
         text = b"&lt;3 &lt;3 &lt;3 &lt;3 &lt;3" if self.fails(number) else self.text(number)
         return b"<li><b>n%05d</b>: %s</li>\n" % (number, text)
 
-    def check_page(self, port):
-        """The page has the last messages, the newest first."""
+    def check_page(self, port, in_order):
+        """The page has the last messages, the newest first; or so many different ones, where they came side by side."""
         with Client(port) as client:
             _, page = client.ask(get("/"))
-        expected = b"".join(self.shown(number) for number in range(self.requests - 1, max(-1, self.requests - 1 - SHOWN), -1))
-        if expected not in page or page.count(b"<li>") != min(SHOWN, self.requests):
+        lines = [line + b"\n" for line in page.split(b"\n") if line.startswith(b"<li>")]
+        numbers = [int(number) for number in re.findall(rb"<li><b>n(\d{5})</b>", page)]
+        last = list(range(self.requests - 1, max(-1, self.requests - 1 - SHOWN), -1))
+        is_right = numbers == last if in_order else len(set(numbers)) == len(last) and max(numbers) < self.requests
+        if not is_right or lines != [self.shown(number) for number in numbers]:
             raise Wrong("the board shows other messages: %r" % page)
 
 
 # ---- 1. replies, and how many a second
 
 
+class Limit:
+    """When all of a row has to be done."""
+
+    ends = float("inf")
+
+
 def compare(came, expected, number):
+    if time.monotonic() > Limit.ends:
+        raise Wrong("request %d comes too late: a row has --seconds" % number)
     if came != expected:
         raise Wrong("reply %d is %r in place of %r" % (number, came, expected))
 
 
+def at_once(count, act, numbers):
+    """Does an act for each number, so many at the same time: what they came to."""
+    with concurrent.futures.ThreadPoolExecutor(count) as pool:
+        return list(pool.map(act, numbers))
+
+
+def ask_by_curl(port, requests, number):
+    path, words, expected = requests.curl(number)
+    done = subprocess.run(["curl", "-s", "-m", str(LONGEST), "-w", "%{http_code}", *words, "http://%s:%d%s" % (HOST, port, path)],
+                          capture_output=True, check=False)
+    compare((done.returncode, done.stdout), (0, expected), number)
+
+
 def by_curl(port, asked, requests):
     for number in range(asked.requests):
-        path, words, expected = requests.curl(number)
-        done = subprocess.run(["curl", "-s", "-m", str(LONGEST), "-w", "%{http_code}", *words, "http://%s:%d%s" % (HOST, port, path)],
-                              capture_output=True, check=False)
-        compare((done.returncode, done.stdout), (0, expected), number)
+        ask_by_curl(port, requests, number)
+
+
+def by_curls(port, asked, requests):
+    at_once(processes(asked), lambda number: ask_by_curl(port, requests, number), range(asked.requests))
+
+
+def processes(asked):
+    return min(asked.at_once, PROCESSES)
 
 
 def by_sockets(port, asked, requests):
@@ -255,44 +294,66 @@ def by_sockets(port, asked, requests):
             compare(client.ask(requests.request(number)), requests.reply(number), number)
 
 
+def over_one(port, requests, numbers):
+    with Client(port) as client:
+        for number in numbers:
+            compare(client.ask(requests.request(number)), requests.reply(number), number)
+
+
 def by_kept(port, asked, requests):
     """A few connections: one after another, or side by side and by turns where the server has several at once."""
     part = asked.requests // asked.kept
-    bounds = [(part * k, asked.requests if k == asked.kept - 1 else part * (k + 1)) for k in range(asked.kept)]
     if asked.at_once >= asked.kept:
-        clients = [Client(port) for _ in bounds]
+        clients = [Client(port) for _ in range(asked.kept)]
         for number in range(asked.requests):
             compare(clients[number % asked.kept].ask(requests.request(number)), requests.reply(number), number)
         for client in clients:
             client.socket.close()
         return
-    for first, last in bounds:
-        with Client(port) as client:
-            for number in range(first, last):
-                compare(client.ask(requests.request(number)), requests.reply(number), number)
+    for k in range(asked.kept):
+        over_one(port, requests, range(part * k, asked.requests if k == asked.kept - 1 else part * (k + 1)))
+
+
+def by_threads(port, asked, requests):
+    """The same connections, each with a thread that asks as fast as it is answered."""
+    at_once(asked.kept, lambda k: over_one(port, requests, range(k, asked.requests, asked.kept)), range(asked.kept))
+
+
+SIDE_BY_SIDE = (by_curls, by_threads)
 
 
 def measure(asked, name, way, connections, requests, folder):
     """One line: all replies are right, and how fast they came."""
     with Service(asked, requests.guest, connections + requests.pages, folder) as service:
         wall, began = time.monotonic(), service.seconds()
+        Limit.ends = wall + asked.seconds
         way(service.port, asked, requests)
         wall, taken = time.monotonic() - wall, service.seconds() - began
-        requests.check_page(service.port)
+        Limit.ends = float("inf")
+        requests.check_page(service.port, way not in SIDE_BY_SIDE)
         service.end(requests.failures)
     print("| %s | %s | %d | %d | %.0f | %.0f | %d |" % (
         name, requests.name, asked.requests, connections, asked.requests / wall, 1e6 * taken / asked.requests, requests.failures))
 
 
+def kinds(requests):
+    return [Greetings(), Posts(requests, False), Posts(requests, True)]
+
+
 def replies(asked, folder):
     print("| By | Requests | Replies, all right | Connections | Requests a second | Processor us of rx, each | Failures, all recovered |")
     print("|---|---|---|---|---|---|---|")
-    kinds = [Greetings(), Posts(asked.requests, False), Posts(asked.requests, True)]
-    ways = [("curl", by_curl, asked.requests)] * (shutil.which("curl") is not None)
-    ways += [("a socket each", by_sockets, asked.requests), ("%d that are kept" % asked.kept, by_kept, asked.kept)]
+    kept, has_curl, has_threads = "%d that are kept" % asked.kept, shutil.which("curl") is not None, asked.at_once >= asked.kept > 1
+    ways = [("curl", by_curl, asked.requests)] * has_curl
+    ways += [("%d curl at once" % processes(asked), by_curls, asked.requests)] * (has_curl and asked.at_once > 1)
+    ways += [("a socket each", by_sockets, asked.requests), (kept, by_kept, asked.kept)]
+    ways += [(kept + ", a thread each", by_threads, asked.kept)] * has_threads
     for name, way, connections in ways:
-        for requests in kinds:
+        for requests in kinds(asked.requests):
             measure(asked, name, way, connections, requests, folder)
+    many = argparse.Namespace(**{**vars(asked), "requests": asked.many})
+    for requests in kinds(asked.many) * (asked.many > 0):
+        measure(many, kept, by_kept, asked.kept, requests, folder)
 
 
 # ---- 2. from a failure to a reply
@@ -315,7 +376,7 @@ def recovered(asked, folder):
                 reply, seconds = timed(client, requests.request(number))
                 compare(reply, requests.reply(number), number)
                 (failing if requests.fails(number) else others).append(seconds)
-        requests.check_page(service.port)
+        requests.check_page(service.port, True)
         service.end(asked.episodes)
     return failing, others
 
@@ -457,8 +518,13 @@ def never_read(port):
     return "it read nothing of the replies to %d KiB of requests, and stays" % (sent >> 10)
 
 
+def never_sent(port):
+    KEPT_OPEN.append(Client(port))
+    return "it sent nothing, and stays"
+
+
 def misbehave(asked, folder):
-    acts = [ended_sending, left_early, broke_off, never_read]
+    acts = [ended_sending, left_early, broke_off, never_read, never_sent]
     print("\n| Client | What it did | The next one's reply came behind |")
     print("|---|---|---|")
     with Service(asked, "http", 2 * len(acts) + 1, folder) as service:
@@ -476,19 +542,106 @@ def misbehave(asked, folder):
     print("The session ended with status 0, and without a failure.")
 
 
+# ---- 4. clients side by side
+
+
+def slowest(port, asked):
+    """A few clients at once, each with its requests: the longest time to a reply."""
+    def ask(k):
+        longest = 0.0
+        with Client(port) as client:
+            for number in range(k, k + EACH):
+                reply, seconds = timed(client, Greetings().request(number))
+                compare(reply, Greetings().reply(number), number)
+                longest = max(longest, seconds)
+        return longest
+
+    return max(at_once(asked.kept, ask, range(asked.kept)))
+
+
+def closes(client, asked):
+    """Waits until the server has closed a connection."""
+    client.socket.settimeout(asked.patience + LONGEST)
+    try:
+        while client.socket.recv(1 << 20):
+            pass
+    except ConnectionError:
+        pass
+
+
+def beside_silent(asked, folder):
+    with Service(asked, "http", asked.kept + 1, folder) as service, Client(service.port) as silent:
+        began, longest = time.monotonic(), slowest(service.port, asked)
+        if longest >= asked.patience > 0:
+            raise Wrong("a client that never sends held up the others for %.1f seconds" % longest)
+        if asked.patience:
+            closes(silent, asked)
+        silent.socket.close()
+        service.end(0)
+    return "%d beside one that never sends" % asked.kept, "it was given up behind %.1f s" % (time.monotonic() - began), longest
+
+
+def beside_unread(asked, folder):
+    with Service(asked, "http", asked.kept + 1, folder) as service:
+        unread, sent = sends_much(service.port)
+        longest = slowest(service.port, asked)
+        unread.socket.close()
+        service.end(0)
+    if longest > asked.patience + LONGEST / 2:
+        raise Wrong("a client that never reads held up the others for %.1f seconds" % longest)
+    return "%d beside one that never reads" % asked.kept, "it had sent %d KiB of requests" % (sent >> 10), longest
+
+
+def all_half_closed(asked, folder):
+    count = processes(asked)
+    with Service(asked, "http", count, folder) as service:
+        began = time.monotonic()
+        at_once(count, lambda _: ended_sending(service.port), range(count))
+        longest = time.monotonic() - began
+        service.end(0)
+    return "%d that end their sending" % count, "each got its reply, and then the close", longest
+
+
+def one_too_many(asked, folder):
+    with Service(asked, "http", asked.at_once + 1, folder) as service:
+        held = [Client(service.port) for _ in range(asked.at_once)]
+        with Client(service.port) as client:
+            reply, seconds = timed(client, get("/count"))
+        compare(reply, (200, b"request 1\n"), 0)
+        for silent in held:
+            silent.socket.close()
+        service.end(0)
+    if seconds < asked.patience / 2:
+        raise Wrong("one client more than %d was served behind %.1f seconds" % (asked.at_once, seconds))
+    return "1 behind %d that never send" % asked.at_once, "it waited until one of them was given up", seconds
+
+
+def side_by_side(asked, folder):
+    if asked.at_once <= asked.kept:
+        return
+    acts = [beside_silent, beside_unread, all_half_closed] + [one_too_many] * (asked.patience > 0)
+    print("\n| Clients at the same time | What they did | The longest time to a reply |")
+    print("|---|---|---|")
+    for act in acts:
+        who, did, longest = act(asked, folder)
+        print("| %s | %s | %.1f ms |" % (who, did, 1e3 * longest))
+
+
 def main(words):
     parser = argparse.ArgumentParser(description=__doc__, formatter_class=argparse.RawDescriptionHelpFormatter)
     parser.add_argument("--requests", type=int, default=500)
+    parser.add_argument("--many", type=int, default=50_000)
     parser.add_argument("--episodes", type=int, default=20)
     parser.add_argument("--kept", type=int, default=4)
     parser.add_argument("--patience", type=int, default=2)
+    parser.add_argument("--seconds", type=int, default=300)
     parser.add_argument("--at-once", type=int, default=1)
     parser.add_argument("rx", nargs="?", default=os.path.join(HERE, "..", "crates", "rx", "out", "rx"))
     asked = parser.parse_args(words)
     asked.rx = os.path.abspath(asked.rx)
     with tempfile.TemporaryDirectory() as folder:
         try:
-            for part in (replies, failures, misbehave):
+            for part in (replies, failures, misbehave, side_by_side):
                 part(asked, folder)
         except (Wrong, OSError) as wrong:
             print("wrong: %s" % wrong)

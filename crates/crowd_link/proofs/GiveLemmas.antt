@@ -1,6 +1,6 @@
 -- Gives of one piece, call by call, and what a link over the crowd tells of them.
 use Rattle.std.proofs.Math.Seq.{take-append_seam}
-use Rattle.crowd_link.proofs.Terms.{Bool, Err, List, None, Ok, OnOk, Option, Result, Some, [], ap, append-nil, append_assoc, arith, drop, false, inl, inr, length, nat_lt, refl, subst, sym, take, true, ℕ, ◌++◌, ◌-◌, ◌<◌, ◌∙◌, ◌∷◌, ◌≡◌, ◌≢◌, ◌≤◌, le-ltb, lt-ltb, length-append, length-drop, length-set, length-take-le, set-get_or, take-append-drop, take_all, none-some, same_Some, IfErr, slice_set, Prefix, Entry, Given, All, Gone, LinkFault, Memory, ReadFault, Refused, WriteFault, tells_more, Gives, Tells, cut_entries, CrowdEntry, Logs, Closing, Limits, Place, Stage, Broken, Closed, Dropped, Ended, Open, Unopened, broken, is_done, is_given, is_present, phase_of, shown, stage_behind, stage_in, AreCalls, IsCall, Served, after_call, gives_all, gives_gone, gives_part, served_after, served_of, with_part, with_stage, Agrees, IsAt, IsClosing, IsWhole, Stands, link_journal, stage_at, told_at, with_ends, WentOn, GivesPiece, GivesTo, Leads, given_place, are_calls-append, calls_same, served_after-append, served_of-append}
+use Rattle.crowd_link.proofs.Terms.{Bool, Err, List, None, Ok, OnOk, Option, Result, Some, [], ap, append-nil, append_assoc, arith, drop, false, inl, inr, length, nat_lt, refl, subst, sym, take, true, ℕ, ◌++◌, ◌-◌, ◌<◌, ◌∙◌, ◌∷◌, ◌≡◌, ◌≢◌, ◌≤◌, le-ltb, lt-ltb, length-append, length-drop, length-set, length-take-le, set-get_or, take-append-drop, take_all, none-some, same_Some, IfErr, slice_set, Prefix, Entry, Given, All, Gone, LinkFault, Memory, ReadFault, Refused, WriteFault, tells_more, Gives, Tells, cut_entries, CrowdEntry, Logs, Closing, Limits, Place, Stage, Broken, Closed, Dropped, Ended, Open, Unopened, broken, is_done, is_given, is_present, phase_of, shown, stage_behind, stage_in, AreCalls, GoesOn, IsCall, Served, after_call, gives_all, gives_gone, gives_part, served_after, served_of, with_part, with_stage, Agrees, IsAt, IsClosing, IsWhole, Stands, link_journal, stage_at, told_at, with_ends, WentOn, GivesPiece, GivesTo, Leads, given_place, are_calls-append, calls_same, served_after-append, served_of-append}
 use Rattle.crowd_link.proofs.CallLemmas.{logs_same, tells_none}
 use Rattle.crowd_link.proofs.JournalLemmas.{same_journal}
 use Rattle.crowd_link.proofs.PlaceLemmas.{Closes, closes_from, closes_to, number_cases, shown_set, keeps_set}
@@ -23,7 +23,7 @@ leads_none conn None = tt
 leads_none conn (Some calls) = record {
   calls = [];
   grew = sym (append-nil calls);
-  are = λ limits served there. tt;
+  are = λ limits served there none. tt;
   lead = λ served. refl;
 }
 
@@ -31,8 +31,16 @@ part_stages : (conn : ℕ) (front : List ℕ) (served : Served) → (gives_part 
 part_stages conn [] served = refl
 part_stages conn (byte ∷ front) served = refl
 
+pub goes_same : (part : List ℕ) (conn : ℕ) → GoesOn part conn conn
+goes_same [] conn = tt
+goes_same (byte ∷ part) conn = refl
+
+goes_behind : (conn : ℕ) (front : List ℕ) (served : Served) → served.part ≡ [] → GoesOn (gives_part conn front served).part (gives_part conn front served).to conn
+goes_behind conn [] served none = subst (λ (part : List ℕ). GoesOn part served.to conn) (sym none) tt
+goes_behind conn (byte ∷ front) served none = goes_same (served.part ++ byte ∷ front) conn
+
 leads_more : (conn : ℕ) (old mid new : Option (List CrowdEntry)) (front : List ℕ) (call : CrowdEntry) (leads : Served → Served) → Leads conn old mid (gives_part conn front) → Logs mid new (call ∷ [])
-    → ((limits : Limits) (served : Served) → is_present (served.stages conn) ≡ true → IsCall limits served call) → ((served : Served) → after_call (gives_part conn front served) call ≡ leads served) → Leads conn old new leads
+    → ((limits : Limits) (served : Served) → is_present (served.stages conn) ≡ true → GoesOn served.part served.to conn → IsCall limits served call) → ((served : Served) → after_call (gives_part conn front served) call ≡ leads served) → Leads conn old new leads
 unfolding served_after AreCalls
 leads_more conn None None None front call leads gave logs is lead = tt
 leads_more conn None None (Some new) front call leads gave logs is lead = absurd logs
@@ -42,10 +50,12 @@ leads_more conn (Some old) (Some mid) None front call leads gave logs is lead = 
 leads_more conn (Some old) (Some mid) (Some new) front call leads gave logs is lead = record {
   calls = gave.calls ++ call ∷ [];
   grew = logs ∙ ap (λ l. l ++ call ∷ []) gave.grew ∙ append_assoc old gave.calls (call ∷ []);
-  are = λ limits served there.
+  are = λ limits served there none.
       let behind : is_present ((served_after served gave.calls).stages conn) ≡ true =
       ap (λ (s : Served). is_present (s.stages conn)) (gave.lead served) ∙ ap (λ (f : ℕ → Stage). is_present (f conn)) (part_stages conn front served) ∙ there in
-      are_calls-append limits served gave.calls (call ∷ []) (gave.are limits served there) (is limits (served_after served gave.calls) behind, tt);
+      let goes : GoesOn (served_after served gave.calls).part (served_after served gave.calls).to conn =
+      subst (λ (s : Served). GoesOn s.part s.to conn) (sym (gave.lead served)) (goes_behind conn front served none) in
+      are_calls-append limits served gave.calls (call ∷ []) (gave.are limits served there none) (is limits (served_after served gave.calls) behind goes, tt);
   lead = λ served. served_after-append served gave.calls (call ∷ []) ∙ ap (λ (s : Served). after_call s call) (gave.lead served) ∙ lead served;
 }
 
@@ -93,7 +103,7 @@ giving_on conn old mid new bytes rest n giving logs some less = record {
   whole = append_assoc giving.front (take n rest) (drop n rest) ∙ ap (λ l. giving.front ++ l) (take-append-drop n rest) ∙ giving.whole;
   some = let size = length-drop n rest in omega arith;
   gave = leads_more conn old mid new giving.front (made.Gave conn (take n rest) (length rest)) (gives_part conn (giving.front ++ take n rest)) giving.gave logs
-      (λ limits served there. (there, take_some n rest some (omega arith)))
+      (λ limits served there goes. (there, take_some n rest some (omega arith), goes))
       (λ served. gave_part conn giving.front (take n rest) (length rest) served (take_some n rest some (omega arith)) (let size = length-take-le n rest (omega arith) in lt-ltb (length (take n rest)) (length rest) (omega arith)));
 }
 
@@ -104,7 +114,7 @@ gave_rest conn old mid new bytes rest n giving logs all =
     let same : take n rest ≡ rest = take_all n rest (omega arith) in
     subst (λ (l : List ℕ). Leads conn old new (gives_all conn l)) giving.whole
     (leads_more conn old mid new giving.front (made.Gave conn rest (length rest)) (gives_all conn (giving.front ++ rest)) giving.gave (subst (λ (l : List ℕ). Logs mid new (made.Gave conn l (length rest) ∷ [])) same logs)
-    (λ limits served there. (there, giving.some)) (λ served. gave_all conn giving.front rest (length rest) served (le-ltb (length rest) (length rest) (omega arith))))
+    (λ limits served there goes. (there, giving.some, goes)) (λ served. gave_all conn giving.front rest (length rest) served (le-ltb (length rest) (length rest) (omega arith))))
 
 -- one failed: what went out before it did
 pub gave_cut : (conn : ℕ) (old mid new : Option (List CrowdEntry)) (bytes rest : List ℕ) → Giving conn old mid bytes rest → Logs mid new (made.Failed (call.Give conn) ∷ []) → Leads conn old new (gives_gone conn (take (length bytes - length rest) bytes))
@@ -113,7 +123,7 @@ gave_cut conn old mid new bytes rest giving logs =
     let front : take (length bytes - length rest) bytes ≡ giving.front =
     ap (λ k. take k bytes) (sym sizes) ∙ ap (take (length giving.front)) (sym giving.whole) ∙ take-append_seam giving.front rest in
     subst (λ (l : List ℕ). Leads conn old new (gives_gone conn l)) (sym front)
-    (leads_more conn old mid new giving.front (made.Failed (call.Give conn)) (gives_gone conn giving.front) giving.gave logs (λ limits served there. there) (gave_gone conn giving.front))
+    (leads_more conn old mid new giving.front (made.Failed (call.Give conn)) (gives_gone conn giving.front) giving.gave logs (λ limits served there goes. (there, goes)) (gave_gone conn giving.front))
 
 -- for one memory ran out
 pub gave_some : (conn : ℕ) (old mid new : Option (List CrowdEntry)) (bytes rest : List ℕ) → Giving conn old mid bytes rest → Logs mid new [] → (front : List ℕ) × Prefix front bytes × Leads conn old new (gives_part conn front)
@@ -241,14 +251,14 @@ shown_present Broken there = refl
 shown_present Dropped there = cc
 shown_present Closed there = cc
 
-leads_went : (limits : Limits) (conn : ℕ) (old new : Option (List CrowdEntry)) (leads : Served → Served) (place : Place) → Leads conn old new leads → Agrees old place → is_present (stage_at place conn) ≡ true → WentOn limits old new
-leads_went limits conn None None leads place gave agrees there = tt
-leads_went limits conn None (Some new) leads place gave agrees there = absurd gave
-leads_went limits conn (Some old) None leads place gave agrees there = absurd gave
-leads_went limits conn (Some old) (Some new) leads place gave agrees there = record {
+leads_went : (limits : Limits) (conn : ℕ) (old new : Option (List CrowdEntry)) (leads : Served → Served) (place : Place) → Leads conn old new leads → Agrees old place → IsWhole old → is_present (stage_at place conn) ≡ true → WentOn limits old new
+leads_went limits conn None None leads place gave agrees whole there = tt
+leads_went limits conn None (Some new) leads place gave agrees whole there = absurd gave
+leads_went limits conn (Some old) None leads place gave agrees whole there = absurd gave
+leads_went limits conn (Some old) (Some new) leads place gave agrees whole there = record {
   calls = gave.calls;
   grew = gave.grew;
-  are = gave.are limits (served_of old) (ap is_present ((agrees old refl).stages conn) ∙ shown_present (stage_at place conn) there);
+  are = gave.are limits (served_of old) (ap is_present ((agrees old refl).stages conn) ∙ shown_present (stage_at place conn) there) (whole old refl);
 }
 
 part_at : (place : Place) (conn : ℕ) (front : List ℕ) (served : Served) → IsAt place served → IsAt place (gives_part conn front served)
@@ -307,13 +317,13 @@ module _ (limits : Limits) (conn : ℕ) (old new : Option (List CrowdEntry)) (pl
   whole_given (Ok (Gone count)) gave = leads_whole conn old new (gives_gone conn (take count bytes)) gave.1 (λ served. refl)
   whole_given (Err fault) gave = tt
 
-  went_given : (result : Result Given LinkFault) → GivesTo conn old new bytes result → Agrees old place → is_present (stage_at place conn) ≡ true → WentOn limits old new
-  went_given (Ok All) gave agrees there = leads_went limits conn old new (gives_all conn bytes) place gave agrees there
-  went_given (Ok (Gone count)) gave agrees there = leads_went limits conn old new (gives_gone conn (take count bytes)) place gave.1 agrees there
-  went_given (Err Memory) gave agrees there = leads_went limits conn old new (gives_part conn gave.0) place gave.2 agrees there
-  went_given (Err ReadFault) gave agrees there = absurd gave
-  went_given (Err WriteFault) gave agrees there = absurd gave
-  went_given (Err (Refused kind offset)) gave agrees there = absurd gave
+  went_given : (result : Result Given LinkFault) → GivesTo conn old new bytes result → Agrees old place → IsWhole old → is_present (stage_at place conn) ≡ true → WentOn limits old new
+  went_given (Ok All) gave agrees whole there = leads_went limits conn old new (gives_all conn bytes) place gave agrees whole there
+  went_given (Ok (Gone count)) gave agrees whole there = leads_went limits conn old new (gives_gone conn (take count bytes)) place gave.1 agrees whole there
+  went_given (Err Memory) gave agrees whole there = leads_went limits conn old new (gives_part conn gave.0) place gave.2 agrees whole there
+  went_given (Err ReadFault) gave agrees whole there = absurd gave
+  went_given (Err WriteFault) gave agrees whole there = absurd gave
+  went_given (Err (Refused kind offset)) gave agrees whole there = absurd gave
 
   -- no fault but want of memory comes
   memory_alone : (result : Result Given LinkFault) → GivesTo conn old new bytes result → IfErr result (λ fault. fault ≡ Memory)
@@ -324,9 +334,9 @@ module _ (limits : Limits) (conn : ℕ) (old new : Option (List CrowdEntry)) (pl
   memory_alone (Err (Refused kind offset)) gave = absurd gave
 
   -- a piece was given, and the link stands behind it
-  pub give_does : (connections now : List Bool) (result : Result Given LinkFault) → GivesTo conn old new bytes result → Stands old connections limits place → is_present (stage_at place conn) ≡ true → conn < length place.stages → now ≡ connections
+  pub give_does : (connections now : List Bool) (result : Result Given LinkFault) → GivesTo conn old new bytes result → Stands old connections limits place → IsWhole old → is_present (stage_at place conn) ≡ true → conn < length place.stages → now ≡ connections
       → GivesPiece limits conn old new now place (given_place conn result place) bytes result
-  give_does connections now result gave stands there inside is =
+  give_does connections now result gave stands whole there inside is =
       let less = present_less limits old new connections place stands conn there in
       subst (λ (c : List Bool). GivesPiece limits conn old new c place (given_place conn result place) bytes result) (sym is)
       (record {
@@ -343,9 +353,9 @@ module _ (limits : Limits) (conn : ℕ) (old new : Option (List CrowdEntry)) (pl
           at_once = stands.at_once;
           ended = stands.ended;
         };
-        given = λ whole. tells_given result gave (not_ended limits old new connections place stands conn there) whole;
-        whole = λ whole. whole_given result gave;
-        went = went_given result gave stands.agrees there;
+        given = tells_given result gave (not_ended limits old new connections place stands conn there) whole;
+        whole = whole_given result gave;
+        went = went_given result gave stands.agrees whole there;
         fault = memory_alone result gave;
       })
 
@@ -358,8 +368,8 @@ pub give_dropped : (limits : Limits) (conn : ℕ) (told : Option (List CrowdEntr
 give_dropped limits conn told connections place bytes stands = record {
   place_is = sym (given_same place conn);
   stands = stands;
-  given = λ whole. ([], (bytes, refl), tells_none told told place place [] (logs_same told) (λ calls is. same_journal place (served_of calls)));
-  whole = λ whole. tt;
+  given = ([], (bytes, refl), tells_none told told place place [] (logs_same told) (λ calls is. same_journal place (served_of calls)));
+  whole = tt;
   went = calls_same limits told;
   fault = refl;
 }

@@ -1,8 +1,7 @@
 -- What each call adds to the journal of a link, and what stages say of one another.
-use Rattle.links.specs.Links as links
 use Rattle.links.specs.declared.journal.Entry.TheVariants as entry
 use Rattle.links.specs.declared.journal.LinkEvent.TheVariants as event
-use Rattle.crowd_link.proofs.Terms.{Bool, List, [], add-one, ap, append-nil, arith, false, refl, suc, sym, true, zero, ℕ, ◌++◌, ◌+◌, ◌<◌, ◌∙◌, ◌∷◌, ◌≡◌, Entry, Place, Stage, Broken, Closed, Dropped, Ended, Open, Unopened, is_broken, is_done, is_present, phase_of, shown, Served, closed_entries, closes, entries_of, is_closable, opens, takes_bytes, link_journal, stage_at, with_ends, closed_place, dropped_place, ended_place, opened_place, settled_place}
+use Rattle.crowd_link.proofs.Terms.{List, [], add-one, ap, append-nil, arith, false, refl, suc, sym, true, zero, ℕ, ◌++◌, ◌+◌, ◌<◌, ◌∙◌, ◌∷◌, ◌≡◌, Entry, Place, Stage, Broken, Closed, Dropped, Ended, Open, Unopened, is_broken, is_done, is_present, shown, Served, closed_entries, closes, entries_of, is_closable, opens, takes_bytes, link_journal, with_ends, closed_place, dropped_place, ended_place, opened_place, settled_place}
 
 -- a link that isn't at its end hasn't answered it
 pub no_ends : (ends : ℕ) {A : Type 0} → (0 < ends → A) → (A → ⊥) → ends ≡ 0

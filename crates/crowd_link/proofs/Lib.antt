@@ -5,3 +5,4 @@ pub mod JournalLemmas
 pub mod StepLemmas
 pub mod GiveLemmas
 pub mod ShowLemmas
+pub mod EndLemmas

@@ -1,6 +1,6 @@
 -- One connection of several has another stage, or is closed.
 use Rattle.std.specs.List.{prefix_len}
-use Rattle.crowd_link.proofs.Terms.{Bool, List, None, Option, Some, [], ap, arith, cond, false, if◌then◌else◌, inl, inr, length, nat_lt, not, refl, subst, suc, sym, true, zero, ℕ, ◌++◌, ◌+◌, ◌<◌, ◌==◌, ◌∙◌, ◌∷◌, ◌≡◌, ◌≢◌, ◌≤◌, ◌⊎◌, cases_lt, eq-eqb, eqb-false, eqb-true, lt-ltb, ltb-true, ne_eqb, get_or-set_other, get_or-set_same, get_or_append_left, get_or_past, get_or_push, length-append, same_Some, slice_index_or, slice_set, open_within, is_open, without, Closing, Stage, Broken, Closed, Dropped, Ended, Open, Unopened, first_broken, is_broken, is_done, is_present, shown, stage_in, with_stage, IsClosing, NoOther}
+use Rattle.crowd_link.proofs.Terms.{Bool, List, None, Some, [], ap, arith, cond, false, if◌then◌else◌, inl, inr, length, nat_lt, not, refl, subst, suc, sym, true, zero, ℕ, ◌++◌, ◌+◌, ◌<◌, ◌==◌, ◌∙◌, ◌∷◌, ◌≡◌, ◌≢◌, ◌≤◌, ◌⊎◌, cases_lt, eq-eqb, eqb-false, eqb-true, lt-ltb, ltb-true, ne_eqb, get_or-set_other, get_or-set_same, get_or_append_left, get_or_past, get_or_push, length-append, same_Some, slice_index_or, slice_set, open_within, is_open, without, Closing, Stage, Broken, Closed, Dropped, Ended, Open, Unopened, first_broken, is_broken, is_done, is_present, shown, stage_in, with_stage, IsClosing, NoOther}
 use Rattle.crowd_link.specs.declared.place.Closing.TheVariants as closing
 
 pub number_cases : (i j : ℕ) → (i ≡ j) ⊎ (i ≢ j)

@@ -1,5 +1,5 @@
 -- What a link over a crowd shows, at first and behind a give.
-use Rattle.crowd_link.proofs.Terms.{Bool, Err, List, None, Ok, Option, Result, Some, [], ap, arith, inl, inr, length, refl, subst, sym, true, ℕ, ◌-◌, ◌<◌, ◌∙◌, ◌≡◌, ◌≤◌, fun_ext, cases_lt, get_or-replicate, get_or_past, length-replicate, IfErr, IsErrOf, replicate, slice_set, ◌^◌, Rose, one_more, Given, All, Gone, LinkFault, Memory, WriteFault, told_by, ComesUntold, Counts, Handed, HasGiveCause, IsGone, Phases, TellsHanded, Told, Seen, CrowdEntry, Limits, Place, Stage, Unopened, gones_behind, is_done, is_given, is_present, phase_of, shown, stage_behind, stage_in, Served, fresh_served, served_of, IsAt, IsJustBound, IsWhole, Stands, gives_at, link_journal, phases_at, stage_at, told_at, given_place, told_nothing}
+use Rattle.crowd_link.proofs.Terms.{Bool, Err, List, None, Ok, Option, Result, Some, [], ap, arith, inl, inr, length, refl, subst, sym, true, ℕ, ◌-◌, ◌<◌, ◌∙◌, ◌≡◌, ◌≤◌, fun_ext, cases_lt, get_or-replicate, get_or_past, length-replicate, IfErr, IsErrOf, replicate, ◌^◌, Rose, one_more, Given, All, Gone, LinkFault, Memory, WriteFault, told_by, ComesUntold, Counts, Handed, HasGiveCause, IsGone, Phases, TellsHanded, Told, Seen, CrowdEntry, Limits, Place, Stage, Unopened, gones_behind, is_done, is_given, is_present, phase_of, shown, stage_behind, stage_in, Served, IsAt, IsJustBound, IsWhole, Stands, gives_at, link_journal, phases_at, stage_at, told_at, given_place, told_nothing}
 use Rattle.crowd_link.proofs.GiveLemmas.{given_gives, given_phase}
 use Rattle.crowd_link.proofs.PlaceLemmas.{closes_to, keeps_set}
 use Rattle.crowd_link.specs.declared.place.Closing.TheVariants as closing

@@ -6,11 +6,12 @@ use Rattle.links.specs.Links as links
 use Rattle.links.specs.declared.journal.Entry.TheVariants as entry
 use Rattle.links.specs.declared.journal.LinkEvent.TheVariants as event
 use Rattle.rx_io.specs.declared.fault.IoFault.TheVariants as io
-use Rattle.crowd_link.proofs.Terms.{Bool, Err, List, None, Ok, Option, Result, Some, [], ap, arith, false, inl, inr, length, nat_lt, refl, subst, sym, true, ℕ, ◌&&◌, ◌++◌, ◌+◌, ◌<◌, ◌∙◌, ◌∷◌, ◌≡◌, ◌≢◌, ◌≤◌, ◌⊎◌, fun_ext, and_parts, cases_lt, ltb-true, length-append, length-set, IsErrOf, slice_set, IoFault, HasCause, LinkEvent, LinkFault, Memory, ReadFault, Refused, WriteFault, ComesUntold, Enters, GoesBy, Phases, CrowdEntry, Ready, open_fewer, open_more, open_within, IsConnectedAfter, IsReady, is_open, open_count, without, CrowdAccepts, CrowdWaits, Logs, Closing, Limits, Place, Stage, Broken, Closed, Dropped, Ended, Open, Unopened, is_broken, is_done, is_given, is_present, phase_of, shown, stage_in, IsCall, Served, after_call, can_accept, is_closable, served_of, takes_bytes, IsAt, IsClosing, IsWhole, Stands, gives_at, link_journal, phases_at, stage_at, told_at, HasOpenCause, IsTake, NextAt, Settles, StepsTo, TakesNext, TakesPiece, WaitsAt, WentOn, closed_place, dropped_place, ended_place, opened_place, read_fault_of, settled_place, taken, calls_on, calls_same}
+use Rattle.crowd.specs.declared.crowd_calls.Ready.{Ready}
+use Rattle.crowd_link.proofs.Terms.{Bool, Err, List, Ok, Option, Result, Some, [], ap, arith, false, inl, inr, length, nat_lt, refl, subst, sym, true, ℕ, ◌&&◌, ◌++◌, ◌+◌, ◌<◌, ◌∙◌, ◌∷◌, ◌≡◌, ◌≢◌, ◌≤◌, ◌⊎◌, fun_ext, and_parts, cases_lt, ltb-true, length-append, length-set, IsErrOf, slice_set, IoFault, HasCause, LinkEvent, LinkFault, Memory, ReadFault, Refused, WriteFault, ComesUntold, Enters, GoesBy, Phases, CrowdEntry, open_fewer, open_more, open_within, is_open, open_count, without, CrowdAccepts, CrowdWaits, Logs, Closing, Limits, Place, Stage, Closed, Dropped, Ended, Open, Unopened, is_broken, is_done, is_given, is_present, phase_of, shown, stage_in, IsCall, Served, after_call, can_accept, is_closable, served_of, takes_bytes, IsAt, IsClosing, IsWhole, Stands, link_journal, phases_at, stage_at, told_at, HasOpenCause, IsTake, NextAt, Settles, TakesNext, TakesPiece, WaitsAt, WentOn, closed_place, dropped_place, ended_place, opened_place, read_fault_of, settled_place, taken, calls_on, calls_same}
 use Rattle.crowd_link.specs.declared.place.Closing.TheVariants as closing
 use Rattle.crowd_link.specs.Taking.{NoneBroken, may_accept}
 use Rattle.crowd_link.proofs.CallLemmas.{logs_same, went_one, went_none, agrees_one, agrees_none, whole_one, whole_none, tells_one, tells_none}
-use Rattle.crowd_link.proofs.JournalLemmas.{no_ends, opened, took, ended, dropped, ended_more, same_journal, settled, closed, none_closable, only_open, broken_is}
+use Rattle.crowd_link.proofs.JournalLemmas.{no_ends, opened, took, ended, dropped, ended_more, same_journal, settled, closed, none_closable, broken_is}
 use Rattle.crowd_link.proofs.PlaceLemmas.{Closes, closes_to, stage_set, shown_set, keeps_set, all_set, present_opened, present_closed, same_if, other_if, commute}
 
 failed_by : {T U : Type 0} (fault : IoFault) (answer : LinkFault) → answer ≡ read_fault_of fault → IsErrOf {T = T} (Err answer) ReadFault → IsErrOf {T = U} (Err fault) io.Failed

@@ -1,5 +1,5 @@
 -- Calls behind calls.
-use Rattle.std.proofs.Common.{◌≡◌, ℕ, List, [], ◌∷◌, ◌++◌, Option, None, Some, append_assoc, append-nil, refl, sym, ap, ◌∙◌, subst}
+use Rattle.std.proofs.Common.{◌≡◌, List, [], ◌∷◌, ◌++◌, Option, None, Some, append_assoc, append-nil, refl, sym, ap, ◌∙◌, subst}
 use Rattle.crowd_link.specs.Terms.{CrowdEntry}
 use Rattle.crowd_link.specs.Served.{Served, fresh_served, after_call, served_after, served_of, AreCalls}
 use Rattle.crowd_link.specs.Steps.{WentOn}

@@ -1,5 +1,5 @@
 -- A link over a crowd is sound at each moment, and goes on.
-use Rattle.std.proofs.Common.{◌≡◌, ℕ, ◌<◌, Bool, true, false, List, Option, arith, refl, ◌∙◌, subst, sym}
+use Rattle.std.proofs.Common.{◌≡◌, ℕ, ◌<◌, Bool, true, List, Option, arith, refl, ◌∙◌, subst}
 use Rattle.crowd_link.specs.Terms.{IsSound, Ghosts, CrowdEntry, open_within}
 use Rattle.crowd_link.specs.declared.place.Limits.{Limits}
 use Rattle.crowd_link.specs.declared.place.Place.{Place}
@@ -9,7 +9,7 @@ use Rattle.crowd_link.specs.CallLaws.{calls_same, calls_on}
 use Rattle.crowd_link.specs.Steps.{WentOn}
 use Rattle.crowd_link.specs.CrowdLinks.{seen_of, crowd_of, limits_of, place_of, CrowdWent}
 use Rattle.crowd_link.specs.Stages.{is_given, is_present, phase_of}
-use Rattle.crowd_link.specs.Standing.{Stands, stage_at, phases_at, gives_at}
+use Rattle.crowd_link.specs.Standing.{Stands, stage_at}
 use Rattle.crowd_link.specs.declared.crowd_link.CrowdLink.{CrowdLink}
 use Rattle.links.specs.Links as links
 

@@ -1,5 +1,5 @@
 -- What gives of a piece make of a connection.
-use Rattle.std.specs.Prelude.{◌≡◌, ℕ, ◌≤◌, Bool, true, List, ◌++◌, length, take, Option, None, Some, Result, Ok, Err, IfErr, OnOk, slice_set}
+use Rattle.std.specs.Prelude.{◌≡◌, ℕ, ◌≤◌, Bool, true, List, [], ◌++◌, length, take, Option, None, Some, Result, Ok, Err, IfErr, OnOk, slice_set}
 use Rattle.crowd_link.specs.Terms.{Prefix, Given, All, Gone, LinkFault, Memory, Gives, CrowdEntry}
 use Rattle.crowd_link.specs.declared.place.Limits.{Limits}
 use Rattle.crowd_link.specs.declared.place.Place.{Place}
@@ -8,11 +8,11 @@ use Rattle.crowd_link.specs.Stages.{is_present, stage_behind}
 use Rattle.crowd_link.specs.Standing.{Stands, IsWhole, stage_at, told_at}
 use Rattle.crowd_link.specs.Steps.{WentOn}
 
--- gives were made to a connection that isn't closed, and led here
+-- gives of one piece were made to a connection that isn't closed, where no part of another went out last, and led here
 pub record GaveTo (conn : ℕ) (old new : List CrowdEntry) (leads : Served → Served) : Type 0 where
   pub calls : List CrowdEntry
   pub grew : new ≡ old ++ calls
-  pub are : (limits : Limits) (served : Served) → is_present (served.stages conn) ≡ true → AreCalls limits served calls
+  pub are : (limits : Limits) (served : Served) → is_present (served.stages conn) ≡ true → served.part ≡ [] → AreCalls limits served calls
   pub lead : (served : Served) → served_after served calls ≡ leads served
 
 abbrev pub Leads : ℕ → Option (List CrowdEntry) → Option (List CrowdEntry) → (Served → Served) → Type 0
@@ -36,7 +36,7 @@ given_place conn result place = record place { stages = slice_set place.stages c
 pub record GivesPiece (limits : Limits) (conn : ℕ) (old new : Option (List CrowdEntry)) (connections : List Bool) (place later : Place) (bytes : List ℕ) (result : Result Given LinkFault) : Type 0 where
   pub place_is : later ≡ given_place conn result place
   pub stands : Stands new connections limits later
-  pub given : IsWhole old → Gives (told_at old place) (told_at new later) conn bytes result
-  pub whole : IsWhole old → OnOk result (IsWhole new)
+  pub given : Gives (told_at old place) (told_at new later) conn bytes result
+  pub whole : OnOk result (IsWhole new)
   pub went : WentOn limits old new
   pub fault : IfErr result (λ fault. fault ≡ Memory)

@@ -125,6 +125,11 @@ can_accept limits served = nat_lt served.accepted limits.conns && nat_lt served.
 abbrev pub HasClosed : Served → Type 0
 HasClosed served = (conn : ℕ) → is_closable (served.stages conn) ≡ false
 
+-- where some first bytes of a piece went out alone, the next give is of its rest, and so to the same connection
+abbrev pub GoesOn : List ℕ → ℕ → ℕ → Type 0
+GoesOn [] to conn = Unit {0}
+GoesOn (byte ∷ part) to conn = to ≡ conn
+
 -- A link makes such a call there. It waits where each connection that is gone was closed, and for a client exactly where one may be accepted. It
 -- takes into 4096 bytes, from a connection whose end wasn't found; it gives to one that isn't closed; it closes one that is gone; it binds never.
 abbrev pub IsCall : Limits → Served → CrowdEntry → Type 0
@@ -132,13 +137,13 @@ IsCall limits served (made.Bound number) = ⊥
 IsCall limits served (made.Waited may_accept ready) = HasClosed served × (may_accept ≡ can_accept limits served)
 IsCall limits served (made.Accepted conn) = (conn ≡ served.accepted) × (can_accept limits served ≡ true)
 IsCall limits served (made.Took conn bytes room) = (served.stages conn ≡ Open) × (room ≡ 4096)
-IsCall limits served (made.Gave conn bytes offered) = (is_present (served.stages conn) ≡ true) × (0 < length bytes)
+IsCall limits served (made.Gave conn bytes offered) = (is_present (served.stages conn) ≡ true) × (0 < length bytes) × GoesOn served.part served.to conn
 IsCall limits served (made.Closed conn) = is_closable (served.stages conn) ≡ true
 IsCall limits served (made.Failed call.Bind) = ⊥
 IsCall limits served (made.Failed call.Wait) = HasClosed served
 IsCall limits served (made.Failed call.Accept) = can_accept limits served ≡ true
 IsCall limits served (made.Failed (call.Take conn)) = served.stages conn ≡ Open
-IsCall limits served (made.Failed (call.Give conn)) = is_present (served.stages conn) ≡ true
+IsCall limits served (made.Failed (call.Give conn)) = (is_present (served.stages conn) ≡ true) × GoesOn served.part served.to conn
 
 -- such calls, one after another
 unfoldable pub AreCalls : Limits → Served → List CrowdEntry → Type 0

@@ -1,12 +1,10 @@
 -- What a link does to its crowd, over one call or several.
-use Rattle.std.specs.Prelude.{◌≡◌, ℕ, ◌+◌, ◌≤◌, Bool, List, [], ◌∷◌, ◌++◌, Option, None, Some, Result, Ok, Err, IsErrOf, IfOk, Vec, slice_set}
+use Rattle.std.specs.Prelude.{◌≡◌, ℕ, ◌+◌, ◌≤◌, Bool, List, [], ◌∷◌, ◌++◌, Option, None, Some, Result, Ok, Err, IsErrOf, Vec, slice_set}
 use Rattle.std.specs.declared.alloc.Global.{Global}
-use Rattle.crowd_link.specs.Terms.{IoFault, Rose, Entry, LinkEvent, LinkFault, Memory, ReadFault, ComesUntold, Enters, GivesAtClose, GoesBy, Tells, CrowdEntry, Ready, IsReady, Logs}
-use Rattle.crowd_link.specs.declared.place.Closing.{Closing}
+use Rattle.crowd_link.specs.Terms.{IoFault, Rose, Entry, LinkEvent, LinkFault, Memory, ReadFault, ComesUntold, Enters, GivesAtClose, GoesBy, Tells, CrowdEntry, Logs}
 use Rattle.crowd_link.specs.declared.place.Closing.TheVariants as closing
 use Rattle.crowd_link.specs.declared.place.Limits.{Limits}
 use Rattle.crowd_link.specs.declared.place.Place.{Place}
-use Rattle.crowd_link.specs.declared.place.Stage.{Stage}
 use Rattle.crowd_link.specs.declared.place.Stage.TheVariants.{Closed, Dropped, Ended, Open}
 use Rattle.crowd_link.specs.Served.{served_of, AreCalls}
 use Rattle.crowd_link.specs.Standing.{Stands, IsWhole, phases_at, gives_at, told_at}

@@ -10,11 +10,10 @@ pub use Rattle.links.specs.declared.journal.LinkEvent.{LinkEvent}
 pub use Rattle.links.specs.declared.journal.LinkFault.{LinkFault}
 pub use Rattle.links.specs.declared.journal.LinkFault.TheVariants.{Memory, ReadFault, Refused, WriteFault}
 pub use Rattle.links.specs.LinkForms.{handed_by, told_by}
-pub use Rattle.links.specs.Links.{ComesUntold, Counts, Enters, Gives, GivesAtClose, GoesBy, Handed, HasGiveCause, IsGone, Phase, Phases, Tells, TellsHanded, Told, cut_entries}
+pub use Rattle.links.specs.Links.{ComesUntold, Counts, Enters, Gives, GivesAtClose, GoesBy, Handed, HasEnded, HasGiveCause, IsGone, Phase, Phases, Tells, TellsHanded, Told, cut_entries, last_taken}
 pub use Rattle.links.specs.Seen.{IsSound, Seen}
 pub use Rattle.crowd.specs.declared.crowd.Crowd.{Ghosts}
 pub use Rattle.crowd.specs.declared.crowd_calls.CrowdEntry.{CrowdEntry}
-pub use Rattle.crowd.specs.declared.crowd_calls.Ready.{Ready}
 pub use Rattle.crowd.specs.ConnectionLaws.{open_fewer, open_more, open_within}
-pub use Rattle.crowd.specs.Connections.{IsConnectedAfter, IsReady, is_open, open_count, without}
+pub use Rattle.crowd.specs.Connections.{IsReady, is_open, open_count, without}
 pub use Rattle.crowd.specs.Crowding.{CrowdAccepts, CrowdWaits, Logs}

@@ -49,6 +49,7 @@ pub fn give_present<C: Crowd>(
     requires given { is_given (stage_at place.old conn) ≡ true }
     requires some { 0 < length bytes.now }
     requires stands { Stands (C.told crowd.old) (C.connections crowd.old) limits place.old }
+    requires whole { IsWhole (C.told crowd.old) }
     ensures gives { GivesPiece limits conn (C.told crowd.old) (C.told crowd.new) (C.connections crowd.new) place.old place.new bytes.now result }
     ensures gone { IsGone result → Rose (C.connection_faults crowd.old) (C.connection_faults crowd.new) }
     ensures faults { C.faults crowd.new ≡ C.faults crowd.old }

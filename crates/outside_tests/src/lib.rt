@@ -9,3 +9,5 @@ mod crowd_tests;
 mod listener_tests;
 #[cfg(test)]
 mod rx_io_tests;
+#[cfg(test)]
+mod tcp_crowd_tests;

@@ -159,7 +159,7 @@ fn a_port_serves_one_after_another(rt: HostRuntime) -> Result<(), Fail> {
 }
 
 // A port that was free a moment ago.
-fn free_port<R: Net>(net: &R) -> Result<u16, Fail> {
+pub(crate) fn free_port<R: Net>(net: &R) -> Result<u16, Fail> {
     let listener = TcpListener::bind(net, (Ipv4Addr::LOCALHOST, 0u16))?;
     Ok(listener.local_addr()?.port())
 }

@@ -1,9 +1,9 @@
 // The listener over the system's TCP.
 ghost use Rattle.std.specs.Prelude.{◌≡◌, None, false, is_some};
 
-use rx_io::{IoFault, Listener, TRIES, read_some, write_some};
-use std::io::ErrorKind;
-use std::net::{Ipv4Addr, Net, OpenListener, OpenStream, TcpListener};
+use crate::setting::{accept_some, patience_of, set_up};
+use rx_io::{IoFault, Listener, read_some, write_some};
+use std::net::{Ipv4Addr, Net, TcpListener};
 use std::time::Duration;
 
 /// A port of 127.0.0.1, of which nothing is told. A call that was interrupted is tried again, a bounded number of times.
@@ -24,42 +24,15 @@ impl<'a, R: Net> TcpListenerEdge<'a, R> {
         ensures faults { ⟦<TcpListenerEdge<'a, R> as Listener>⟧.faults result ≡ 0 }
         ensures connection_faults { ⟦<TcpListenerEdge<'a, R> as Listener>⟧.connection_faults result ≡ 0 }
     {
-        let patience = if patience == 0 {
-            None
-        } else {
-            Some(Duration::from_secs(patience))
-        };
         TcpListenerEdge {
             net,
-            patience,
+            patience: patience_of(patience),
             listener: None,
             stream: None,
             faults: 0,
             connection_faults: 0,
         }
     }
-}
-
-// The next connection, or none where there is none. One that its client gave up before it was accepted is passed over.
-fn accept_some<L: OpenListener>(listener: &L) -> Option<L::Stream> {
-    'tries: for _ in 0..TRIES {
-        match listener.accept() {
-            Ok((stream, _)) => return Some(stream),
-            Err(e) => match e.kind() {
-                ErrorKind::Interrupted | ErrorKind::ConnectionAborted => {}
-                _ => return None,
-            },
-        }
-    }
-    None
-}
-
-// Sets how long a stream waits for its client, and that small replies aren't held back. A stream that can't be set so waits as
-// the system has it.
-fn set_up<S: OpenStream>(stream: &S, patience: Option<Duration>) {
-    let _ = stream.set_nodelay(true);
-    let _ = stream.set_read_timeout(patience);
-    let _ = stream.set_write_timeout(patience);
 }
 
 impl<R: Net> Listener for TcpListenerEdge<'_, R> {

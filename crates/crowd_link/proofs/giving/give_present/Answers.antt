@@ -16,4 +16,4 @@ returns-clause-gives g c =
     subst (λ (s : Stage). GivesPiece c.args.limits c.args.conn (told c.args.crowd.now) (told c.give_piece-answer.new.crowd) (g.C.Crowd.connections c.give_piece-answer.new.crowd) place
     (record place { stages = slice_set place.stages c.args.conn s }) c.args.bytes.now c.give_piece-answer.result) (sym c.stage_behind.ensures)
     (give_does c.args.limits c.args.conn (told c.args.crowd.now) (told c.give_piece-answer.new.crowd) place c.args.bytes.now (g.C.Crowd.connections c.args.crowd.now) (g.C.Crowd.connections c.give_piece-answer.new.crowd)
-    c.give_piece-answer.result c.give_piece-answer.ensures.calls c.requires.stands (given_there (stage_at place c.args.conn) c.requires.given c.in_default.not-Dropped) inside c.give_piece-answer.ensures.connections)
+    c.give_piece-answer.result c.give_piece-answer.ensures.calls c.requires.stands c.requires.whole (given_there (stage_at place c.args.conn) c.requires.given c.in_default.not-Dropped) inside c.give_piece-answer.ensures.connections)

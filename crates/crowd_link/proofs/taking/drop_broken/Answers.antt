@@ -1,4 +1,4 @@
-use Rattle.crowd_link.proofs.StepLemmas.{broken_present, closed_less, drop_takes}
+use Rattle.crowd_link.proofs.StepLemmas.{broken_present, drop_takes}
 use Rattle.crowd_link.proofs.taking.drop_broken.Goals as goal
 
 pub close-requires : goal.close-requires

@@ -1,4 +1,4 @@
-use Rattle.crowd_link.proofs.Terms.{Bool, Err, List, Ok, ap, arith, subst, sym, ℕ, ◌∙◌, nil_from_length, Place, TakesNext, ended_place}
+use Rattle.crowd_link.proofs.Terms.{Bool, Err, List, Ok, arith, subst, sym, ℕ, ◌∙◌, nil_from_length, TakesNext, ended_place}
 use Rattle.crowd_link.proofs.JournalLemmas.{only_open}
 use Rattle.crowd_link.proofs.StepLemmas.{end_takes, none_done, piece_takes, take_fails}
 use Rattle.links.specs.declared.journal.LinkEvent.TheVariants as event

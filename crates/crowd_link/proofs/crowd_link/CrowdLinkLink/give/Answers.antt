@@ -6,7 +6,7 @@ returns-clause-shows g c =
     let gave = c.give_present-answer.ensures.gives in
     let self = c.args.self.now in
     record {
-      told = gave.given (self.whole c.requires.may);
+      told = gave.given;
       handed = handed_told (g.C.Crowd.told c.give_present-answer.new.crowd) c.give_present-answer.new.place c.args.conn c.args.bytes.now;
       cause = give_cause (g.C.Crowd.faults self.crowd) (g.C.Crowd.faults c.give_present-answer.new.crowd) self.gones c.gones_behind-self.result c.give_present-answer.result
           c.give_present-answer.ensures.faults c.gones_behind-self.ensures gave.fault;
