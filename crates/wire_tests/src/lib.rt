@@ -1,4 +1,4 @@
-//! Tests of links, messages, items and replies: what no clause of their crates says.
+//! Tests of links, of the trunk's lines, of messages, items and replies: what no clause of their crates says.
 #![tactic(auto)]
 
 #[cfg(test)]
@@ -11,3 +11,7 @@ mod reply_ledger_tests;
 mod row_tests;
 #[cfg(test)]
 mod rows;
+#[cfg(test)]
+mod text_rows;
+#[cfg(test)]
+mod text_tests;

@@ -64,8 +64,8 @@ pub fn output_seen(alloc: Global, most: usize, fails: u64) -> Result<String, Fai
     Ok(format!(in alloc; "{given:?} {:?}", sink.bytes())?)
 }
 
-// The bytes of pairs of hexadecimal digits; none of a dash.
-fn bytes_of(alloc: Global, hex: &str) -> Result<Vec<u8>, Fail> {
+/// The bytes of pairs of hexadecimal digits; none of a dash.
+pub fn bytes_of(alloc: Global, hex: &str) -> Result<Vec<u8>, Fail> {
     let mut bytes = Vec::new(alloc);
     if hex == "-" {
         return Ok(bytes);

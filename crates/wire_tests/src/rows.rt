@@ -4,6 +4,7 @@
 // 4096. Bars part events and pieces, a dot is a line feed, and a dash is no event. A star is so many letters x as ` star=` says at the end.
 use crate::framing_rows::{items_seen, messages_seen};
 use crate::link_rows::{gifts_seen, list_seen, output_seen, trunk_seen};
+use crate::text_rows::{frames_seen, lines_seen, turned_back};
 use links::LinkEvent;
 use msg_frame::Framing;
 use rx_io::Bytes;
@@ -49,7 +50,8 @@ fn framing_of(word: &str) -> Framing {
 
 // What is seen of a row, by its first word: pieces that are cut; events that are logged, with the most items there may be; events that a list
 // plays, whose call of a number fails; two gives, of which the call of a number fails, and call 3 has so many bytes go out; what comes from a
-// trunk, and a piece that goes out there, with so many bytes a call at most, and the call that fails.
+// trunk, and a piece that goes out there, with so many bytes a call at most, and the call that fails; lines that become frames, and frames that
+// become lines, with the calls of source and sink that fail; lines that become frames and lines again, and frames that become lines and frames.
 fn seen_of(alloc: Global, given: &str) -> Result<String, Fail> {
     let mut words = given.split_whitespace();
     let kind = words.next().ok_or("no kind")?;
@@ -67,6 +69,9 @@ fn seen_of(alloc: Global, given: &str) -> Result<String, Fail> {
             second.parse::<u64>()?,
             third,
         ),
+        "frame" => frames_seen(alloc, first.parse::<u64>()?, second.parse::<u64>()?, third),
+        "unframe" => lines_seen(alloc, first.parse::<u64>()?, second.parse::<u64>()?, third),
+        "back" => turned_back(alloc, first, second),
         "out" => output_seen(alloc, first.parse::<usize>()?, second.parse::<u64>()?),
         _ => Err(Fail::new("no such kind")),
     }

@@ -1,0 +1,10 @@
+pub mod Terms
+pub mod TurnLemmas
+pub mod FramingLemmas
+pub mod UnframingLemmas
+pub mod BackLemmas
+pub mod LineLemmas
+pub mod ReturnLemmas
+pub mod SoundLemmas
+pub mod SpellLemmas
+pub mod RunLemmas

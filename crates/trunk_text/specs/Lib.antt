@@ -1,0 +1,10 @@
+pub mod Terms
+pub mod Numbers
+pub mod Escapes
+pub mod Lines
+pub mod Frames
+pub mod Turns
+pub mod Streams
+pub mod Framing
+pub mod Unframing
+pub mod Laws
