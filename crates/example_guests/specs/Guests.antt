@@ -1,6 +1,7 @@
--- The example guests: their names, and the text of the least of them.
+-- The example guests: their names, the text of the least of them, and the text of guest keys.
 use Rattle.std.specs.Prelude.{ℕ, Bool, List, [], ◌∷◌, ◌++◌, codes, nat_eq}
 use Rattle.std.specs.List.{starts_with}
+use Rattle.example_guests.specs.declared.keys.TheConstants.{SOURCE}
 
 -- the names of the guests
 abbrev pub guest_names : List (List ℕ)
@@ -21,3 +22,7 @@ is_headed name text = starts_with nat_eq text (line (codes "# Guest " ++ name))
 abbrev pub three_text : List ℕ
 three_text =
     line (codes "addi a7, x0, 1") ++ line (codes "addi a1, x0, 0") ++ line (codes "addi a0, x0, 0") ++ line (codes "ecall")
+
+-- the text of guest keys, as its file has it
+unfoldable pub keys_text : List ℕ
+keys_text = SOURCE.now

@@ -1,6 +1,6 @@
 // The guests by their names.
 ghost use Rattle.std.specs.Prelude.{◌≡◌, ◌≢◌, ◌↔◌, IsTrue, IsSome, IfSome, Contains, codes};
-ghost use Rattle.example_guests.specs.Guests.{guest_names, is_headed, three_text};
+ghost use Rattle.example_guests.specs.Guests.{guest_names, is_headed, keys_text, three_text};
 
 use crate::{
     counter, dirty, divide, echo, grow, keys, late, null, overflow, pair, stale, stale_grow,
@@ -33,4 +33,12 @@ pub fn source_of(name: &str) -> Option<&'static str>
         "stale_grow" => Some(stale_grow::SOURCE),
         _ => None,
     }
+}
+
+/// The text of guest keys.
+#[tactic(auto, unfolding(crate::specs::Guests::keys_text))]
+pub fn keys_source() -> &'static str
+    ensures { result.now ≡ keys_text }
+{
+    keys::SOURCE
 }

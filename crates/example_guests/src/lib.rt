@@ -2,7 +2,7 @@
 //!
 //! They are texts for tests: the clauses say which names there are, and that each text is headed by its name.
 //! That each assembles, and replies or fails as it says, is tested and not proved.
-//! No program uses them.
+//! Guest keys is the program of a drill, in the crate `drill`; no program uses the others.
 #![tactic(auto)]
 
 mod catalogue;
@@ -24,4 +24,4 @@ mod three;
 mod twice;
 mod unset;
 
-pub use catalogue::source_of;
+pub use catalogue::{keys_source, source_of};
