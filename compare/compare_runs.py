@@ -12,7 +12,7 @@ them yet is compared with --no-files, in all else. Where rx doesn't recover eith
 With --wild all programs are of pseudo-random words, and with --long sessions have up to 250 messages or more, a ring and frames of any
 size, and a wider hold and --every. An rx without a guard is compared with --no-guard.
 
-With --diagnose they are sessions of `rx diagnose`, and its diagnosis is compared too. `rx` has no such command yet.
+With --diagnose they are sessions of `rx diagnose`, and its diagnosis is compared too.
 
 With --code the sessions are those of a few programs that go where code and memory meet: they write their own code, jump into a second
 segment of code or to half of an instruction, load and store across pages, and store into pages that a checkpoint shares.

@@ -219,7 +219,9 @@ class Check:
         for path in self.repository.paths:
             if path.startswith("crates/command_line/src/") and path.endswith(".rt"):
                 with open(os.path.join(TOP, path), encoding="utf-8") as it:
-                    known.update("--" + it for it in re.findall(r"^\s*name: \"([a-z][a-z-]*)\",$", it.read(), re.M))
+                    text = it.read()
+                known.update("--" + it for it in re.findall(r"RowOf \{\s*name: \"([a-z][a-z-]*)\",", text))
+                known.update(re.findall(r": &str = \"(--[a-z-]+)\";", text))
         named = set()
         for number, _, line in page.lines:
             for option in OPTION.findall(line):

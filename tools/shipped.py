@@ -14,8 +14,7 @@ With --diagnose those with a fault run once more by `rx diagnose`. Output, statu
 be what stands here.
 
 With --no-recovery the first failure has to be the end, and nothing is diagnosed. Without it the values are those of an rx that recovers.
-With --no-replay nothing is replayed or converted, with --no-convert nothing is converted, and with --no-guard no run has a guard. Only with
---diagnose is anything diagnosed: `rx` has no such command yet.
+With --no-replay nothing is replayed or converted, with --no-convert nothing is converted, and with --no-guard no run has a guard.
 
 usage: shipped.py [--no-recovery] [--no-replay | --no-convert] [--diagnose] [--no-guard] [RX]
 RX is the built rx, crates/rx/out/rx unless it is given. The status is 0 where all runs are right.

@@ -16,11 +16,11 @@ import tempfile
 
 from second import inputs, patient, programs, trunk, wild
 from second.command import run_session
-from second.diagnosis import verdict
+from second.diagnosis import readings, verdict
 from second.instructions import BAD_ACCESS, Failure
 from second.machine import Image, MIB, executable
 from second.outside import MemoryFiles, MemorySink, MemorySource
-from second.said import answer_of, is_told
+from second.said import answer_of, is_told, readings_of
 from second.self_check import Counts, HeapWriter, KINDS, lacking
 from second.session import Options, Session
 
@@ -133,6 +133,9 @@ class Pair:
             told = answer_of(status, said, self.options.budget)
             if status != done.status or not is_told(done.answer, told):
                 found.append("answer: %s in place of %s" % (told, done.answer))
+            meant = readings(done.session.notes.episodes, done.session.tables) if self.diagnoses else []
+            if readings_of(said) != meant:
+                found.append("readings: %s in place of %s" % (readings_of(said), meant))
             for name in FILES if self.rx.writes_files else ():
                 if content_of(os.path.join(folder, name)) != files.get(name):
                     found.append(FILES[name])

@@ -20,6 +20,25 @@ def verdict(table):
     return [environment for environment in ENVIRONMENTS if environment in survive]
 
 
+def reading(table):
+    """What the oldest checkpoint at which one survives says of the fault: overrun, reused, unset, placed or nothing."""
+    survivors = [tried for tried in table if tried.result == SURVIVED]
+    oldest = min((tried.checkpoint for tried in survivors), default=None)
+    helps = {tried.environment for tried in survivors if tried.checkpoint == oldest}
+    if not helps:
+        return "nothing"
+    if "pad" in helps and "delay" not in helps:
+        return "overrun"
+    if "delay" in helps and "zero" not in helps:
+        return "reused"
+    return "unset" if "zero" in helps else "placed"
+
+
+def readings(episodes, tables):
+    """Of each failure its number, the instruction and what its table says."""
+    return [(number, "%08x" % episode.pc, reading(table)) for number, (episode, table) in enumerate(zip(episodes, tables))]
+
+
 def verdict_line(table):
     return b"verdict %s\n" % " ".join(verdict(table) or ["none"]).encode()
 

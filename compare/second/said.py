@@ -10,6 +10,17 @@ from second import instructions, trunk
 
 SENTENCE = re.compile(r"rx: [^\n]+\n")
 
+# What a diagnosis says of a failure, behind the sentence of the end.
+READING = re.compile(r"rx: failure (\d+) at ([0-9a-f]{8}): ([^\n]+)\n")
+
+READINGS = {
+    r"went past the end of its block": "overrun",
+    r"used after it was freed": "reused",
+    r"read before it was written": "unset",
+    r"placed otherwise": "placed",
+    r"nothing helps": "nothing",
+}
+
 CAUSES = {
     r"touched memory": instructions.BAD_ACCESS,
     r"jumped to": instructions.BAD_JUMP,
@@ -71,8 +82,14 @@ def end_of(status, sentence, budget):
     return found[0] if len(found) == 1 else None
 
 
+def readings_of(said):
+    """What a diagnosis says of each failure: its number, the instruction, and the kind of the fault."""
+    return [(int(number), pc, the_one(READINGS, words)[0]) for number, pc, words in READING.findall(said)]
+
+
 def answer_of(status, said, budget):
-    """The answer of an rx that ended with this status and wrote this on standard error."""
+    """The answer of an rx that ended with this status and wrote this on standard error, but for what a diagnosis says."""
+    said = READING.sub("", said)
     if status == 0:
         return ("Finished",) if not said else ("status 0", said)
     answer = end_of(status, said, budget) if SENTENCE.fullmatch(said) else None

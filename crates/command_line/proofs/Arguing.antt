@@ -5,7 +5,7 @@ use Rattle.command_line.proofs.Terms.{Bor, None, Option, Some, [], ap, sym, ◌�
 
 -- b is a with its id as its long name
 pub named_rule : (a b : Arg) (name : Bor Text) (takes : Takes) (default : Option Text) → rule_of a ≡ new_rule name.now → b ≡ record a { long = Some name } → default ≡ None
-    → rule_of b ≡ option_rule (record { name = name.now; takes = takes; default = default })
+    → rule_of b ≡ option_rule (record { name = name.now; takes = takes; default = default; says = tt })
 named_rule a b name takes default new named none =
     ap rule_of named
     ∙ ap {B = Rule} (λ r. record r { long = Some name.now }) new
@@ -13,7 +13,7 @@ named_rule a b name takes default new named none =
 
 -- and c is b with a default
 pub default_rule : (a b c : Arg) (name : Bor Text) (text : Text) (takes : Takes) (default : Option Text) → rule_of a ≡ new_rule name.now → b ≡ record a { long = Some name }
-    → rule_of c ≡ record (rule_of b) { defaults = text ∷ [] } → default ≡ Some text → rule_of c ≡ option_rule (record { name = name.now; takes = takes; default = default })
+    → rule_of c ≡ record (rule_of b) { defaults = text ∷ [] } → default ≡ Some text → rule_of c ≡ option_rule (record { name = name.now; takes = takes; default = default; says = tt })
 default_rule a b c name text takes default new named set some =
     set
     ∙ ap {B = Rule} (λ x. record (rule_of x) { defaults = text ∷ [] }) named

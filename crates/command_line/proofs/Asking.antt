@@ -1,5 +1,6 @@
 -- Which command the first word asks for.
-use Rattle.command_line.proofs.Terms.{Global, Bool, List, None, Option, Some, [], ap, arith, cond, drop, false, length, refl, subst, sym, take, true, ◌-◌, ◌∙◌, ◌∷◌, ◌≡◌, ◌≤◌, take_rest, same_Some, slice_index_or, String, string_bytes, bytes_eq, Text, Parts, parts, texts_of, CommandValue, RunValue, ServeValue, asm, asm_form, asm_of, asm_value, command_of, convert, convert_form, convert_of, convert_value, is_asm, is_convert, is_replay, is_run, is_serve, replay, replay_form, replay_of, replay_value, run, run_form, run_of, run_value, serve, serve_form, serve_of, serve_value}
+use Rattle.command_line.proofs.Terms.{Global, Bool, List, None, Option, Some, [], ap, arith, cond, drop, false, length, map, refl, subst, sym, take, true, ◌-◌, ◌∙◌, ◌∷◌, ◌≡◌, ◌≤◌, take_rest, same_Some, find, slice_index_or, option_map, String, string_bytes, bytes_eq, CommandName, Text, Parts, parts, texts_of, CommandForm, CommandValue, DiagnoseValue, DrillValue, RunValue, ServeValue, asm_form, behind_name, command_of, convert_form, diagnose, diagnose_form, diagnose_value, drill, drill_form, drill_value, form_named, frame_form, is_diagnose, is_drill, is_of, is_run, is_serve, name_of, replay_form, run, run_form, run_value, serve, serve_form, serve_value, unframe_form, value_by}
+use Rattle.command_line.specs.declared.options.CommandName.TheVariants as named
 
 pub first_word : (ws : List (String Global)) (w : String Global) (t : Text) → 1 ≤ length ws → w ≡ slice_index_or ws 0 w → t ≡ string_bytes w
     → texts_of ws ≡ t ∷ texts_of (take (length ws - 1) (drop 1 ws))
@@ -7,60 +8,37 @@ first_word [] w t some at text = absurd (omega arith)
 first_word (x ∷ xs) w t some at text =
     ap (λ s. s ∷ texts_of xs) (ap (λ (s : String Global). string_bytes s) (sym at) ∙ sym text) ∙ ap (λ ys. t ∷ texts_of ys) (sym (take_rest (x ∷ xs) 1))
 
-pub of_run : (ws : List Text) (t : Text) (rest : List Text) → ws ≡ t ∷ rest → bytes_eq t run_form.name ≡ true → command_of ws ≡ run_of (parts rest)
-of_run ws t rest words named = rw (words, named) refl
+-- the form of each command has its own name's command
+own : (name : CommandName) → (form_named name).which ≡ name
+unfolding run_form asm_form replay_form convert_form serve_form diagnose_form drill_form frame_form unframe_form
+own named.Run = refl
+own named.Asm = refl
+own named.Replay = refl
+own named.Convert = refl
+own named.Serve = refl
+own named.Diagnose = refl
+own named.Drill = refl
+own named.Frame = refl
+own named.Unframe = refl
 
-pub of_asm : (ws : List Text) (t : Text) (rest : List Text) → ws ≡ t ∷ rest → bytes_eq t run_form.name ≡ false → bytes_eq t asm_form.name ≡ true
-    → command_of ws ≡ asm_of (parts rest)
-of_asm ws t rest words other named = rw (words, other, named) refl
+step : (test : Bool) (name : CommandName) (found : Option CommandForm) (later : Option CommandName) → option_map (λ (form : CommandForm). form.which) found ≡ later
+    → option_map (λ (form : CommandForm). form.which) (cond test (Some (form_named name)) found) ≡ cond test (Some name) later
+step true name found later more = ap Some (own name)
+step false name found later more = more
 
-pub of_replay : (ws : List Text) (t : Text) (rest : List Text) → ws ≡ t ∷ rest → bytes_eq t run_form.name ≡ false → bytes_eq t asm_form.name ≡ false
-    → bytes_eq t replay_form.name ≡ true → command_of ws ≡ replay_of (parts rest)
-of_replay ws t rest words other second named = rw (words, other, second, named) refl
+-- the look-up among forms, each of which has its own name's command, is the look-up among the names
+pub among_forms : (word : Text) (names : List CommandName)
+    → option_map (λ (form : CommandForm). form.which) (find (λ (form : CommandForm). bytes_eq form.name word) (map form_named names))
+    ≡ find (λ name. bytes_eq (form_named name).name word) names
+among_forms word [] = refl
+among_forms word (name ∷ names) = step (bytes_eq (form_named name).name word) name (find (λ (form : CommandForm). bytes_eq form.name word) (map form_named names)) _ (among_forms word names)
 
-pub of_convert : (ws : List Text) (t : Text) (rest : List Text) → ws ≡ t ∷ rest → bytes_eq t run_form.name ≡ false → bytes_eq t asm_form.name ≡ false
-    → bytes_eq t replay_form.name ≡ false → bytes_eq t convert_form.name ≡ true → command_of ws ≡ convert_of (parts rest)
-of_convert ws t rest words other second third named = rw (words, other, second, third, named) refl
+pub taken_of : (ws : List Text) (t : Text) (rest : List Text) (name : CommandName) → ws ≡ t ∷ rest → name_of t ≡ Some name → is_of name (parts rest) ≡ true
+    → command_of ws ≡ Some (value_by name (parts rest))
+taken_of ws t rest name words named taken =
+    ap command_of words ∙ ap (λ n. behind_name n (parts rest)) named ∙ ap (λ b. cond b (Some (value_by name (parts rest))) None) taken
 
-pub of_serve : (ws : List Text) (t : Text) (rest : List Text) → ws ≡ t ∷ rest → bytes_eq t run_form.name ≡ false → bytes_eq t asm_form.name ≡ false
-    → bytes_eq t replay_form.name ≡ false → bytes_eq t convert_form.name ≡ false → bytes_eq t serve_form.name ≡ true → command_of ws ≡ serve_of (parts rest)
-of_serve ws t rest words other second third fourth named = rw (words, other, second, third, fourth, named) refl
-
-pub of_none : (ws : List Text) (t : Text) (rest : List Text) → ws ≡ t ∷ rest → bytes_eq t run_form.name ≡ false → bytes_eq t asm_form.name ≡ false
-    → bytes_eq t replay_form.name ≡ false → bytes_eq t convert_form.name ≡ false → bytes_eq t serve_form.name ≡ false → command_of ws ≡ None
-of_none ws t rest words other second third fourth fifth = rw (words, other, second, third, fourth, fifth) refl
-
-pub run_asked : (p : Parts) → is_run p ≡ true → run_of p ≡ Some (run (run_value p))
-run_asked p e = rw e refl
-
-pub asm_asked : (p : Parts) → is_asm p ≡ true → asm_of p ≡ Some (asm (asm_value p))
-asm_asked p e = rw e refl
-
-pub replay_asked : (p : Parts) → is_replay p ≡ true → replay_of p ≡ Some (replay (replay_value p))
-replay_asked p e = rw e refl
-
-pub convert_asked : (p : Parts) → is_convert p ≡ true → convert_of p ≡ Some (convert (convert_value p))
-convert_asked p e = rw e refl
-
-pub serve_asked : (p : Parts) → is_serve p ≡ true → serve_of p ≡ Some (serve (serve_value p))
-serve_asked p e = rw e refl
-
-pub run_refused : (p : Parts) → is_run p ≡ false → run_of p ≡ None
-run_refused p e = rw e refl
-
-pub asm_refused : (p : Parts) → is_asm p ≡ false → asm_of p ≡ None
-asm_refused p e = rw e refl
-
-pub replay_refused : (p : Parts) → is_replay p ≡ false → replay_of p ≡ None
-replay_refused p e = rw e refl
-
-pub convert_refused : (p : Parts) → is_convert p ≡ false → convert_of p ≡ None
-convert_refused p e = rw e refl
-
-pub serve_refused : (p : Parts) → is_serve p ≡ false → serve_of p ≡ None
-serve_refused p e = rw e refl
-
--- ---- words that are a `run`, and words that are a `serve`
+-- ---- words of commands with numbers
 
 -- words that are a `run`: their parts are those of one, and the value is theirs
 pub record IsRun (value : RunValue) : Type 0 where
@@ -74,61 +52,55 @@ pub record IsServe (value : ServeValue) : Type 0 where
   pub is : is_serve parts_are ≡ true
   pub value_is : serve_value parts_are ≡ value
 
+-- and of `diagnose`
+pub record IsDiagnose (value : DiagnoseValue) : Type 0 where
+  pub parts_are : Parts
+  pub is : is_diagnose parts_are ≡ true
+  pub value_is : diagnose_value parts_are ≡ value
+
+-- and of `drill`
+pub record IsDrill (value : DrillValue) : Type 0 where
+  pub parts_are : Parts
+  pub is : is_drill parts_are ≡ true
+  pub value_is : drill_value parts_are ≡ value
+
 abbrev pub IsAsked : CommandValue → Type 0
 IsAsked (run value) = IsRun value
 IsAsked (serve value) = IsServe value
+IsAsked (diagnose value) = IsDiagnose value
+IsAsked (drill value) = IsDrill value
 IsAsked _ = Unit {0}
 
--- what is so of the values of two options is so of that of the one which a test chooses
-chosen : (P : CommandValue → Type 0) (test : Bool) (this other : Option CommandValue)
-    → ((value : CommandValue) → this ≡ Some value → P value) → ((value : CommandValue) → other ≡ Some value → P value)
-    → (value : CommandValue) → cond test this other ≡ Some value → P value
-chosen P true this other first second value is = first value is
-chosen P false this other first second value is = second value is
+-- of each command, what its words are
+of_name : (name : CommandName) (p : Parts) → is_of name p ≡ true → IsAsked (value_by name p)
+of_name named.Run p e = record { parts_are = p; is = e; value_is = refl }
+of_name named.Asm p e = tt
+of_name named.Replay p e = tt
+of_name named.Convert p e = tt
+of_name named.Serve p e = record { parts_are = p; is = e; value_is = refl }
+of_name named.Diagnose p e = record { parts_are = p; is = e; value_is = refl }
+of_name named.Drill p e = record { parts_are = p; is = e; value_is = refl }
+of_name named.Frame p e = tt
+of_name named.Unframe p e = tt
 
 -- where a test holds, this is the value
-tested : (P : CommandValue → Type 0) (test : Bool) (made : CommandValue) → (test ≡ true → P made) → (value : CommandValue) → cond test (Some made) None ≡ Some value → P value
-tested P true made holds value is = subst P (same_Some made value is) (holds refl)
-tested P false made holds value is = absurd (let no_such : None ≡ Some value = is in cc)
+tested : (test : Bool) (made value : CommandValue) → (test ≡ true → IsAsked made) → cond test (Some made) None ≡ Some value → IsAsked value
+tested true made value holds is = subst IsAsked (same_Some made value is) (holds refl)
+tested false made value holds is = absurd (let no_such : None ≡ Some value = is in cc)
 
-nothing_asked : (value : CommandValue) → None ≡ Some value → IsAsked value
-nothing_asked value is = absurd (let no_such : None ≡ Some value = is in cc)
-
-by_run : (p : Parts) (value : CommandValue) → run_of p ≡ Some value → IsAsked value
-by_run p value is = tested IsAsked (is_run p) (run (run_value p)) (λ e. record { parts_are = p; is = e; value_is = refl }) value is
-
-by_serve : (p : Parts) (value : CommandValue) → serve_of p ≡ Some value → IsAsked value
-by_serve p value is = tested IsAsked (is_serve p) (serve (serve_value p)) (λ e. record { parts_are = p; is = e; value_is = refl }) value is
-
-by_asm : (p : Parts) (value : CommandValue) → asm_of p ≡ Some value → IsAsked value
-by_asm p value is = tested IsAsked (is_asm p) (asm (asm_value p)) (λ e. tt) value is
-
-by_replay : (p : Parts) (value : CommandValue) → replay_of p ≡ Some value → IsAsked value
-by_replay p value is = tested IsAsked (is_replay p) (replay (replay_value p)) (λ e. tt) value is
-
-by_convert : (p : Parts) (value : CommandValue) → convert_of p ≡ Some value → IsAsked value
-by_convert p value is = tested IsAsked (is_convert p) (convert (convert_value p)) (λ e. tt) value is
-
--- the commands behind the first ones, each with those behind it
-from_serve : (word : Text) (p : Parts) (value : CommandValue) → cond (bytes_eq word serve_form.name) (serve_of p) None ≡ Some value → IsAsked value
-from_serve word p = chosen IsAsked (bytes_eq word serve_form.name) (serve_of p) None (by_serve p) nothing_asked
-
-from_convert : (word : Text) (p : Parts) (value : CommandValue) → cond (bytes_eq word convert_form.name) (convert_of p) (cond (bytes_eq word serve_form.name) (serve_of p) None) ≡ Some value → IsAsked value
-from_convert word p = chosen IsAsked (bytes_eq word convert_form.name) (convert_of p) (cond (bytes_eq word serve_form.name) (serve_of p) None) (by_convert p) (from_serve word p)
+by_name : (name : Option CommandName) (p : Parts) (value : CommandValue) → behind_name name p ≡ Some value → IsAsked value
+by_name None p value is = absurd (let no_such : None ≡ Some value = is in cc)
+by_name (Some name) p value is = tested (is_of name p) (value_by name p) value (of_name name p) is
 
 pub asked : (words : List Text) (value : CommandValue) → command_of words ≡ Some value → IsAsked value
-asked [] value is = nothing_asked value is
-asked (word ∷ rest) value is =
-    let p = parts rest in
-    let last = cond (bytes_eq word convert_form.name) (convert_of p) (cond (bytes_eq word serve_form.name) (serve_of p) None) in
-    let behind_asm = cond (bytes_eq word replay_form.name) (replay_of p) last in
-    let behind_run = cond (bytes_eq word asm_form.name) (asm_of p) behind_asm in
-    let replays = chosen IsAsked (bytes_eq word replay_form.name) (replay_of p) last (by_replay p) (from_convert word p) in
-    let assembles = chosen IsAsked (bytes_eq word asm_form.name) (asm_of p) behind_asm (by_asm p) replays in
-    chosen IsAsked (bytes_eq word run_form.name) (run_of p) behind_run (by_run p) assembles value is
+asked [] value is = absurd (let no_such : None ≡ Some value = is in cc)
+asked (word ∷ rest) value is = by_name (name_of word) (parts rest) value is
 
 pub asked_run : (words : List Text) (value : RunValue) → command_of words ≡ Some (run value) → IsRun value
 asked_run words value is = asked words (run value) is
 
 pub asked_serve : (words : List Text) (value : ServeValue) → command_of words ≡ Some (serve value) → IsServe value
 asked_serve words value is = asked words (serve value) is
+
+pub asked_diagnose : (words : List Text) (value : DiagnoseValue) → command_of words ≡ Some (diagnose value) → IsDiagnose value
+asked_diagnose words value is = asked words (diagnose value) is

@@ -5,12 +5,16 @@ use Rattle.clap.proofs.WalkLemmas.{first_value-rows}
 use Rattle.clap.specs.Simple.{App, is_simple, matches_of}
 use Rattle.clap.specs.Takes.{takes}
 use Rattle.clap.proofs.TakesLemmas.{leaf_takes}
-use Rattle.command_line.proofs.Terms.{List, None, Some, [], ap, ap₂, eqb-true, false, fold, is_some, length, map, refl, subst, sym, true, unwrap_or, ℕ, ◌<◌, ◌||◌, ◌∙◌, ◌∷◌, ◌≡◌, and_from, and_parts, slice_get-get_or, unwrap_or-slice_get, list_all, slice_get, ArgMatches, first_value, found_of, argument_words, built, label_of, names_of, built_takes, default_passes, is_valid, level_passes, finished, first_of, nothing_held, rows_after, rows_of, walk, with_default, are_positionals, parts, CommandForm, are_options, given, has_option, has_required, value_of, fits, positional, EachRow}
+use Rattle.command_line.proofs.Terms.{List, None, Some, [], ap, ap₂, eqb-true, false, fold, is_some, length, map, refl, subst, sym, true, unwrap_or, ℕ, ◌+◌, ◌<◌, ◌||◌, ◌∙◌, ◌∷◌, ◌≡◌, and_from, and_parts, slice_get-get_or, unwrap_or-slice_get, list_all, slice_get, ArgMatches, first_value, found_of, argument_words, built, label_of, names_of, built_takes, default_passes, is_valid, level_passes, finished, first_of, nothing_held, rows_after, rows_of, walk, with_default, are_positionals, parts, CommandForm, are_options, given, has_option, has_required, value_of, fits, positional, EachName, EachRow, HasRead}
 use Rattle.command_line.specs.Table.{Row as TableRow}
 use Rattle.command_line.proofs.Cutting.{Cut, IsTaken, cut, no_such_option}
 use Rattle.command_line.proofs.Finding.{NameAt, Shows, name_at_the_end, name_shown, option_at_the_end, option_shown}
 use Rattle.command_line.proofs.Pieces.{NoneIn, Optional, Piece, Places, is_row, made}
 use Rattle.command_line.proofs.Walking.{Ends, between, over_pieces}
+
+-- a positional stands at this place, and no option has its name
+abbrev pub Stands : List TableRow → List Text → ℕ → Text → Type 0
+Stands rows names place name = NameAt name names place × (is_row name rows ≡ false) × (place < length names)
 
 -- what clap's command a of a form is, and b, which it is once it is built; found by computing
 pub record IsReadable (f : CommandForm) (a b : App) : Type 0 where
@@ -20,6 +24,7 @@ pub record IsReadable (f : CommandForm) (a b : App) : Type 0 where
   pub all_words : a.top.no_binary_name ≡ true
   pub places : Places b.top.rules f.options 1 f.positionals
   pub options : EachRow (Optional b.top.rules f.positionals) f.options
+  pub names : EachName (Stands f.options f.positionals) 0 f.positionals
   pub defaults : list_all default_passes b.top.rules ≡ true
   pub valid : (rows : List Row) → is_valid b.top rows false ≡ true
 
@@ -29,6 +34,10 @@ get_within xs k lt = slice_get-get_or xs k [] lt ∙ sym (ap Some (unwrap_or-sli
 each_other : (P Q : TableRow → Type 0) → ((row : TableRow) → P row → Q row) → (rows : List TableRow) → EachRow P rows → EachRow Q rows
 each_other P Q f [] each = tt
 each_other P Q f (row ∷ rows) each = (f row each.0, each_other P Q f rows each.1)
+
+each_named : (P Q : ℕ → Text → Type 0) → ((place : ℕ) (name : Text) → P place name → Q place name) → (place : ℕ) (names : List Text) → EachName P place names → EachName Q place names
+each_named P Q f place [] each = tt
+each_named P Q f place (name ∷ names) each = (f place name each.0, each_named P Q f (place + 1) names each.1)
 
 none_in_nothing : (ps : List Piece) → NoneIn [] ps
 none_in_nothing [] = tt
@@ -84,10 +93,10 @@ module _ (f : CommandForm) (a b : App) (words : List Text) (readable : IsReadabl
         options_from rows each.1 now.1,
       )
 
-  pub options_read : EachRow (λ row. first_of row.name (matches_of a words) ≡ Some (value_of row (parts words).options)) f.options
+  options_read : EachRow (λ row. first_of row.name (matches_of a words) ≡ Some (value_of row (parts words).options)) f.options
   options_read = options_from f.options readable.options complete
 
-  pub name_read : (k : ℕ) (n : Text) → NameAt n f.positionals k → is_row n f.options ≡ false → k < length f.positionals
+  name_read : (k : ℕ) (n : Text) → NameAt n f.positionals k → is_row n f.options ≡ false → k < length f.positionals
       → first_of n (matches_of a words) ≡ Some (positional k (parts words))
   name_read k n at apart within =
       let names = and_parts (are_positionals (length f.positionals) (parts words).positionals) _ taken in
@@ -102,12 +111,20 @@ module _ (f : CommandForm) (a b : App) (words : List Text) (readable : IsReadabl
   -- ---- the same of clap's matches
 
   module _ (m : ArgMatches) (rows : rows_of (found_of m) ≡ matches_of a words) where
-    pub options_value : EachRow (λ row. first_value (found_of m) row.name ≡ Some (value_of row (parts words).options)) f.options
+    options_value : EachRow (λ row. first_value (found_of m) row.name ≡ Some (value_of row (parts words).options)) f.options
     options_value =
         each_other (λ row. first_of row.name (matches_of a words) ≡ Some (value_of row (parts words).options))
         (λ row. first_value (found_of m) row.name ≡ Some (value_of row (parts words).options))
         (λ row read. first_value-rows (found_of m) row.name ∙ ap (first_of row.name) rows ∙ read) f.options options_read
 
-    pub name_value : (k : ℕ) (n : Text) → NameAt n f.positionals k → is_row n f.options ≡ false → k < length f.positionals
+    name_value : (k : ℕ) (n : Text) → NameAt n f.positionals k → is_row n f.options ≡ false → k < length f.positionals
         → first_value (found_of m) n ≡ Some (positional k (parts words))
     name_value k n at apart within = first_value-rows (found_of m) n ∙ ap (first_of n) rows ∙ name_read k n at apart within
+
+    pub has_read : HasRead f (parts words) m
+    has_read = record {
+      names =
+          each_named (Stands f.options f.positionals) (λ place name. first_value (found_of m) name ≡ Some (positional place (parts words)))
+          (λ place name stands. name_value place name stands.0 stands.1 stands.2) 0 f.positionals readable.names;
+      options = options_value;
+    }

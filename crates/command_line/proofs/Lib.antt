@@ -12,3 +12,4 @@ mod Finding
 mod Clapping
 mod Readable
 pub mod Ranges
+mod Helped

@@ -9,14 +9,17 @@ pub use Rattle.std.proofs.lemmas.Slice.Eq.{bytes_eq-Decides}
 pub use Rattle.std.specs.Prelude.{String, slice_get, string_bytes}
 pub use Rattle.command_line.specs.Terms.{AllDigits, App, ArgMatches, CommandLine, DefaultValue, Global, Held, IsNumeral, ParsesUnsigned, Rule, Shape, Walk, app_of, arg_by_id, arg_by_index, arg_by_long, argument_words, at_row, before_first, built, built_takes, bytes_eq, default_passes, digit_value, digits_value, filter, find, finished, first_of, first_value, found_of, has_byte, has_long, has_row, idle, is_ascii_digit, is_simple, is_valid, label_of, level_passes, list_all, list_any, long_of_rest, matches_of, more_values, names_of, new_rule, nothing_held, option_map, option_map_or, option_or, reading_by, rows_after, rows_of, rule_of, settle_passes, settled_rows, short_of, slice_index_or, takes, turn_passes, usize_max, walk, with_default, with_rule, without_leading_plus}
 unfoldable pub use Rattle.command_line.specs.Terms.{walk_passes, walked}
+pub use Rattle.command_line.specs.declared.help_words.Help.{Help}
+pub use Rattle.command_line.specs.declared.options.CommandName.{CommandName}
 pub use Rattle.command_line.specs.declared.options.TakesOf.TheVariants.{Name, Number, OneOf}
 pub use Rattle.command_line.specs.declared.parts.Part.TheVariants.{Positional}
 pub use Rattle.command_line.specs.Texts.{Text, is_dashed, is_name, is_numeral, number_of}
 pub use Rattle.command_line.specs.Parts.{Parts, StartsWith, are_positionals, nothing, parts, parts_of, texts_of, with_option, with_positional}
 unfoldable pub use Rattle.command_line.specs.Parts.{parts_behind}
-pub use Rattle.command_line.specs.Table.{CommandForm, Row, Takes, row_read, rows_read}
-unfoldable pub use Rattle.command_line.specs.Table.{conns_row, form_row, frame_row, guard_row, port_row, record_row, report_row}
+pub use Rattle.command_line.specs.Table.{CommandForm, Row, Takes, form_read, row_read, rows_read}
+unfoldable pub use Rattle.command_line.specs.Table.{conns_row, count_row, diagnosis_row, form_row, frame_row, guard_row, port_row, record_row, report_row, seed_row}
 pub use Rattle.command_line.specs.Options.{Options, are_options, default_of, given, has_option, has_required, is_between, is_for, is_taken, number_at, takes_of, value_of}
-pub use Rattle.command_line.specs.Commands.{CommandValue, RunValue, ServeValue, asm, asm_of, command_of, convert, convert_of, fits, form_of, frame_of, guard_of, positional, replay, replay_of, run, run_of, run_shown, serve, serve_of, serve_shown, session_value}
-unfoldable pub use Rattle.command_line.specs.Commands.{asm_form, asm_value, convert_form, convert_value, is_asm, is_convert, is_replay, is_run, is_serve, replay_form, replay_value, run_form, run_value, serve_form, serve_value}
+pub use Rattle.command_line.specs.Commands.{Asks, CommandValue, DiagnoseValue, DrillValue, RunValue, ServeValue, behind_name, command_of, diagnose, drill, every_name, fits, form_named, form_of, frame_of, guard_of, is_of, positional, run, serve, session_value, shown, value_by}
+unfoldable pub use Rattle.command_line.specs.Commands.{asm_form, asm_value, convert_form, convert_value, diagnose_form, diagnose_value, drill_form, drill_value, frame_form, is_asm, is_convert, is_diagnose, is_drill, is_frame, is_replay, is_run, is_serve, is_unframe, name_of, replay_form, replay_value, run_form, run_value, serve_form, serve_value, unframe_form}
 pub use Rattle.command_line.specs.Reading.{EachName, EachRow, HasRead, app_of_form, defaults_of, option_rule}
+pub use Rattle.command_line.specs.Help.{HelpIsNoCommand, help_by, help_by_two, help_named, help_of}

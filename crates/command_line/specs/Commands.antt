@@ -2,7 +2,7 @@
 use Rattle.std.specs.Prelude.{◌≡◌, true, ℕ, ◌&&◌, Bool, not, List, [], ◌∷◌, Option, Some, None, if◌then◌else◌, length, slice_get, unwrap_or}
 use Rattle.msg_frame.specs.declared.framing.Framing.{Framing}
 use Rattle.msg_frame.specs.declared.framing.Framing.TheVariants.{Line, Length, Whole}
-use Rattle.command_line.specs.Terms.{bytes_eq}
+use Rattle.command_line.specs.Terms.{find, bytes_eq}
 use Rattle.command_line.specs.Texts.{Text, number_of}
 use Rattle.command_line.specs.Parts.{Parts, are_positionals, parts, parts_of}
 use Rattle.command_line.specs.Options.{are_options, has_required, number_at, takes_of, value_of}
@@ -11,10 +11,11 @@ use Rattle.command_line.specs.declared.run_words.Form.TheVariants as form
 use Rattle.command_line.specs.declared.run_words.Guard.{Guard}
 use Rattle.command_line.specs.declared.run_words.Guard.TheVariants as guarded
 use Rattle.command_line.specs.declared.command.Command.{Command}
-use Rattle.command_line.specs.declared.command.Command.TheVariants.{Run, Asm, Replay, Convert, Serve}
+use Rattle.command_line.specs.declared.command.Command.TheVariants.{Run, Asm, Replay, Convert, Serve, Diagnose, Drill, Frame, Unframe}
 use Rattle.command_line.specs.declared.run_words.RunCommand.{RunCommand}
 use Rattle.command_line.specs.declared.command.Asked.{Asked}
-use Rattle.command_line.specs.declared.command.Asked.TheVariants as asked
+use Rattle.command_line.specs.declared.options.CommandName.{CommandName}
+use Rattle.command_line.specs.declared.options.CommandName.TheVariants as named
 use Rattle.command_line.specs.declared.asm_words.AsmCommand.{AsmCommand}
 use Rattle.command_line.specs.declared.asm_words.TheConstants as asm_table
 use Rattle.command_line.specs.declared.replay_words.ReplayCommand.{ReplayCommand}
@@ -23,8 +24,13 @@ use Rattle.command_line.specs.declared.convert_words.ConvertCommand.{ConvertComm
 use Rattle.command_line.specs.declared.convert_words.TheConstants as convert_table
 use Rattle.command_line.specs.declared.serve_words.ServeCommand.{ServeCommand}
 use Rattle.command_line.specs.declared.serve_words.TheConstants as serve_table
+use Rattle.command_line.specs.declared.diagnose_words.DiagnoseCommand.{DiagnoseCommand}
+use Rattle.command_line.specs.declared.diagnose_words.TheConstants as diagnose_table
+use Rattle.command_line.specs.declared.drill_words.DrillCommand.{DrillCommand}
+use Rattle.command_line.specs.declared.drill_words.TheConstants as drill_table
+use Rattle.command_line.specs.declared.frame_words.TheConstants as frame_table
 use Rattle.command_line.specs.declared.run_words.TheConstants as table
-use Rattle.command_line.specs.Table.{CommandForm, Row, static_row, static_form, record_row, report_row, form_row, frame_row, guard_row, port_row, conns_row}
+use Rattle.command_line.specs.Table.{CommandForm, Row, static_row, static_form, record_row, report_row, form_row, frame_row, guard_row, diagnosis_row, port_row, conns_row, seed_row, count_row}
 
 -- what a session of a program is asked for
 pub record RunValue : Type 0 where
@@ -63,6 +69,17 @@ pub record ServeValue : Type 0 where
   pub port : ℕ
   pub conns : ℕ
   pub patience : ℕ
+  pub at_once : ℕ
+
+-- what a session with a diagnosis is asked for
+pub record DiagnoseValue : Type 0 where
+  pub session : RunValue
+  pub diagnosis : Text
+
+-- what a generated session is asked for
+pub record DrillValue : Type 0 where
+  pub seed : ℕ
+  pub count : ℕ
 
 -- a command with its names and numbers
 pub data CommandValue : Type 0 where
@@ -71,6 +88,10 @@ pub data CommandValue : Type 0 where
   replay : ReplayValue → CommandValue
   convert : ConvertValue → CommandValue
   serve : ServeValue → CommandValue
+  diagnose : DiagnoseValue → CommandValue
+  drill : DrillValue → CommandValue
+  frame : CommandValue
+  unframe : CommandValue
 
 -- the name, the positionals and the options of each command
 unfoldable pub run_form : CommandForm
@@ -87,6 +108,18 @@ convert_form = static_form convert_table.CONVERT
 
 unfoldable pub serve_form : CommandForm
 serve_form = static_form serve_table.SERVE
+
+unfoldable pub diagnose_form : CommandForm
+diagnose_form = static_form diagnose_table.DIAGNOSE
+
+unfoldable pub drill_form : CommandForm
+drill_form = static_form drill_table.DRILL
+
+unfoldable pub frame_form : CommandForm
+frame_form = static_form frame_table.FRAME_LINES
+
+unfoldable pub unframe_form : CommandForm
+unframe_form = static_form frame_table.UNFRAME
 
 -- the positionals are as many as the command has, all of them names, and the options are of its rows, each at most once,
 -- those without a default present
@@ -186,6 +219,7 @@ serve_value p = record {
   port = number_there 1 p;
   conns = number_there 2 p;
   patience = number_at (static_row serve_table.PATIENCE) p.options;
+  at_once = number_at (static_row serve_table.AT_ONCE) p.options;
 }
 
 -- the numbers of `serve`, each with its row: two are positionals, the others are options
@@ -199,35 +233,101 @@ serve_numbers value =
     ∷ (static_row table.FRAMES, value.session.frames)
     ∷ (static_row table.BUDGET, value.session.budget)
     ∷ (static_row serve_table.PATIENCE, value.patience)
+    ∷ (static_row serve_table.AT_ONCE, value.at_once)
     ∷ []
 
 -- the words are those of `serve`: behind the program stand a port and a number of connections, and its names are three different texts
 unfoldable pub is_serve : Parts → Bool
 is_serve p = fits serve_form p && (takes_of port_row.takes (positional 1 p) && (takes_of conns_row.takes (positional 2 p) && have_names p))
 
-abbrev pub run_of : Parts → Option CommandValue
-run_of p = if is_run p then Some (run (run_value p)) else None
+-- a text is none of three others
+abbrev pub is_fourth : Text → Text → Text → Text → Bool
+is_fourth first second third fourth = not (bytes_eq first fourth) && (not (bytes_eq second fourth) && not (bytes_eq third fourth))
 
-abbrev pub asm_of : Parts → Option CommandValue
-asm_of p = if is_asm p then Some (asm (asm_value p)) else None
+-- the diagnosis has another name than the program, the record and the report
+abbrev pub has_fourth : Parts → Bool
+has_fourth p = is_fourth (positional 0 p) (value_of record_row p.options) (value_of report_row p.options) (value_of diagnosis_row p.options)
 
-abbrev pub replay_of : Parts → Option CommandValue
-replay_of p = if is_replay p then Some (replay (replay_value p)) else None
+-- the names and numbers of `diagnose`: those of a `run`, and the name of the diagnosis
+unfoldable pub diagnose_value : Parts → DiagnoseValue
+diagnose_value p = record { session = session_value (number_at (static_row table.HOLD) p.options) p; diagnosis = value_of diagnosis_row p.options }
 
-abbrev pub convert_of : Parts → Option CommandValue
-convert_of p = if is_convert p then Some (convert (convert_value p)) else None
+-- the words are those of `diagnose`: its names are four different texts
+unfoldable pub is_diagnose : Parts → Bool
+is_diagnose p = fits diagnose_form p && (have_names p && has_fourth p)
 
-abbrev pub serve_of : Parts → Option CommandValue
-serve_of p = if is_serve p then Some (serve (serve_value p)) else None
+-- the numbers of `drill`
+unfoldable pub drill_value : Parts → DrillValue
+drill_value p = record { seed = number_there 0 p; count = number_there 1 p }
+
+-- the same, each with its row
+abbrev pub drill_numbers : DrillValue → List (Row × ℕ)
+drill_numbers value = (seed_row, value.seed) ∷ (count_row, value.count) ∷ []
+
+-- the words are those of `drill`: a seed and a number of messages
+unfoldable pub is_drill : Parts → Bool
+is_drill p = fits drill_form p && (takes_of seed_row.takes (positional 0 p) && takes_of count_row.takes (positional 1 p))
+
+-- `frame` and `unframe` have no words
+unfoldable pub is_frame : Parts → Bool
+is_frame p = fits frame_form p
+
+unfoldable pub is_unframe : Parts → Bool
+is_unframe p = fits unframe_form p
+
+-- the form of each command
+abbrev pub form_named : CommandName → CommandForm
+form_named named.Run = run_form
+form_named named.Asm = asm_form
+form_named named.Replay = replay_form
+form_named named.Convert = convert_form
+form_named named.Serve = serve_form
+form_named named.Diagnose = diagnose_form
+form_named named.Drill = drill_form
+form_named named.Frame = frame_form
+form_named named.Unframe = unframe_form
+
+-- the commands, in the order of the table
+abbrev pub every_name : List CommandName
+every_name = named.Run ∷ named.Asm ∷ named.Replay ∷ named.Convert ∷ named.Serve ∷ named.Diagnose ∷ named.Drill ∷ named.Frame ∷ named.Unframe ∷ []
+
+-- the command whose name is this word
+unfoldable pub name_of : Text → Option CommandName
+name_of word = find (λ name. bytes_eq (form_named name).name word) every_name
+
+-- the words with these parts are those behind the name of this command
+abbrev pub is_of : CommandName → Parts → Bool
+is_of named.Run p = is_run p
+is_of named.Asm p = is_asm p
+is_of named.Replay p = is_replay p
+is_of named.Convert p = is_convert p
+is_of named.Serve p = is_serve p
+is_of named.Diagnose p = is_diagnose p
+is_of named.Drill p = is_drill p
+is_of named.Frame p = is_frame p
+is_of named.Unframe p = is_unframe p
+
+-- the command of this name with the names and numbers of these parts
+abbrev pub value_by : CommandName → Parts → CommandValue
+value_by named.Run p = run (run_value p)
+value_by named.Asm p = asm (asm_value p)
+value_by named.Replay p = replay (replay_value p)
+value_by named.Convert p = convert (convert_value p)
+value_by named.Serve p = serve (serve_value p)
+value_by named.Diagnose p = diagnose (diagnose_value p)
+value_by named.Drill p = drill (drill_value p)
+value_by named.Frame p = frame
+value_by named.Unframe p = unframe
+
+-- the command of a name, if there is one and these are the parts of its words
+abbrev pub behind_name : Option CommandName → Parts → Option CommandValue
+behind_name None p = None
+behind_name (Some name) p = if is_of name p then Some (value_by name p) else None
 
 -- the command that the words behind the program's own name ask for: the first of them says which it is
 abbrev pub command_of : List Text → Option CommandValue
 command_of [] = None
-command_of (word ∷ rest) =
-    if bytes_eq word run_form.name then run_of (parts rest)
-    else (if bytes_eq word asm_form.name then asm_of (parts rest)
-    else (if bytes_eq word replay_form.name then replay_of (parts rest)
-    else (if bytes_eq word convert_form.name then convert_of (parts rest) else (if bytes_eq word serve_form.name then serve_of (parts rest) else None))))
+command_of (word ∷ rest) = behind_name (name_of word) (parts rest)
 
 -- a command of the code, as the value that definitions speak of
 abbrev pub run_shown : RunCommand → RunValue
@@ -256,7 +356,13 @@ abbrev pub convert_shown : ConvertCommand → ConvertValue
 convert_shown c = record { program = c.program.now; recording = c.recording.now; out = c.out.now }
 
 abbrev pub serve_shown : ServeCommand → ServeValue
-serve_shown c = record { session = run_shown c.session; port = c.port; conns = c.conns; patience = c.patience }
+serve_shown c = record { session = run_shown c.session; port = c.port; conns = c.conns; patience = c.patience; at_once = c.at_once }
+
+abbrev pub diagnose_shown : DiagnoseCommand → DiagnoseValue
+diagnose_shown c = record { session = run_shown c.session; diagnosis = c.diagnosis.now }
+
+abbrev pub drill_shown : DrillCommand → DrillValue
+drill_shown c = record { seed = c.seed; count = c.count }
 
 abbrev pub shown : Command → CommandValue
 shown (Run c) = run (run_shown c)
@@ -264,11 +370,12 @@ shown (Asm c) = asm (asm_shown c)
 shown (Replay c) = replay (replay_shown c)
 shown (Convert c) = convert (convert_shown c)
 shown (Serve c) = serve (serve_shown c)
+shown (Diagnose c) = diagnose (diagnose_shown c)
+shown (Drill c) = drill (drill_shown c)
+shown Frame = frame
+shown Unframe = unframe
 
 -- the words ask for this command, and these stand behind its name
-abbrev pub Asks : List Text → Asked → Type 0
-Asks words (asked.Run rest) = (is_run (parts_of rest.now) ≡ true) × (command_of words ≡ Some (run (run_value (parts_of rest.now))))
-Asks words (asked.Asm rest) = (is_asm (parts_of rest.now) ≡ true) × (command_of words ≡ Some (asm (asm_value (parts_of rest.now))))
-Asks words (asked.Replay rest) = (is_replay (parts_of rest.now) ≡ true) × (command_of words ≡ Some (replay (replay_value (parts_of rest.now))))
-Asks words (asked.Convert rest) = (is_convert (parts_of rest.now) ≡ true) × (command_of words ≡ Some (convert (convert_value (parts_of rest.now))))
-Asks words (asked.Serve rest) = (is_serve (parts_of rest.now) ≡ true) × (command_of words ≡ Some (serve (serve_value (parts_of rest.now))))
+pub record Asks (words : List Text) (asked : Asked) : Type 0 where
+  pub taken : is_of asked.name (parts_of asked.behind.now) ≡ true
+  pub value : command_of words ≡ Some (value_by asked.name (parts_of asked.behind.now))

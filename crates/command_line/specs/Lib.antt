@@ -6,3 +6,4 @@ pub mod Options
 pub mod Commands
 pub mod Reading
 pub mod Ranges
+pub mod Help

@@ -2,8 +2,8 @@
 use Rattle.std.specs.Prelude.{◌≡◌, ℕ, ◌≤◌, Bool, true, false, List, [], ◌∷◌, Some, filter, map}
 use Rattle.command_line.specs.declared.options.TakesOf.TheVariants.{Name, OneOf, Number}
 use Rattle.command_line.specs.Texts.{Text}
-use Rattle.command_line.specs.Table.{Row, Takes, conns_row, port_row}
-use Rattle.command_line.specs.Commands.{CommandValue, RunValue, ServeValue, command_of, numbers, run, run_form, serve, serve_form, serve_numbers}
+use Rattle.command_line.specs.Table.{Row, Takes, conns_row, count_row, port_row, seed_row}
+use Rattle.command_line.specs.Commands.{CommandValue, DiagnoseValue, DrillValue, RunValue, ServeValue, command_of, diagnose, diagnose_form, drill, drill_form, drill_numbers, numbers, run, run_form, serve, serve_form, serve_numbers}
 
 -- a row takes numbers
 abbrev pub takes_numbers : Takes → Bool
@@ -26,10 +26,13 @@ EachInRange (number ∷ rest) = IsInRange number.0.takes number.1 × EachInRange
 abbrev pub AreInRange : RunValue → Type 0
 AreInRange value = EachInRange (numbers value)
 
--- the numbers of a command are in the ranges of their rows, and the session of `serve` holds nothing; the others have no numbers
+-- the numbers of a command are in the ranges of their rows, and the session of `serve` holds nothing; those of `diagnose` are those of its `run`; the
+-- others have no numbers
 abbrev pub HasRanges : CommandValue → Type 0
 HasRanges (run value) = AreInRange value
 HasRanges (serve value) = EachInRange (serve_numbers value) × (value.session.hold ≡ 0)
+HasRanges (diagnose value) = AreInRange value.session
+HasRanges (drill value) = EachInRange (drill_numbers value)
 HasRanges _ = Unit {0}
 
 -- so has each command that words ask for
@@ -47,3 +50,5 @@ abbrev pub NumbersOf : Type 0
 NumbersOf =
     ((value : RunValue) → rows_among (numbers value) ≡ numeric run_form.options)
     × ((value : ServeValue) → rows_among (serve_numbers value) ≡ port_row ∷ conns_row ∷ numeric serve_form.options)
+    × ((value : DiagnoseValue) → rows_among (numbers value.session) ≡ numeric diagnose_form.options)
+    × ((value : DrillValue) → rows_among (drill_numbers value) ≡ seed_row ∷ count_row ∷ numeric drill_form.options)

@@ -8,16 +8,18 @@ use Rattle.command_line.specs.declared.options.TakesOf.{TakesOf}
 use Rattle.command_line.specs.declared.options.TakesOf.TheVariants.{Name, OneOf, Number}
 use Rattle.command_line.specs.declared.run_words.TheConstants as table
 use Rattle.command_line.specs.declared.serve_words.TheConstants as serve_table
+use Rattle.command_line.specs.declared.diagnose_words.TheConstants as diagnose_table
+use Rattle.command_line.specs.declared.drill_words.TheConstants as drill_table
 
--- what an option takes, a row of the table, and a command with its rows
+-- What an option takes, a row of the table, and a command with its rows. What they say to a person is no part of them.
 abbrev pub Takes : Type 0
 Takes = TakesOf (List Text)
 
 abbrev pub Row : Type 0
-Row = RowOf Text (List Text)
+Row = RowOf Text (List Text) (Unit {0})
 
 abbrev pub CommandForm : Type 0
-CommandForm = CommandOf Text (List Text) (List Row)
+CommandForm = CommandOf Text (List Text) (List Row) (Unit {0})
 
 -- ---- the same with the code's references read
 
@@ -26,8 +28,8 @@ takes_by texts Name = Name
 takes_by texts (OneOf x) = OneOf (texts x)
 takes_by texts (Number least most) = Number least most
 
-abbrev pub row_by : {A B : Type 0} → (A → Text) → (B → List Text) → RowOf A B → Row
-row_by text texts row = record { name = text row.name; takes = takes_by texts row.takes; default = option_map text row.default }
+abbrev pub row_by : {A B C : Type 0} → (A → Text) → (B → List Text) → RowOf A B C → Row
+row_by text texts row = record { name = text row.name; takes = takes_by texts row.takes; default = option_map text row.default; says = tt }
 
 abbrev pub Texts : Type 0
 Texts = Bor (List (Bor Text))
@@ -38,14 +40,17 @@ texts_read texts = map (λ text. text.now) texts.now
 abbrev pub takes_read : TakesOf Texts → Takes
 takes_read takes = takes_by texts_read takes
 
-abbrev pub row_read : RowOf (Bor Text) Texts → Row
+abbrev pub TextRow : Type 0
+TextRow = RowOf (Bor Text) Texts (Bor Text)
+
+abbrev pub row_read : TextRow → Row
 row_read row = row_by (λ text. text.now) texts_read row
 
-abbrev pub rows_read : List (RowOf (Bor Text) Texts) → List Row
+abbrev pub rows_read : List TextRow → List Row
 rows_read rows = map row_read rows
 
-abbrev pub form_read : CommandOf (Bor Text) Texts (Bor (List (RowOf (Bor Text) Texts))) → CommandForm
-form_read command = record { name = command.name.now; positionals = texts_read command.positionals; options = rows_read command.options.now }
+abbrev pub form_read : CommandOf (Bor Text) Texts (Bor (List TextRow)) (Bor Text) → CommandForm
+form_read command = record { which = command.which; name = command.name.now; positionals = texts_read command.positionals; options = rows_read command.options.now; says = tt }
 
 -- ---- the table's own rows
 
@@ -56,7 +61,7 @@ abbrev pub StaticTexts : Type 0
 StaticTexts = record { now : List StaticText }
 
 abbrev pub StaticRow : Type 0
-StaticRow = RowOf StaticText StaticTexts
+StaticRow = RowOf StaticText StaticTexts StaticText
 
 abbrev pub static_texts : StaticTexts → List Text
 static_texts texts = map (λ text. text.now) texts.now
@@ -64,8 +69,8 @@ static_texts texts = map (λ text. text.now) texts.now
 abbrev pub static_row : StaticRow → Row
 static_row row = row_by (λ text. text.now) static_texts row
 
-abbrev pub static_form : CommandOf StaticText StaticTexts (record { now : List StaticRow }) → CommandForm
-static_form command = record { name = command.name.now; positionals = static_texts command.positionals; options = map static_row command.options.now }
+abbrev pub static_form : CommandOf StaticText StaticTexts (record { now : List StaticRow }) StaticText → CommandForm
+static_form command = record { which = command.which; name = command.name.now; positionals = static_texts command.positionals; options = map static_row command.options.now; says = tt }
 
 unfoldable pub record_row : Row
 record_row = static_row table.RECORD
@@ -82,8 +87,17 @@ frame_row = static_row table.FRAME
 unfoldable pub guard_row : Row
 guard_row = static_row table.GUARD
 
+unfoldable pub diagnosis_row : Row
+diagnosis_row = static_row diagnose_table.DIAGNOSIS
+
 unfoldable pub port_row : Row
 port_row = static_row serve_table.PORT
 
 unfoldable pub conns_row : Row
 conns_row = static_row serve_table.CONNS
+
+unfoldable pub seed_row : Row
+seed_row = static_row drill_table.SEED
+
+unfoldable pub count_row : Row
+count_row = static_row drill_table.COUNT

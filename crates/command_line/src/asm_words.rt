@@ -8,7 +8,7 @@ ghost use Rattle.command_line.specs.Reading.{HasRead};
 
 use crate::accepted::{have_form, name_at};
 use crate::matching::{out_of_memory, parser, value_in};
-use crate::options::{CommandOf, CommandRow, OptionRow};
+use crate::options::{CommandName, CommandOf, CommandRow, OptionRow};
 use clap::{ArgMatches, Error};
 use std::alloc::{AllocError, Global};
 
@@ -20,14 +20,13 @@ pub const OUT: &str = "OUT";
 /// The options of `asm`.
 pub const ASM_OPTIONS: [OptionRow; 0] = [];
 
-// The name of the command that assembles.
-pub(crate) const ASM_NAME: &str = "asm";
-
 /// Assembles a program.
 pub const ASM: CommandRow = CommandOf {
-    name: ASM_NAME,
+    which: CommandName::Asm,
+    name: "asm",
     positionals: &[SOURCE, OUT],
     options: &ASM_OPTIONS,
+    says: "Assembles a text, and writes its executable.",
 };
 
 /// An assembly: the names of its source and of what it writes, not alike.

@@ -1,23 +1,36 @@
 // The commands, and the one that the words ask for.
-ghost use Rattle.std.specs.Prelude.{◌≡◌, Ok, None, IfOk, IfSome, MatchOption, is_some, option_map};
-ghost use Rattle.command_line.specs.Parts.{texts_of};
-ghost use Rattle.command_line.specs.Commands.{Asks, asm_form, command_of, convert_form, replay_form, run_form, serve_form, shown};
+ghost use Rattle.std.specs.Prelude.{◌≡◌, true, Ok, None, IfOk, IfSome, MatchOption, find, is_some, map, option_map};
+ghost use Rattle.std.specs.Str.{bytes_eq};
+ghost use Rattle.command_line.specs.Parts.{parts_of, texts_of};
+ghost use Rattle.command_line.specs.Table.{form_read};
+ghost use Rattle.command_line.specs.Commands.{Asks, command_of, is_of, name_of, shown, value_by};
 ghost use Rattle.command_line.specs.Ranges.{HasRanges};
 
-use crate::asm_words::{ASM, ASM_NAME, AsmCommand, are_asm_words, asm_command};
-use crate::convert_words::{
-    CONVERT, CONVERT_NAME, ConvertCommand, are_convert_words, convert_command,
-};
-use crate::options::CommandRow;
-use crate::replay_words::{REPLAY, REPLAY_NAME, ReplayCommand, are_replay_words, replay_command};
-use crate::run_words::{RUN, RUN_NAME, RunCommand, are_run_words, run_command};
-use crate::serve_words::{SERVE, SERVE_NAME, ServeCommand, are_serve_words, serve_command};
+use crate::asm_words::{ASM, AsmCommand, are_asm_words, asm_command};
+use crate::convert_words::{CONVERT, ConvertCommand, are_convert_words, convert_command};
+use crate::diagnose_words::{DIAGNOSE, DiagnoseCommand, are_diagnose_words, diagnose_command};
+use crate::drill_words::{DRILL, DrillCommand, are_drill_words, drill_command};
+use crate::frame_words::{FRAME_LINES, UNFRAME, are_frame_words, are_unframe_words};
+use crate::options::{CommandName, CommandRow};
+use crate::replay_words::{REPLAY, ReplayCommand, are_replay_words, replay_command};
+use crate::run_words::{RUN, RunCommand, are_run_words, run_command};
+use crate::serve_words::{SERVE, ServeCommand, are_serve_words, serve_command};
 use std::alloc::{AllocError, Global};
 
 /// The commands.
-pub const COMMANDS: [CommandRow; 5] = [RUN, ASM, REPLAY, CONVERT, SERVE];
+pub const COMMANDS: [CommandRow; 9] = [
+    RUN,
+    ASM,
+    REPLAY,
+    CONVERT,
+    SERVE,
+    DIAGNOSE,
+    DRILL,
+    FRAME_LINES,
+    UNFRAME,
+];
 
-static ALL: [CommandRow; 5] = COMMANDS;
+static ALL: [CommandRow; 9] = COMMANDS;
 
 // The commands, as the sentences about them want them.
 pub(crate) fn commands() -> &'static [CommandRow] {
@@ -32,56 +45,71 @@ pub enum Command<'a> {
     Replay(ReplayCommand<'a>),
     Convert(ConvertCommand<'a>),
     Serve(ServeCommand<'a>),
+    Diagnose(DiagnoseCommand<'a>),
+    Drill(DrillCommand),
+    /// Lines into frames.
+    Frame,
+    /// Frames into lines.
+    Unframe,
 }
 
-/// Which command the words ask for, with the words behind its name.
+/// Which command the words ask for, and the words behind its name.
 #[derive(Clone, Copy)]
-pub enum Asked<'a> {
-    Run(&'a [String]),
-    Asm(&'a [String]),
-    Replay(&'a [String]),
-    Convert(&'a [String]),
-    Serve(&'a [String]),
+pub struct Asked<'a> {
+    pub name: CommandName,
+    pub behind: &'a [String],
 }
 
-/// The command that the words ask for, if they are those of one.
-pub(crate) fn find_command<'a>(words: &'a [String]) -> Option<Asked<'a>>
-    ensures { MatchOption result (command_of (texts_of words.now) ≡ None) (λ found. Asks (texts_of words.now) found) }
+// Which command the first of these rows with this name is of.
+fn name_among(rows: &[CommandRow], word: &str) -> Option<CommandName>
+    ensures { result ≡ option_map (λ form. form.which) (find (λ form. bytes_eq form.name word.now) (map form_read rows.now)) }
 {
-    let [command, rest @ ..] = words else {
-        return None;
-    };
-    if command.as_str() == RUN_NAME {
-        if !are_run_words(rest) {
-            return None;
+    for row in rows {
+        if row.name == word {
+            return Some(row.which);
         }
-        return Some(Asked::Run(rest));
-    }
-    if command.as_str() == ASM_NAME {
-        if !are_asm_words(rest) {
-            return None;
-        }
-        return Some(Asked::Asm(rest));
-    }
-    if command.as_str() == REPLAY_NAME {
-        if !are_replay_words(rest) {
-            return None;
-        }
-        return Some(Asked::Replay(rest));
-    }
-    if command.as_str() == CONVERT_NAME {
-        if !are_convert_words(rest) {
-            return None;
-        }
-        return Some(Asked::Convert(rest));
-    }
-    if command.as_str() == SERVE_NAME {
-        if !are_serve_words(rest) {
-            return None;
-        }
-        return Some(Asked::Serve(rest));
     }
     None
+}
+
+/// The command of this name.
+pub fn name_of(word: &str) -> Option<CommandName>
+    ensures { result ≡ name_of word.now }
+{
+    name_among(&COMMANDS, word)
+}
+
+// Whether these are the words behind the name of a command.
+fn are_words_of(name: CommandName, words: &[String]) -> bool
+    ensures { result ≡ is_of name (parts_of words.now) }
+{
+    match name {
+        CommandName::Run => are_run_words(words),
+        CommandName::Asm => are_asm_words(words),
+        CommandName::Replay => are_replay_words(words),
+        CommandName::Convert => are_convert_words(words),
+        CommandName::Serve => are_serve_words(words),
+        CommandName::Diagnose => are_diagnose_words(words),
+        CommandName::Drill => are_drill_words(words),
+        CommandName::Frame => are_frame_words(words),
+        CommandName::Unframe => are_unframe_words(words),
+    }
+}
+
+// The command that the words ask for, if they are those of one.
+fn find_command<'a>(words: &'a [String]) -> Option<Asked<'a>>
+    ensures { MatchOption result (command_of (texts_of words.now) ≡ None) (λ asked. Asks (texts_of words.now) asked) }
+{
+    let [word, behind @ ..] = words else {
+        return None;
+    };
+    let Some(name) = name_of(word.as_str()) else {
+        return None;
+    };
+    if !are_words_of(name, behind) {
+        return None;
+    }
+    Some(Asked { name, behind })
 }
 
 /// Whether the words behind the program's own name are those of a command.
@@ -90,11 +118,29 @@ pub fn is_command(words: &[String]) -> bool
 {
     match find_command(words) {
         None => false,
-        Some(Asked::Run(_)) => true,
-        Some(Asked::Asm(_)) => true,
-        Some(Asked::Replay(_)) => true,
-        Some(Asked::Convert(_)) => true,
-        Some(Asked::Serve(_)) => true,
+        Some(_) => true,
+    }
+}
+
+// The command of this name, by the words behind it.
+fn command_by<'a>(
+    alloc: Global,
+    name: CommandName,
+    words: &'a [String],
+) -> Result<Command<'a>, AllocError>
+    requires { is_of name (parts_of words.now) ≡ true }
+    ensures { IfOk result (λ command. shown command ≡ value_by name (parts_of words.now)) }
+{
+    match name {
+        CommandName::Run => Ok(Command::Run(run_command(alloc, words)?)),
+        CommandName::Asm => Ok(Command::Asm(asm_command(alloc, words)?)),
+        CommandName::Replay => Ok(Command::Replay(replay_command(alloc, words)?)),
+        CommandName::Convert => Ok(Command::Convert(convert_command(alloc, words)?)),
+        CommandName::Serve => Ok(Command::Serve(serve_command(alloc, words)?)),
+        CommandName::Diagnose => Ok(Command::Diagnose(diagnose_command(alloc, words)?)),
+        CommandName::Drill => Ok(Command::Drill(drill_command(alloc, words)?)),
+        CommandName::Frame => Ok(Command::Frame),
+        CommandName::Unframe => Ok(Command::Unframe),
     }
 }
 
@@ -110,24 +156,8 @@ pub fn read_command<'a>(
 {
     match find_command(words) {
         None => Ok(None),
-        Some(Asked::Run(rest)) => match run_command(alloc, rest) {
-            Ok(run) => Ok(Some(Command::Run(run))),
-            Err(error) => Err(error),
-        },
-        Some(Asked::Asm(rest)) => match asm_command(alloc, rest) {
-            Ok(asm) => Ok(Some(Command::Asm(asm))),
-            Err(error) => Err(error),
-        },
-        Some(Asked::Replay(rest)) => match replay_command(alloc, rest) {
-            Ok(replay) => Ok(Some(Command::Replay(replay))),
-            Err(error) => Err(error),
-        },
-        Some(Asked::Convert(rest)) => match convert_command(alloc, rest) {
-            Ok(convert) => Ok(Some(Command::Convert(convert))),
-            Err(error) => Err(error),
-        },
-        Some(Asked::Serve(rest)) => match serve_command(alloc, rest) {
-            Ok(serve) => Ok(Some(Command::Serve(serve))),
+        Some(asked) => match command_by(alloc, asked.name, asked.behind) {
+            Ok(command) => Ok(Some(command)),
             Err(error) => Err(error),
         },
     }

@@ -9,7 +9,7 @@ ghost use Rattle.command_line.specs.Reading.{HasRead};
 use crate::accepted::{have_form, name_at};
 use crate::asm_words::OUT;
 use crate::matching::{out_of_memory, parser, value_in};
-use crate::options::{CommandOf, CommandRow, OptionRow};
+use crate::options::{CommandName, CommandOf, CommandRow, OptionRow};
 use crate::replay_words::RECORDED;
 use crate::run_words::PROGRAM;
 use clap::{ArgMatches, Error};
@@ -18,14 +18,13 @@ use std::alloc::{AllocError, Global};
 /// The options of `convert`.
 pub const CONVERT_OPTIONS: [OptionRow; 0] = [];
 
-// The name of the command that converts.
-pub(crate) const CONVERT_NAME: &str = "convert";
-
 /// Converts a record.
 pub const CONVERT: CommandRow = CommandOf {
-    name: CONVERT_NAME,
+    which: CommandName::Convert,
+    name: "convert",
     positionals: &[PROGRAM, RECORDED, OUT],
     options: &CONVERT_OPTIONS,
+    says: "Runs a recorded session again, and writes its record in the newest version.",
 };
 
 /// A conversion: the names of the program, of its record, and of what is written. The last two aren't alike.

@@ -2,17 +2,22 @@
 //!
 //! One table tells each option with its values and its default.
 //! Values and defaults are read by `clap`. That it has no fault at words that `is_command` takes is proved.
-//! `complaint`, `range_of` and `usage` are sentences for a person, and have no clause.
+//! `complaint`, `range_of`, `usage` and `help_text` are sentences for a person, and have no clause.
 #![tactic(auto)]
 
 mod accepted;
 mod asm_words;
 mod command;
 mod convert_words;
+mod diagnose_words;
+mod drill_words;
+mod frame_words;
+mod help_words;
 mod laws;
 mod matching;
 mod options;
 mod parts;
+mod positionals;
 mod replay_words;
 mod run_words;
 mod serve_words;
@@ -20,10 +25,17 @@ mod texts;
 mod wording;
 
 pub use asm_words::{ASM, ASM_OPTIONS, AsmCommand};
-pub use command::{COMMANDS, Command, is_command, read_command};
+pub use command::{COMMANDS, Command, is_command, name_of, read_command};
 pub use convert_words::{CONVERT, CONVERT_OPTIONS, ConvertCommand};
-pub use laws::{numbers_of, ranges_of};
-pub use options::{CommandOf, CommandRow, OptionRow, RowOf, Takes, TakesOf, takes_value};
+pub use diagnose_words::{DIAGNOSE, DIAGNOSE_OPTIONS, DiagnoseCommand};
+pub use drill_words::{DRILL, DRILL_NUMBERS, DRILL_OPTIONS, DrillCommand};
+pub use frame_words::{FRAME_LINES, NO_NAMES, NO_OPTIONS, UNFRAME};
+pub use help_words::{Help, asked_help, help_text};
+pub use laws::{help_is_no_command, numbers_of, ranges_of};
+pub use options::{
+    CommandName, CommandOf, CommandRow, OptionRow, RowOf, Takes, TakesOf, takes_value,
+};
+pub use positionals::POSITIONALS;
 pub use replay_words::{REPLAY, REPLAY_OPTIONS, ReplayCommand};
 pub use run_words::{Form, Guard, RUN, RUN_OPTIONS, RunCommand};
 pub use serve_words::{SERVE, SERVE_NUMBERS, SERVE_OPTIONS, ServeCommand};

@@ -22,28 +22,53 @@ pub enum TakesOf<Texts> {
 /// What the value of an option may be.
 pub type Takes = TakesOf<&'static [&'static str]>;
 
-/// A row of the table: an option, without its two dashes.
+/// A row of the table: an option, without its two dashes. What it says to a person is of a type of its own, since the form of a
+/// command is without it.
 #[derive(Clone, Copy, Debug)]
-pub struct RowOf<Text, Texts> {
+pub struct RowOf<Text, Texts, Says> {
     pub name: Text,
     pub takes: TakesOf<Texts>,
     /// The value where the option isn't given. `None`: it has to be.
     pub default: Option<Text>,
+    /// A sentence for a person, of at most 100 characters.
+    pub says: Says,
 }
 
 /// A row of the table: an option, without its two dashes.
-pub type OptionRow = RowOf<&'static str, &'static [&'static str]>;
+pub type OptionRow = RowOf<&'static str, &'static [&'static str], &'static str>;
 
-/// A command with its positionals, in their order, and its options.
-#[derive(Clone, Copy, Debug)]
-pub struct CommandOf<Text, Texts, Rows> {
-    pub name: Text,
-    pub positionals: Texts,
-    pub options: Rows,
+/// Which command a row is of.
+#[derive(Clone, Copy, Debug, PartialEq, Eq)]
+pub enum CommandName {
+    Run,
+    Asm,
+    Replay,
+    Convert,
+    Serve,
+    Diagnose,
+    Drill,
+    Frame,
+    Unframe,
 }
 
 /// A command with its positionals, in their order, and its options.
-pub type CommandRow = CommandOf<&'static str, &'static [&'static str], &'static [OptionRow]>;
+#[derive(Clone, Copy, Debug)]
+pub struct CommandOf<Text, Texts, Rows, Says> {
+    pub which: CommandName,
+    pub name: Text,
+    pub positionals: Texts,
+    pub options: Rows,
+    /// A sentence for a person, of at most 100 characters.
+    pub says: Says,
+}
+
+/// A command with its positionals, in their order, and its options.
+pub type CommandRow = CommandOf<
+    &'static str,
+    &'static [&'static str],
+    &'static [OptionRow],
+    &'static str,
+>;
 
 // Whether a text is one of these.
 fn is_one_of(texts: &[&str], value: &str) -> bool

@@ -8,7 +8,7 @@ ghost use Rattle.command_line.specs.Reading.{HasRead};
 
 use crate::accepted::have_form;
 use crate::matching::{out_of_memory, parser, value_in};
-use crate::options::{CommandOf, CommandRow, OptionRow};
+use crate::options::{CommandName, CommandOf, CommandRow, OptionRow};
 use crate::run_words::PROGRAM;
 use clap::{ArgMatches, Error};
 use std::alloc::{AllocError, Global};
@@ -19,14 +19,13 @@ pub const RECORDED: &str = "RECORD";
 /// The options of `replay`.
 pub const REPLAY_OPTIONS: [OptionRow; 0] = [];
 
-// The name of the command that replays.
-pub(crate) const REPLAY_NAME: &str = "replay";
-
 /// Replays a record.
 pub const REPLAY: CommandRow = CommandOf {
-    name: REPLAY_NAME,
+    which: CommandName::Replay,
+    name: "replay",
     positionals: &[PROGRAM, RECORDED],
     options: &REPLAY_OPTIONS,
+    says: "Runs a recorded session again on the frames of its input, and writes what the program sends.",
 };
 
 /// A replay: the names of the program and of its record.

@@ -12,7 +12,7 @@ ghost use Rattle.command_line.specs.Reading.{HasRead, HasReadSession};
 
 use crate::accepted::{have_form, name_at, value};
 use crate::matching::{out_of_memory, parser, value_in};
-use crate::options::{CommandOf, CommandRow, OptionRow, RowOf, TakesOf};
+use crate::options::{CommandName, CommandOf, CommandRow, OptionRow, RowOf, TakesOf};
 use crate::texts::number;
 use clap::{ArgMatches, Error};
 use msg_frame::Framing;
@@ -43,66 +43,77 @@ pub const RECORD: OptionRow = RowOf {
     name: "record",
     takes: TakesOf::Name,
     default: None,
+    says: "Where the record of the session is written.",
 };
 /// Where the report goes.
 pub const REPORT: OptionRow = RowOf {
     name: "report",
     takes: TakesOf::Name,
     default: None,
+    says: "Where the report of the failures is written.",
 };
 /// The form of the report.
 pub const FORM: OptionRow = RowOf {
     name: "form",
     takes: TakesOf::OneOf(&[TEXT, JSON]),
     default: Some(TEXT),
+    says: "The form of the report.",
 };
 /// How the stream of a connection is cut into messages.
 pub const FRAME: OptionRow = RowOf {
     name: "frame",
     takes: TakesOf::OneOf(&[LINE, LENGTH, WHOLE]),
     default: Some(LINE),
+    says: "How the bytes of a connection are cut into messages.",
 };
 /// The window of memory, in MiB.
 pub const WINDOW: OptionRow = RowOf {
     name: "window",
     takes: TakesOf::Number(1, 64),
     default: Some("4"),
+    says: "The memory of the program, in MiB.",
 };
 /// How many items more are taken before a reply is passed.
 pub const HOLD: OptionRow = RowOf {
     name: "hold",
     takes: TakesOf::Number(0, 1000),
     default: Some("0"),
+    says: "How many more items are taken before a reply is passed.",
 };
 /// How many checkpoints stand at most.
 pub const RING: OptionRow = RowOf {
     name: "ring",
     takes: TakesOf::Number(1, 16),
     default: Some("8"),
+    says: "How many checkpoints of the program are kept at most.",
 };
 /// How many items lie between two checkpoints at least.
 pub const EVERY: OptionRow = RowOf {
     name: "every",
     takes: TakesOf::Number(1, 64),
     default: Some("1"),
+    says: "How many items are taken from one checkpoint to the next at least.",
 };
 /// How many frames the pages of the program have, as a multiple of the pages of its window.
 pub const FRAMES: OptionRow = RowOf {
     name: "frames",
     takes: TakesOf::Number(2, 16),
     default: Some("4"),
+    says: "How often the memory of the program is taken, for it and its checkpoints.",
 };
 /// How many instructions may come between two items.
 pub const BUDGET: OptionRow = RowOf {
     name: "budget",
     takes: TakesOf::Number(1, 16_777_216),
     default: Some("1000000"),
+    says: "How many instructions may come from one item to the next.",
 };
 /// What else is refused of an access, by the blocks of the heap.
 pub const GUARD: OptionRow = RowOf {
     name: "guard",
     takes: TakesOf::OneOf(&[OFF, EXTENT, BLOCK]),
     default: Some(OFF),
+    says: "Which accesses to the heap are refused, by its blocks.",
 };
 
 /// The options of `run`.
@@ -110,14 +121,13 @@ pub const RUN_OPTIONS: [OptionRow; 11] = [
     RECORD, REPORT, FORM, FRAME, WINDOW, HOLD, RING, EVERY, FRAMES, BUDGET, GUARD,
 ];
 
-// The name of the command.
-pub(crate) const RUN_NAME: &str = "run";
-
 /// Runs a program.
 pub const RUN: CommandRow = CommandOf {
-    name: RUN_NAME,
+    which: CommandName::Run,
+    name: "run",
     positionals: &[PROGRAM],
     options: &RUN_OPTIONS,
+    says: "Runs a program on the frames of standard input, and recovers it where it fails.",
 };
 
 /// The form of a report.

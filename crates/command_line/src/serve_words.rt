@@ -10,7 +10,7 @@ ghost use Rattle.command_line.specs.Reading.{HasRead};
 
 use crate::accepted::{have_form, name_at};
 use crate::matching::{out_of_memory, parser, value_in};
-use crate::options::{CommandOf, CommandRow, OptionRow, RowOf, TakesOf, takes_value};
+use crate::options::{CommandName, CommandOf, CommandRow, OptionRow, RowOf, TakesOf, takes_value};
 use crate::run_words::{
     BUDGET, EVERY, FORM, FRAME, FRAMES, GUARD, PROGRAM, RECORD, REPORT, RING, RunCommand, WINDOW,
     have_names, number_or_zero, session_from,
@@ -28,40 +28,50 @@ pub const PORT: OptionRow = RowOf {
     name: PORT_NAME,
     takes: TakesOf::Number(1, 65_535),
     default: None,
+    says: "The port that clients connect to, on 127.0.0.1.",
 };
-/// How many connections are served, one after another.
+/// How many connections are served.
 pub const CONNS: OptionRow = RowOf {
     name: CONNS_NAME,
     takes: TakesOf::Number(1, 4096),
     default: None,
+    says: "How many connections are served.",
 };
 /// How many seconds a client is waited for. 0: without limit.
 pub const PATIENCE: OptionRow = RowOf {
     name: "patience",
     takes: TakesOf::Number(0, 3600),
     default: Some("60"),
+    says: "For how many seconds a client is waited for. With 0 it is without limit.",
+};
+
+/// How many clients are served at the same time. 1: one after another.
+pub const AT_ONCE: OptionRow = RowOf {
+    name: "at-once",
+    takes: TakesOf::Number(1, 256),
+    default: Some("1"),
+    says: "How many clients are served at the same time. With 1 it is one after another.",
 };
 
 /// The names of `serve` that are numbers.
 pub const SERVE_NUMBERS: [OptionRow; 2] = [PORT, CONNS];
 
 /// The options of `serve`.
-pub const SERVE_OPTIONS: [OptionRow; 11] = [
-    RECORD, REPORT, FORM, FRAME, WINDOW, RING, EVERY, FRAMES, BUDGET, GUARD, PATIENCE,
+pub const SERVE_OPTIONS: [OptionRow; 12] = [
+    RECORD, REPORT, FORM, FRAME, WINDOW, RING, EVERY, FRAMES, BUDGET, GUARD, PATIENCE, AT_ONCE,
 ];
-
-// The name of the command that serves.
-pub(crate) const SERVE_NAME: &str = "serve";
 
 /// Runs a program for the clients of a port.
 pub const SERVE: CommandRow = CommandOf {
-    name: SERVE_NAME,
+    which: CommandName::Serve,
+    name: "serve",
     positionals: &[PROGRAM, PORT_NAME, CONNS_NAME],
     options: &SERVE_OPTIONS,
+    says: "Runs a program for the clients of a port of this machine.",
 };
 
-/// A session for the clients of a port: what it is of, the port, how many connections it has, and for how many seconds it waits for
-/// a client.
+/// A session for the clients of a port: what it is of, the port, how many connections it has, for how many seconds it waits for a
+/// client, and how many clients it serves at the same time.
 #[derive(Clone, Copy, Debug)]
 pub struct ServeCommand<'a> {
     /// Its `hold` is 0.
@@ -70,6 +80,8 @@ pub struct ServeCommand<'a> {
     pub conns: u32,
     /// 0: without limit.
     pub patience: u32,
+    /// 1 to 256.
+    pub at_once: u32,
 }
 
 // Whether the words have the form of `serve`.
@@ -132,6 +144,7 @@ fn serve_from<'a>(matches: &ArgMatches<'a>) -> ServeCommand<'a>
         port: number_or_zero(value_in(matches, PORT_NAME)),
         conns: number_or_zero(value_in(matches, CONNS_NAME)),
         patience: number_or_zero(value_in(matches, PATIENCE.name)),
+        at_once: number_or_zero(value_in(matches, AT_ONCE.name)),
     }
 }
 

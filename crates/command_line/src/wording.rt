@@ -1,13 +1,13 @@
 // What is wrong with words that are refused, for a person.
 use crate::accepted::name_at;
-use crate::asm_words::{ASM_NAME, OUT, SOURCE};
+use crate::asm_words::{OUT, SOURCE};
 use crate::command::commands;
-use crate::convert_words::CONVERT_NAME;
-use crate::options::{CommandRow, OptionRow, Takes, TakesOf, is_named, takes_value};
+use crate::diagnose_words::diagnosis;
+use crate::options::{CommandName, CommandRow, OptionRow, Takes, TakesOf, is_named, takes_value};
 use crate::parts::{Part, given, is_there, next_part, positional};
+use crate::positionals::positional_named;
 use crate::replay_words::RECORDED;
-use crate::run_words::{PROGRAM, RUN_NAME, recording, report};
-use crate::serve_words::{SERVE_NAME, SERVE_NUMBERS};
+use crate::run_words::{PROGRAM, recording, report};
 use crate::texts::is_name;
 use std::alloc::{AllocError, Global};
 
@@ -26,16 +26,6 @@ fn row_named(rows: &[OptionRow], word: &str) -> Option<OptionRow> {
     for row in rows {
         if is_named(word, row) {
             return Some(*row);
-        }
-    }
-    None
-}
-
-// The row of a positional that is a number.
-fn number_named(name: &str) -> Option<OptionRow> {
-    for row in SERVE_NUMBERS {
-        if row.name == name {
-            return Some(row);
         }
     }
     None
@@ -128,7 +118,7 @@ fn wrong_word(
     place: usize,
     word: &str,
 ) -> Result<Option<String>, AllocError> {
-    let takes = match number_named(name) {
+    let takes = match positional_named(name) {
         Some(row) => row.takes,
         None => TakesOf::Name,
     };
@@ -256,6 +246,28 @@ fn alike_of_session(alloc: Global, words: &[String]) -> Result<Option<String>, A
     alike(alloc, words, "--record", to_record, "--report", to_report)
 }
 
+// Which names of a session with a diagnosis are alike.
+fn alike_of_diagnose(alloc: Global, words: &[String]) -> Result<Option<String>, AllocError> {
+    let wrong = alike_of_session(alloc, words)?;
+    if wrong.is_some() {
+        return Ok(wrong);
+    }
+    let fourth = "--diagnosis";
+    let to_diagnosis = diagnosis(words);
+    let program = name_at(words, 0);
+    let wrong = alike(alloc, words, PROGRAM, program, fourth, to_diagnosis)?;
+    if wrong.is_some() {
+        return Ok(wrong);
+    }
+    let to_record = recording(words);
+    let wrong = alike(alloc, words, "--record", to_record, fourth, to_diagnosis)?;
+    if wrong.is_some() {
+        return Ok(wrong);
+    }
+    let to_report = report(words);
+    alike(alloc, words, "--report", to_report, fourth, to_diagnosis)
+}
+
 // Which names of `asm` are alike.
 fn alike_of_asm(alloc: Global, words: &[String]) -> Result<Option<String>, AllocError> {
     let source = name_at(words, 0);
@@ -276,16 +288,17 @@ fn alike_of(
     command: &CommandRow,
     words: &[String],
 ) -> Result<Option<String>, AllocError> {
-    if command.name == RUN_NAME || command.name == SERVE_NAME {
-        return alike_of_session(alloc, words);
+    match command.which {
+        CommandName::Run => alike_of_session(alloc, words),
+        CommandName::Serve => alike_of_session(alloc, words),
+        CommandName::Diagnose => alike_of_diagnose(alloc, words),
+        CommandName::Asm => alike_of_asm(alloc, words),
+        CommandName::Convert => alike_of_convert(alloc, words),
+        CommandName::Replay => Ok(None),
+        CommandName::Drill => Ok(None),
+        CommandName::Frame => Ok(None),
+        CommandName::Unframe => Ok(None),
     }
-    if command.name == ASM_NAME {
-        return alike_of_asm(alloc, words);
-    }
-    if command.name == CONVERT_NAME {
-        return alike_of_convert(alloc, words);
-    }
-    Ok(None)
 }
 
 // What is wrong with the words behind a command.
@@ -356,12 +369,16 @@ fn option_line(alloc: Global, row: &OptionRow) -> Result<String, AllocError> {
 
 // A positional in such a line, with its range where it is a number.
 fn usage_word(alloc: Global, name: &str) -> Result<String, AllocError> {
-    match number_named(name) {
-        None => format!(in alloc; " {name}"),
-        Some(row) => {
-            let range = range_of(alloc, &row.takes)?;
+    let takes = match positional_named(name) {
+        Some(row) => row.takes,
+        None => TakesOf::Name,
+    };
+    match takes {
+        TakesOf::Number(_, _) => {
+            let range = range_of(alloc, &takes)?;
             format!(in alloc; " {name} ({range})")
         }
+        _ => format!(in alloc; " {name}"),
     }
 }
 

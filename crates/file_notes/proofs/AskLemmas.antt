@@ -1,10 +1,6 @@
 -- The lines of answers of the allocator, one after the other.
 use Rattle.std.proofs.lemmas.List.Concat.{flat_map-append}
-use Rattle.std.proofs.lemmas.List.Elements.{All-push}
-use Rattle.schedule_file.specs.Lines.{choice_line}
-use Rattle.schedule_file.specs.Telling.{is_ask}
-use Rattle.file_notes.proofs.Terms.{List, [], ap, append-nil, subst, sym, take, true, ℕ, ◌++◌, ◌+◌, ◌∙◌, ◌∷◌, ◌≡◌, Choice, choice_lines}
-use Rattle.file_notes.specs.Asks.{AreAsks}
+use Rattle.file_notes.proofs.Terms.{List, [], ap, append-nil, subst, sym, take, true, ℕ, ◌++◌, ◌+◌, ◌∙◌, ◌∷◌, ◌≡◌, All-push, Choice, choice_line, choice_lines, is_ask, AreAsks}
 
 module _ (list : List Choice) (i : ℕ) (choice : Choice) (more : take (i + 1) list ≡ take i list ++ choice ∷ []) where
   -- one more line

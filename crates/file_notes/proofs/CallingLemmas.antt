@@ -1,8 +1,5 @@
 -- Calls on files, one run of them behind the other, and those that notes make.
-use Rattle.std.proofs.lemmas.List.{take-append-drop}
-use Rattle.std.proofs.lemmas.List.Elements.{All-append, All-cons, All-nil}
-use Rattle.std.proofs.lemmas.Slice.Eq.{bytes_eq-Decides}
-use Rattle.file_notes.proofs.Terms.{Bool, Err, List, None, Ok, Option, Result, Some, [], ap, append-nil, append_assoc, length, refl, subst, sym, take, true, ℕ, ◌++◌, ◌∙◌, ◌∷◌, ◌≡◌, drop-append_seam, take-append_seam, All, bytes_eq, drop, false, ◌||◌, IoFault, Failed, Memory, FileCall, Added, Started, Calls, calls_of, Names, AddsAlone, CallsFront, CallsUpTo, is_addition, starts_of, Called}
+use Rattle.file_notes.proofs.Terms.{Bool, Err, List, None, Ok, Option, Result, Some, [], ap, append-nil, append_assoc, length, refl, subst, sym, take, true, ℕ, ◌++◌, ◌∙◌, ◌∷◌, ◌≡◌, drop-append_seam, take-append_seam, take-append-drop, All-append, All-cons, All-nil, bytes_eq-Decides, All, bytes_eq, drop, false, ◌||◌, IoFault, Failed, Memory, FileCall, Added, Started, Calls, calls_of, Names, AddsAlone, CallsFront, CallsUpTo, is_addition, starts_of, Called}
 
 -- ---- runs of calls
 

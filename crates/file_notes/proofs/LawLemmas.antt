@@ -1,6 +1,7 @@
 -- What stands in the two files at the end.
-use Rattle.file_notes.proofs.Terms.{List, Option, Some, [], ap, append-nil, append_assoc, sym, unwrap_or, ℕ, ◌++◌, ◌∙◌, ◌≡◌}
+use Rattle.std.proofs.Common.{unwrap_or}
 use Rattle.schedule_file.proofs.Same.{text-written}
+use Rattle.file_notes.proofs.Terms.{List, Option, Some, [], ap, append-nil, append_assoc, sym, ℕ, ◌++◌, ◌∙◌, ◌≡◌}
 use Rattle.file_notes.specs.Laws.{WholeTexts}
 
 -- first a file was started, then it grew, and last it was ended

@@ -1,4 +1,5 @@
 pub mod Terms
+pub mod BesideLemmas
 pub mod CallingLemmas
 pub mod WritingLemmas
 pub mod TextLemmas

@@ -1,6 +1,7 @@
 -- What notes are after an episode was noted.
 use Rattle.std.proofs.lemmas.Bool.{false≢true}
-use Rattle.file_notes.proofs.Terms.{Bool, List, None, Ok, Option, Some, [], ap, append-nil, append_assoc, length, length-append, subst, sym, true, unwrap_or, zero-add, ℕ, ◌++◌, ◌+◌, ◌∙◌, ◌∷◌, ◌≡◌, Adds, AddsFront, Contents, Choice, Episode, Form, episode_text, episode_texts, AreTwo, Names, bytes_in, InRecord, InReport, Left, Nothing, is_whole, in_report, Had, Past, with_episode, HasKept, IsNotes, Keeps}
+use Rattle.std.proofs.Common.{unwrap_or}
+use Rattle.file_notes.proofs.Terms.{Bool, List, None, Ok, Option, Some, [], ap, append-nil, append_assoc, length, length-append, subst, sym, true, zero-add, ℕ, ◌++◌, ◌+◌, ◌∙◌, ◌∷◌, ◌≡◌, Adds, AddsFront, Contents, Choice, Episode, Form, episode_text, episode_texts, AreTwo, Names, bytes_in, InRecord, InReport, Left, Nothing, is_whole, in_report, Had, Past, with_episode, HasKept, IsNotes, Keeps}
 use Rattle.file_notes.proofs.TextLemmas.{one_more}
 
 -- the text of one more episode stands behind the others, where nothing was left

@@ -1,5 +1,6 @@
 -- Texts that are written into one file and into both.
-use Rattle.file_notes.proofs.Terms.{Err, List, None, Ok, Option, Result, Some, [], ap, inl, inr, length, subst, sym, take, unwrap_or, ℕ, ◌++◌, ◌∙◌, ◌≡◌, take-append_seam, take-length, IoFault, Adds, Contents, Starts, AreTwo, Names, HasPart, Kept, Writes, WritesBoth, all_kept, nothing_kept}
+use Rattle.std.proofs.Common.{unwrap_or}
+use Rattle.file_notes.proofs.Terms.{Err, List, None, Ok, Option, Result, Some, [], ap, inl, inr, length, subst, sym, take, ℕ, ◌++◌, ◌∙◌, ◌≡◌, take-append_seam, take-length, IoFault, Adds, Contents, Starts, AreTwo, Names, HasPart, Kept, Writes, WritesBoth, all_kept, nothing_kept}
 
 -- what a part of a text is, by its length
 pub front_is : (front rest text : List ℕ) → text ≡ front ++ rest → take (length front) text ≡ front

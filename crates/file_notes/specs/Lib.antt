@@ -8,6 +8,8 @@ pub mod Standing
 pub mod Past
 pub mod Codes
 pub mod Invariant
+pub mod Keeping
 pub mod Notes
 pub mod Writing
+pub mod Beside
 pub mod Laws

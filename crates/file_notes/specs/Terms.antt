@@ -11,4 +11,5 @@ pub use Rattle.session_notes.specs.declared.episode.Episode.{Episode}
 pub use Rattle.session_notes.specs.Noting.{NoneFailed, OneEpisode, Shown, SomeChoices, Unnoted}
 pub use Rattle.run_report.specs.declared.form.Form.{Form}
 pub use Rattle.run_report.specs.Report.{end_text, episode_text, head_text}
-pub use Rattle.schedule_file.specs.Lines.{choice_lines}
+pub use Rattle.schedule_file.specs.Lines.{choice_line, choice_lines}
+pub use Rattle.schedule_file.specs.Telling.{is_ask}

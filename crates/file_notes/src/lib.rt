@@ -4,6 +4,7 @@
 //! The report is started behind the whole first line of the record.
 //! Which calls on the two files were made, in order, is said of each call here.
 //! After a call that failed nothing more is added, and want of memory is answered.
+//! `KeepingNotes` are notes whose episodes are kept in memory too, for who writes them into a third file.
 //! What was noted is remembered for proofs alone, and nothing is kept for it at run time.
 //! Where the files don't tell what they have, as real ones, nothing is said of what stands there.
 #![tactic(auto)]
@@ -12,6 +13,7 @@ mod adding;
 mod ends;
 mod file_names;
 mod file_notes;
+mod keeping_notes;
 pub mod laws;
 mod past;
 mod writing;
@@ -19,3 +21,5 @@ mod writing;
 pub use ends::{FirstLine, LastLines, end_files, start_files};
 pub use file_names::FileNames;
 pub use file_notes::FileNotes;
+pub use keeping_notes::KeepingNotes;
+pub use writing::{add_to_file, start_file};

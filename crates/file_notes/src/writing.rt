@@ -9,9 +9,13 @@ ghost use Rattle.file_notes.specs.Writing.{Writes, StartsBoth, AddsBoth, nothing
 use crate::file_names::FileNames;
 use rx_io::{Files, IoFault};
 
-// Starts a file, and adds a text to it.
+/// Starts a file, and adds a text to it.
+///
+/// # Errors
+///
+/// `Failed` only where the count of faults rose; `Memory`. A part of the text may stand there then.
 #[tactic(auto, using(crate::proofs::WritingLemmas::starts_one))]
-fn start_file<F: Files>(files: &mut F, name: &str, text: &[u8]) -> Result<(), IoFault>
+pub fn start_file<F: Files>(files: &mut F, name: &str, text: &[u8]) -> Result<(), IoFault>
     ensures writes { Writes nothing_kept (F.told files.old) (F.told files.new) name.now text.now result }
     ensures calls { CallsUpTo (F.calls files.old) (F.calls files.new) (starts_of name.now) result }
     ensures fixed { F.fixed files.new ≡ F.fixed files.old }
@@ -23,9 +27,13 @@ fn start_file<F: Files>(files: &mut F, name: &str, text: &[u8]) -> Result<(), Io
     }
 }
 
-// Adds a text to a file.
+/// Adds a text to a file.
+///
+/// # Errors
+///
+/// `Failed` only where the count of faults rose; `Memory`. A part of the text may stand there then.
 #[tactic(auto, using(crate::proofs::WritingLemmas::adds_one))]
-fn add_to_file<F: Files>(files: &mut F, name: &str, text: &[u8]) -> Result<(), IoFault>
+pub fn add_to_file<F: Files>(files: &mut F, name: &str, text: &[u8]) -> Result<(), IoFault>
     ensures writes { Writes all_kept (F.told files.old) (F.told files.new) name.now text.now result }
     ensures calls { CallsUpTo (F.calls files.old) (F.calls files.new) (Added name.now ∷ []) result }
     ensures fixed { F.fixed files.new ≡ F.fixed files.old }

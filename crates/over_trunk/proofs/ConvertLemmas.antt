@@ -1,9 +1,8 @@
 -- A replay that gives nothing is converted to the text of its run.
-use Rattle.std.proofs.lemmas.List.Elements.{All-head, All-tail}
 use Rattle.schedule_file.specs.declared.recorded.Line.{Line}
 use Rattle.replay.specs.Giving as giving
 use Rattle.run_history.specs.declared.answer.Answer.TheVariants as answer
-use Rattle.over_trunk.proofs.Terms.{All, List, None, Option, Some, [], ap, arith, inr, length, map, refl, subst, sym, ℕ, ◌++◌, ◌+◌, ◌∙◌, ◌∷◌, ◌≡◌, Err, IsErrOf, Ok, Result, Rose, Stream, Entry, pieces_in, Choice, Image, Answer, Recorded, VERSION, choice_line, choice_lines, end_line, head_line, line_of, line_text, lines_text, IsAnswer, IsAskOf, IsRecord, AreOfLines, HasAsk, IsOfLine, ConvertsToItself, ReplaysTrunk, TakesReplay, Concludes, ConvertsTrunk, converted}
+use Rattle.over_trunk.proofs.Terms.{All, List, None, Option, Some, [], ap, arith, inr, length, map, refl, subst, sym, ℕ, ◌++◌, ◌∙◌, ◌∷◌, ◌≡◌, All-head, All-tail, Err, IsErrOf, Ok, Result, Rose, Stream, Entry, pieces_in, Choice, Image, Answer, Recorded, VERSION, choice_line, choice_lines, end_line, head_line, line_of, lines_text, IsAnswer, IsAskOf, AreOfLines, HasAsk, IsOfLine, ConvertsToItself, ReplaysTrunk, TakesReplay, Concludes, ConvertsTrunk, converted}
 
 -- what was taken is less to say where memory ran out
 takes_memory : (source later : Option Stream) (entries : List Entry) → TakesReplay source later entries answer.Memory

@@ -1,9 +1,8 @@
 -- First parts of lists, and of the events that a session heeds.
-use Rattle.std.proofs.lemmas.Bool.{le-ltb, leb-false, lt-leb, ltb-false}
 use Rattle.links.specs.declared.journal.Entry.TheVariants as entry
 use Rattle.links.specs.declared.journal.LinkEvent.TheVariants as event
 use Rattle.links.specs.declared.journal.LinkEvent.TheVariants.{Ends}
-use Rattle.over_trunk.proofs.Terms.{Bool, List, None, Option, Some, [], ap, append-nil, append_assoc, arith, cond, drop, false, if◌then◌else◌, inl, inr, length, length-append, nat_lt, refl, sym, true, ◌++◌, ◌<◌, ◌∙◌, ◌∷◌, ◌≡◌, ◌≢◌, ◌≤◌, ◌⊎◌, drop-append_seam, nil_from_length, none-some, is_none, nat_le, Prefix, LinkEvent, events_in, heard, items_of, Bounds, LimitEvents, LimitItems, TooLong, Unheeded, heeded_behind, refusal, two_fronts, IsWithin}
+use Rattle.over_trunk.proofs.Terms.{Bool, List, None, Option, Some, [], ap, append-nil, append_assoc, arith, cond, drop, false, if◌then◌else◌, inl, inr, length, length-append, nat_lt, refl, sym, true, ◌++◌, ◌∙◌, ◌∷◌, ◌≡◌, ◌≢◌, ◌⊎◌, drop-append_seam, le-ltb, leb-false, lt-leb, ltb-false, nil_from_length, none-some, is_none, nat_le, Prefix, LinkEvent, events_in, heard, items_of, Bounds, LimitEvents, LimitItems, TooLong, Unheeded, heeded_behind, refusal, two_fronts, IsWithin}
 
 pub both_ways : {X : Type 0} (xs ys : List X) → Prefix xs ys → Prefix ys xs → ys ≡ xs
 both_ways xs ys front back =

@@ -4,6 +4,7 @@ pub mod WriteLemmas
 pub mod PayloadLemmas
 pub mod StopLemmas
 pub mod ServeLemmas
+mod WatchLemmas
 mod FrameFronts
 mod HeededFronts
 mod SameBytes

@@ -2,7 +2,7 @@
 use Rattle.trunk_wire.proofs.ProgressLemmas.{put_bytes-append, put_bytes-part}
 use Rattle.trunk_wire.proofs.TellingLemmas.{last_bytes-append}
 use Rattle.trunk_wire.proofs.GiveLemmas.{no_bytes}
-use Rattle.over_trunk.proofs.Terms.{Bool, List, None, Option, Some, [], ap, append-nil, append_assoc, arith, false, if◌then◌else◌, inl, inr, length, length-append, refl, sym, true, ℕ, ◌++◌, ◌+◌, ◌-◌, ◌<◌, ◌^◌, ◌∙◌, ◌∷◌, ◌≡◌, ◌≢◌, fun_ext, IsDrained, Stream, Took, LinkEvent, Grew, Phases, Refuses, phases_after, Refusal, events_steady, frame-accepted, put_bytes-frame, Countable, not_whole, count_after, AreFramesOf, AreInOrder, IsTail, phases_behind, event_at, front, last_bytes, put_bytes, event_reader, events, fresh, whole_event, is_in_step, told_coming, told_events, IsBehind}
+use Rattle.over_trunk.proofs.Terms.{Bool, List, None, Option, Some, [], ap, append-nil, append_assoc, arith, false, if◌then◌else◌, inl, inr, length, length-append, refl, sym, true, ℕ, ◌++◌, ◌-◌, ◌<◌, ◌^◌, ◌∙◌, ◌∷◌, ◌≡◌, ◌≢◌, fun_ext, IsDrained, Stream, Took, LinkEvent, Grew, Phases, Refuses, phases_after, Refusal, events_steady, frame-accepted, put_bytes-frame, Countable, not_whole, count_after, AreFramesOf, AreInOrder, IsTail, phases_behind, event_at, front, last_bytes, put_bytes, event_reader, events, fresh, whole_event, is_in_step, told_coming, told_events, IsBehind}
 
 -- the frames of events in order bring these events, and their phases
 read_frames : (phases : Phases) (before list : List LinkEvent) (bytes : List ℕ) → AreInOrder phases list → AreFramesOf list bytes

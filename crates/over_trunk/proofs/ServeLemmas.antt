@@ -2,9 +2,8 @@
 use Rattle.session_history.specs.declared.ends.SessionBreak.TheVariants as session_break
 use Rattle.session_history.specs.declared.ends.SessionEnd.TheVariants as session_end
 use Rattle.session_history.specs.declared.ends.Stop.TheVariants as stop
-use Rattle.over_trunk.proofs.Terms.{All, Bool, List, None, Option, Some, [], ap, false, inl, inr, length, option_map, refl, subst, sym, true, ℕ, ◌++◌, ◌∙◌, ◌≡◌, fun_ext, same_Some, Appends, IfSome, IsSome, is_some, IsDrained, Stream, Took, Entry, LinkEvent, Coming, Grew, Handed, IsFresh, Piece, Told, events_in, pieces_in, Seen, Countable, count_after, frames, AreInOrder, GivesOn, Intake, IsCut, IsFramed, IsTail, Output, TakesOn, TookFrames, WroteFrames, phases_behind, fresh, told_coming, told_events, told_nothing, told_pieces, trunk_told, Image, Answer, SessionBreak, SessionEnd, Stop, end_then, Session, after_ending, journal_of, AtBreak, HandedLast, HasComeTo, StaysKnown, TakesAtEnd, WasAsked, answer_of, before_end, HasHanded, Bounds, Rules, Noted, Keeping, stands_of, HandledAt, HasLeft, keeping_of, HasRecovered, Outcome, Telling, BreaksAt, LinkAnswers, UnlessNoteFault, outcome_of, SessionState, BreaksTrunk, Carries, StopsTrunk, TakesNoPart, TakesTrunk, TookTrunk, WritesTrunk, WritesWhole, HeadsAt, HeadsDue, HeadsTrunk, IsRecordedUpTo, IsTrunkFault, ServesTrunk}
+use Rattle.over_trunk.proofs.Terms.{All, Bool, List, None, Option, Some, [], ap, false, inl, inr, length, option_map, refl, subst, sym, true, ℕ, ◌++◌, ◌∙◌, ◌≡◌, fun_ext, same_Some, Appends, IfSome, IsSome, is_some, IsDrained, Stream, Took, Entry, LinkEvent, Coming, Grew, Handed, IsFresh, Piece, Told, events_in, pieces_in, Seen, Countable, count_after, frames, AreInOrder, GivesOn, Intake, IsCut, IsFramed, IsTail, Output, TakesOn, TookFrames, WroteFrames, phases_behind, fresh, told_coming, told_events, told_nothing, told_pieces, trunk_told, Image, SessionBreak, SessionEnd, Stop, end_then, Session, after_ending, journal_of, AtBreak, HandedLast, HasComeTo, StaysKnown, TakesAtEnd, WasAsked, answer_of, before_end, HasHanded, Bounds, Rules, Try, Noted, Keeping, stands_of, HandledAt, HasLeft, keeping_of, HasWatched, Outcome, Telling, BreaksAt, LinkAnswers, UnlessNoteFault, outcome_of, SessionState, BreaksTrunk, Carries, StopsTrunk, TakesNoPart, TakesTrunk, TookTrunk, WritesTrunk, WritesWhole, HeadsAt, HeadsDue, HeadsTrunk, IsRecordedUpTo, IsTrunkFault, WatchesTrunk}
 use Rattle.over_trunk.proofs.WriteLemmas.{wrote_headed, Short, wrote_trunk, wrote_frames}
-use Rattle.run_history.specs.declared.answer.Answer.TheVariants as answer
 use Rattle.recovery.proofs.Handled.{has_ring}
 use Rattle.over_trunk.proofs.ReadLemmas.{tail_none, tail_asked, events_told, stands_behind}
 use Rattle.over_trunk.proofs.StopLemmas.{HasTaken, stops_at, took_no_part}
@@ -240,11 +239,12 @@ left_recorded rules image telling session (stop.Breaks session_break.FileFault) 
 left_recorded rules image telling session (stop.Breaks session_break.Memory) same left = λ is. absurd is
 
 -- a session over a link that was made
-pub serves : (rules : Rules) (keeping : Keeping) (image : Image) {old new : Intake} {out later : Output} (before rest : Seen) {outcome : Outcome} {noted_before noted_now : Noted} {counted : ℕ}
+pub watches : (rules : Rules) (keeping : Keeping) (image : Image) {old new : Intake} {out later : Output} (before rest : Seen) {outcome : Outcome} {noted_before noted_now : Noted} {counted : ℕ} {tables_before tables : Option (List (List Try))}
     → StartsTrunk (shows_by old out before).told old out → WentTrunk old new out later → LinkAnswers (shows_by old out before) (shows_by new later rest) outcome.stop
-    → (recovered : HasRecovered rules image keeping (shows_by old out before) (shows_by new later rest) outcome noted_before noted_now counted) → AtBreak outcome.stop (λ fault. IsTrunkFault fault → IsRecordedUpTo rules image keeping recovered.telling outcome)
-    → ServesTrunk rules keeping image old.told new.told out.told later.told outcome noted_before noted_now counted
-serves rules keeping image {old = old} {new = new} {out = out} {later = later} before rest {outcome = outcome} starts went answers recovered recorded =
+    → (watched : HasWatched rules image keeping (shows_by old out before) (shows_by new later rest) outcome noted_before noted_now counted tables_before tables) → AtBreak outcome.stop (λ fault. IsTrunkFault fault → IsRecordedUpTo rules image keeping watched.recovered.telling outcome)
+    → WatchesTrunk rules keeping image old.told new.told out.told later.told outcome noted_before noted_now counted tables_before tables
+watches rules keeping image {old = old} {new = new} {out = out} {later = later} before rest {outcome = outcome} starts went answers watched recorded =
+    let recovered = watched.recovered in
     let session : Session = recovered.telling.account in
     let took : TookFrames old new = subst (λ b. TakesOn b old new) starts.takes went.taken in
     let wrote : WroteFrames out later = subst (λ b. GivesOn b out later) starts.gives went.given in
@@ -252,19 +252,33 @@ serves rules keeping image {old = old} {new = new} {out = out} {later = later} b
     let given = pieces_in (journal_of session) in
     let events = subst (λ (told : Told). Grew told.events (told_events new.told new.took new.phases new.takes) list) starts.told recovered.shows.tells.events in
     let pieces = subst (λ (told : Told). Grew told.pieces (told_pieces later.told later.wrote later.gives) given) starts.told recovered.shows.tells.pieces in record {
-      coming = upcoming new;
-      telling = recovered.telling;
-      is = recovered.is;
-      recorded = recorded;
-      bytes = record {
-        took = takes_trunk old new list (WasAsked rules session) recovered.shows.asked starts.phases starts.took went.countable took events;
-        stops = stops_if rules session session.came old new list starts.phases starts.took starts.takes went.countable took events recovered.shows.at_end recovered.is.is.ended.comes;
-        wrote = writes_trunk out later given starts.wrote went.short wrote pieces;
-        wrote_whole = end_then outcome.stop (λ still. writes_whole out later given starts.wrote went.short wrote still pieces) answers.gives;
-        breaks = breaks_trunk old new out later list given outcome.stop
-            (takes_no_part old new list starts.phases starts.took starts.takes went.countable took events)
-            (λ is. writes_whole out later given starts.wrote went.short wrote is pieces) answers.once;
-        heads = heads_at rules session out later (shows_by new later rest) outcome.stop starts.wrote went.short wrote refl refl refl pieces recovered.handed;
-        carried = carries rules.bounds out later (journal_of session) starts.wrote went.short wrote pieces;
+      serves = record {
+        coming = upcoming new;
+        telling = recovered.telling;
+        is = recovered.is;
+        recorded = recorded;
+        bytes = record {
+          took = takes_trunk old new list (WasAsked rules session) recovered.shows.asked starts.phases starts.took went.countable took events;
+          stops = stops_if rules session session.came old new list starts.phases starts.took starts.takes went.countable took events recovered.shows.at_end recovered.is.is.ended.comes;
+          wrote = writes_trunk out later given starts.wrote went.short wrote pieces;
+          wrote_whole = end_then outcome.stop (λ still. writes_whole out later given starts.wrote went.short wrote still pieces) answers.gives;
+          breaks = breaks_trunk old new out later list given outcome.stop
+              (takes_no_part old new list starts.phases starts.took starts.takes went.countable took events)
+              (λ is. writes_whole out later given starts.wrote went.short wrote is pieces) answers.once;
+          heads = heads_at rules session out later (shows_by new later rest) outcome.stop starts.wrote went.short wrote refl refl refl pieces recovered.handed;
+          carried = carries rules.bounds out later (journal_of session) starts.wrote went.short wrote pieces;
+        };
       };
+      watched = watched.watched;
     }
+
+-- the same, of what source and sink tell by another name
+pub watches_at : {rules : Rules} {keeping : Keeping} {image : Image} {source source_now source_later source_later_now : Option Stream} {sink sink_now sink_later sink_later_now : Option (List ℕ)} {outcome : Outcome} {noted_before noted_now : Noted} {counted : ℕ}
+    {tables_before tables : Option (List (List Try))} → source ≡ source_now → source_later ≡ source_later_now → sink ≡ sink_now → sink_later ≡ sink_later_now
+    → WatchesTrunk rules keeping image source source_later sink sink_later outcome noted_before noted_now counted tables_before tables
+    → WatchesTrunk rules keeping image source_now source_later_now sink_now sink_later_now outcome noted_before noted_now counted tables_before tables
+watches_at {rules = rules} {keeping = keeping} {image = image} {source_now = source_now} {source_later = source_later} {source_later_now = source_later_now} {sink = sink} {sink_now = sink_now} {sink_later = sink_later} {outcome = outcome} {noted_before = noted_before} {noted_now = noted_now} {counted = counted} {tables_before = tables_before} {tables = tables} first second third fourth watches =
+    subst (λ (told : Option (List ℕ)). WatchesTrunk rules keeping image source_now source_later_now sink_now told outcome noted_before noted_now counted tables_before tables) fourth
+    (subst (λ (told : Option (List ℕ)). WatchesTrunk rules keeping image source_now source_later_now told sink_later outcome noted_before noted_now counted tables_before tables) third
+    (subst (λ (told : Option Stream). WatchesTrunk rules keeping image source_now told sink sink_later outcome noted_before noted_now counted tables_before tables) second
+    (subst (λ (told : Option Stream). WatchesTrunk rules keeping image told source_later sink sink_later outcome noted_before noted_now counted tables_before tables) first watches)))

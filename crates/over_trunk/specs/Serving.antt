@@ -1,9 +1,9 @@
 -- What a session leaves that served a trunk.
 use Rattle.std.specs.Prelude.{◌≡◌, ℕ, ◌-◌, List, length, Option, Some, IfSome, slice_get, None, is_some, [], ◌≢◌}
 use Rattle.session_history.specs.declared.ends.SessionBreak.TheVariants as session_break
-use Rattle.run_history.specs.Served.{Path}
 use Rattle.trials.specs.Chains.{AreChained, AreCheckpoints}
-use Rattle.over_trunk.specs.Terms.{Stream, Prefix, Coming, Counts, cut_entries, events_in, pieces_in, Image, Answer, SessionBreak, Stop, Session, after_ending, journal_of, AtBreak, AtEnd, WasAsked, answer_of, before_end, items_in, IsWholePiece, Rules, Noted, Shown, HasRing, Keeping, Stand, HandledAt, keeping_for, IsOutcome, Outcome, Telling, NotesAnswer, outcome_of, IsBegun, SessionState}
+use Rattle.recovery.specs.Watching.{TellsMore}
+use Rattle.over_trunk.specs.Terms.{Stream, Prefix, Coming, Counts, cut_entries, events_in, pieces_in, Image, Answer, Path, SessionBreak, Stop, Session, after_ending, journal_of, AtBreak, AtEnd, WasAsked, answer_of, before_end, items_in, IsWholePiece, Rules, Try, Noted, Shown, HasRing, Keeping, Stand, HandledAt, keeping_for, AreAllTables, IsOutcome, Outcome, Telling, story_of, NotesAnswer, outcome_of, IsBegun, SessionState}
 use Rattle.over_trunk.specs.Trunk.{TakesTrunk, StopsTrunk, WritesTrunk, WritesWhole, BreaksTrunk, Carries, WroteTrunk}
 
 -- how often a source and a sink have failed, as a link over both counts it
@@ -77,9 +77,14 @@ pub record ServesTrunk (rules : Rules) (keeping : Keeping) (image : Image) (sour
   pub recorded : AtBreak outcome.stop (λ fault. IsTrunkFault fault → IsRecordedUpTo rules image keeping telling outcome)
   pub bytes : GoesOverTrunk rules source source_later sink sink_later coming telling.account outcome.stop
 
--- A session that was begun has served a trunk, and answers so: why it stopped; what it leaves; and what its notes show.
-pub record HasServedTrunk {R : Type 0} (rules : Rules) (source source_later : Option Stream) (sink sink_later : Option (List ℕ)) (shown now : Shown) (counted : ℕ) (old new : SessionState R) (answered : Answer) : Type 0 where
+-- A session that was watched has served a trunk, and its watch, where it tells its tables, has told those of its recoveries more.
+pub record WatchesTrunk (rules : Rules) (keeping : Keeping) (image : Image) (source source_later : Option Stream) (sink sink_later : Option (List ℕ)) (outcome : Outcome) (noted_before noted_now : Noted) (counted : ℕ) (tables_before tables : Option (List (List Try))) : Type 0 where
+  pub serves : ServesTrunk rules keeping image source source_later sink sink_later outcome noted_before noted_now counted
+  pub watched : TellsMore tables_before tables (AreAllTables rules (story_of serves.telling) serves.telling.walk outcome.stop)
+
+-- A session that was begun has served a trunk, and answers so: why it stopped; what it leaves, and its watch tells; and what its notes show.
+pub record HasServedTrunk {R : Type 0} (rules : Rules) (source source_later : Option Stream) (sink sink_later : Option (List ℕ)) (shown now : Shown) (counted : ℕ) (tables_before tables : Option (List (List Try))) (old new : SessionState R) (answered : Answer) : Type 0 where
   pub why : Stop
   pub is : answered ≡ answer_of why
-  pub served : (image : Image) → IsBegun image old.options old.cpu.rule old → ServesTrunk rules (keeping_for old.options) image source source_later sink sink_later (outcome_of why new) shown.told now.told counted
+  pub served : (image : Image) → IsBegun image old.options old.cpu.rule old → WatchesTrunk rules (keeping_for old.options) image source source_later sink sink_later (outcome_of why new) shown.told now.told counted tables_before tables
   pub notes : NotesAnswer shown now why

@@ -1,6 +1,7 @@
 -- The words that this crate's definitions are written in: those of crates below, and types of its code.
 pub use Rattle.std.specs.Io.KnownBytes.{Appends}
 pub use Rattle.std.specs.List.{AllByRecursion}
+pub use Rattle.rx_io.specs.declared.bytes.Item.{Item}
 pub use Rattle.rx_io.specs.Faults.{Rose}
 pub use Rattle.rx_io.specs.Outside.{IsDrained, Stream, Took}
 pub use Rattle.rx_io.specs.Prefix.{Prefix}
@@ -26,6 +27,7 @@ pub use Rattle.run_history.specs.declared.answer.Answer.{Answer}
 pub use Rattle.run_history.specs.Machine.{State}
 unfoldable pub use Rattle.run_history.specs.Machine.{start}
 pub use Rattle.run_history.specs.Run.{Run, run}
+pub use Rattle.run_history.specs.Served.{Limits, Override, Path}
 pub use Rattle.session_history.specs.declared.ends.SessionBreak.{SessionBreak}
 pub use Rattle.session_history.specs.declared.ends.SessionEnd.{SessionEnd}
 pub use Rattle.session_history.specs.declared.ends.Stop.{Stop}
@@ -35,18 +37,20 @@ pub use Rattle.session_history.specs.Ends.{AtBreak, AtEnd, HandedLast, HasComeTo
 pub use Rattle.session_history.specs.Giving.{HasHanded}
 pub use Rattle.session_history.specs.Heeding.{Bounds, LimitEvents, LimitItems, TooLong, Unheeded, heeded, items_in, refusal}
 unfoldable pub use Rattle.session_history.specs.Heeding.{heeded_behind}
-pub use Rattle.session_history.specs.Lawful.{IsWholePiece, Rules, entries_of}
-pub use Rattle.session_history.specs.Passing.{passed_behind, passed_in}
-pub use Rattle.session_notes.specs.Noting.{Noted, Shown}
+pub use Rattle.session_history.specs.Lawful.{Chapter, IsWholePiece, Rules, Survivor, entries_of}
+pub use Rattle.session_history.specs.Passing.{AreBetween, passed_behind, passed_in}
+pub use Rattle.session_notes.specs.declared.episode.Episode.{Episode}
+pub use Rattle.session_notes.specs.declared.episode.Try.{Try}
+pub use Rattle.session_notes.specs.Noting.{Noted, Shown, Unnoted}
 pub use Rattle.recovery.specs.Handling.{HasRing, Keeping, Stand, stands_of}
 pub use Rattle.schedule_file.specs.declared.recorded.Recorded.{Recorded}
 pub use Rattle.schedule_file.specs.declared.recorded.TheConstants.{VERSION}
 pub use Rattle.schedule_file.specs.Lines.{choice_line, choice_lines, line_of, lines_text}
-unfoldable pub use Rattle.schedule_file.specs.Lines.{end_line, head_line, line_text}
+unfoldable pub use Rattle.schedule_file.specs.Lines.{end_line, head_line}
 pub use Rattle.schedule_file.specs.Records.{IsAnswer, IsAskOf, IsRecord, record_of, text_of}
 pub use Rattle.session_state.specs.Leaving.{HandledAt, HasLeft, keeping_of}
 pub use Rattle.session_state.specs.Options.{keeping_for}
-pub use Rattle.session_state.specs.Recovered.{HasRecovered, IsOutcome, Outcome, Telling}
+pub use Rattle.session_state.specs.Recovered.{AreAllTables, AreLastTables, AreTables, HasGivenUp, HasWatched, IsHandedLast, IsOutcome, IsTable, IsTelling, Outcome, Telling, Walk, entries, episodes_of, story_of, walk_behind}
 pub use Rattle.session_state.specs.Serving.{BreaksAt, LinkAnswers, NotesAnswer, UnlessNoteFault, outcome_of, rules_by}
 pub use Rattle.session_state.specs.Sessions.{IsBegun, SessionState}
 pub use Rattle.replay.specs.Giving.{AreGiven, BreaksOff, found_gone, piece_of}

@@ -1,6 +1,7 @@
 //! Laws of sessions, replays and conversions over a trunk, each as the contract of a function that does nothing.
 ghost use Rattle.over_trunk.specs.EndLaws.{NoOtherEnd, SendsAreWritten};
 ghost use Rattle.over_trunk.specs.Laws.{ConvertsToItself, SameBytesAreReplayed, SessionIsConverted};
+ghost use Rattle.over_trunk.specs.WatchLaws.{NotedTablesAreTold, TablesBeginWithTries};
 
 /// A session's record is replayed over the bytes that the session had, to the frames of its run's sends.
 pub fn same_bytes_are_replayed()
@@ -25,4 +26,14 @@ pub fn converts_to_itself()
 /// A session's record is converted over the bytes that the session had to the text of its run.
 pub fn session_is_converted()
     ensures { SessionIsConverted }
+{}
+
+/// Each table that a watch tells of a session begins with the tries of the session's own walk.
+pub fn tables_begin_with_tries()
+    ensures { TablesBeginWithTries }
+{}
+
+/// At an end there is a table of each episode that was noted.
+pub fn noted_tables_are_told()
+    ensures { NotedTablesAreTold }
 {}

@@ -5,6 +5,7 @@ ghost use Rattle.session_history.specs.Answering.{HasAnswerCause};
 ghost use Rattle.over_trunk.specs.Serving.{HasServedTrunk, trunk_counts};
 
 use guest_space::AccessRule;
+use recovery::Watch;
 use run_history::Answer;
 use rx_engine::Session;
 use rx_io::{Sink, Source, Steps};
@@ -16,21 +17,23 @@ use trunk_wire::TrunkLink;
 /// Serves a trunk of many connections over a source and a sink with a session that was begun, and answers how it ended. The frames
 /// of events are taken from `input`, none before the program waits for an item, and no byte behind one; pieces go to `output` as
 /// frames. `notes` are told the answers of malloc and the recoveries. At each answer each recovery, and a walk at which it gave up, had the
-/// checkpoints that the requests before it left. `alloc` is for the payloads.
-pub fn serve_trunk<R: AccessRule, S: Source, K: Sink, N: Notes, L: Ledger>(
+/// checkpoints that the requests before it left. `watch` looks at each failure before trials are made; what it counts isn't the session's.
+/// `alloc` is for the payloads.
+pub fn serve_trunk<R: AccessRule, S: Source, K: Sink, N: Notes, W: Watch, L: Ledger>(
     alloc: Global,
     session: &mut Session<R>,
     input: &mut S,
     output: &mut K,
     notes: &mut N,
+    watch: &mut W,
     steps: &mut Steps<L>,
 ) -> Answer
     requires begun { IsReadyToServe session.old }
-    ensures served { HasServedTrunk (rules_by R.rule session.old) (S.told input.old) (S.told input.new) (K.told output.old) (K.told output.new) (N.shown notes.old) (N.shown notes.new) (steps.new - steps.old) session.old session.new result }
+    ensures served { HasServedTrunk (rules_by R.rule session.old) (S.told input.old) (S.told input.new) (K.told output.old) (K.told output.new) (N.shown notes.old) (N.shown notes.new) ((W.ran watch.old + steps.new) - (W.ran watch.new + steps.old)) (W.tables watch.old) (W.tables watch.new) session.old session.new result }
     ensures cause { HasAnswerCause (trunk_counts (S.faults input.old) (K.faults output.old)) (trunk_counts (S.faults input.new) (K.faults output.new)) result }
     ensures outside { (S.fixed input.new ≡ S.fixed input.old) × (K.fixed output.new ≡ K.fixed output.old) × (N.fixed notes.new ≡ N.fixed notes.old) }
-    ensures counted_at_least { steps.old + session.new.steps ≤ steps.new }
+    ensures counted_at_least { W.ran watch.new + steps.old + session.new.steps ≤ W.ran watch.old + steps.new }
 {
     let mut link = TrunkLink::make(alloc, &mut *input, &mut *output);
-    session.serve(&mut link, notes, steps)
+    session.serve_watched(&mut link, notes, watch, steps)
 }

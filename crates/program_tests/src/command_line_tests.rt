@@ -1,6 +1,9 @@
 // What no clause says of the words: that a command comes out of them, and the sentences for a person. All values are worked out by
 // hand from the table in the documents. A line of a table is a case; one space parts its words.
-use command_line::{complaint, is_command, read_command, usage};
+use command_line::{
+    COMMANDS, CommandName, POSITIONALS, asked_help, complaint, help_text, is_command, read_command,
+    usage,
+};
 use std::alloc::Global;
 use std::process::Abort;
 use std::test::Fail;
@@ -73,9 +76,17 @@ const ACCEPTED: &str = "\
     convert p r o => Some(Convert(ConvertCommand { program: \"p\", recording: \"r\", out: \"o\" }))\n\
     convert p p q => Some(Convert(ConvertCommand { program: \"p\", recording: \"p\", out: \"q\" }))\n\
     convert p r p => Some(Convert(ConvertCommand { program: \"p\", recording: \"r\", out: \"p\" }))\n\
-    serve p 80 1 --record r --report t => Some(Serve(ServeCommand { session: RunCommand { program: \"p\", recording: \"r\", report: \"t\", form: Text, frame: Line, window: 4, hold: 0, ring: 8, every: 1, frames: 4, budget: 1000000, guard: Off }, port: 80, conns: 1, patience: 60 }))\n\
-    serve --patience 0 p --record 80 --report 1 65535 --frame whole 4096 --form json --window 64 --ring 16 --every 64 --frames 16 --budget 16777216 => Some(Serve(ServeCommand { session: RunCommand { program: \"p\", recording: \"80\", report: \"1\", form: Json, frame: Whole, window: 64, hold: 0, ring: 16, every: 64, frames: 16, budget: 16777216, guard: Off }, port: 65535, conns: 4096, patience: 0 }))\n\
-    serve 1 1 1 --record r --report t --patience 3600 --guard extent => Some(Serve(ServeCommand { session: RunCommand { program: \"1\", recording: \"r\", report: \"t\", form: Text, frame: Line, window: 4, hold: 0, ring: 8, every: 1, frames: 4, budget: 1000000, guard: Extent }, port: 1, conns: 1, patience: 3600 }))\n";
+    serve p 80 1 --record r --report t => Some(Serve(ServeCommand { session: RunCommand { program: \"p\", recording: \"r\", report: \"t\", form: Text, frame: Line, window: 4, hold: 0, ring: 8, every: 1, frames: 4, budget: 1000000, guard: Off }, port: 80, conns: 1, patience: 60, at_once: 1 }))\n\
+    serve --patience 0 p --record 80 --report 1 65535 --frame whole 4096 --form json --window 64 --ring 16 --every 64 --frames 16 --budget 16777216 => Some(Serve(ServeCommand { session: RunCommand { program: \"p\", recording: \"80\", report: \"1\", form: Json, frame: Whole, window: 64, hold: 0, ring: 16, every: 64, frames: 16, budget: 16777216, guard: Off }, port: 65535, conns: 4096, patience: 0, at_once: 1 }))\n\
+    serve 1 1 1 --record r --report t --patience 3600 --guard extent => Some(Serve(ServeCommand { session: RunCommand { program: \"1\", recording: \"r\", report: \"t\", form: Text, frame: Line, window: 4, hold: 0, ring: 8, every: 1, frames: 4, budget: 1000000, guard: Extent }, port: 1, conns: 1, patience: 3600, at_once: 1 }))\n\
+    serve p 80 2 --at-once 256 --record r --report t => Some(Serve(ServeCommand { session: RunCommand { program: \"p\", recording: \"r\", report: \"t\", form: Text, frame: Line, window: 4, hold: 0, ring: 8, every: 1, frames: 4, budget: 1000000, guard: Off }, port: 80, conns: 2, patience: 60, at_once: 256 }))\n\
+    diagnose p --record r --report t --diagnosis d => Some(Diagnose(DiagnoseCommand { session: RunCommand { program: \"p\", recording: \"r\", report: \"t\", form: Text, frame: Line, window: 4, hold: 0, ring: 8, every: 1, frames: 4, budget: 1000000, guard: Off }, diagnosis: \"d\" }))\n\
+    diagnose --diagnosis d --hold 7 --report t p --record r --form json => Some(Diagnose(DiagnoseCommand { session: RunCommand { program: \"p\", recording: \"r\", report: \"t\", form: Json, frame: Line, window: 4, hold: 7, ring: 8, every: 1, frames: 4, budget: 1000000, guard: Off }, diagnosis: \"d\" }))\n\
+    drill 0 1 => Some(Drill(DrillCommand { seed: 0, count: 1 }))\n\
+    drill 4294967295 100000 => Some(Drill(DrillCommand { seed: 4294967295, count: 100000 }))\n\
+    drill 7 7 => Some(Drill(DrillCommand { seed: 7, count: 7 }))\n\
+    frame => Some(Frame)\n\
+    unframe => Some(Unframe)\n";
 
 // Refused behind `run p --record r --report t `.
 const REFUSED_ENDS: &str = "\
@@ -203,14 +214,60 @@ const REFUSED: &str = "\n \n\
     serve p 80 1 --record r --report t --patience 3601\n\
     serve p 80 1 --record r --report t --patience 05\n\
     serve p 80 1 --record r --report t --patience 5 --patience 5\n\
-    serve p 80 1 --record r --report t --at-once 1\n\
+    serve p 80 1 --record r --report t --at-once 0\n\
+    serve p 80 1 --record r --report t --at-once 257\n\
+    serve p 80 1 --record r --report t --at-once 01\n\
+    serve p 80 1 --record r --report t --at-once 2 --at-once 2\n\
+    run p --record r --report t --at-once 1\n\
+    diagnose p --record r --report t\n\
+    diagnose p --record r --report t --diagnosis p\n\
+    diagnose p --record r --report t --diagnosis r\n\
+    diagnose p --record r --report t --diagnosis t\n\
+    run p --record r --report t --diagnosis d\n\
+    drill\n\
+    drill 1\n\
+    drill 1 2 3\n\
+    drill 01 1\n\
+    drill -1 1\n\
+    drill 4294967296 1\n\
+    drill 0 0\n\
+    drill 0 100001\n\
+    drill 0 +1\n\
+    drill p 1\n\
+    drill 0 1 --ring 2\n\
+    frame a\n\
+    frame \n\
+    frame --frame line\n\
+    frame --\n\
+    Frame\n\
+    unframe a\n\
+    unframe --form text\n\
+    help\n\
+    help run\n\
+    help frame\n\
+    run --help\n\
+    frame --help\n\
+    --help\n\
+    --version\n\
     serve p 80 1 --record r --report t --guard blocks\n\
     asm a b --guard off\n\
     replay p r --guard off\n";
 
 const COMPLAINTS: &str =
-    " => word 1: the command is missing, run or asm or replay or convert or serve\n\
-    drill p => word 1: the command is run or asm or replay or convert or serve, not drill\n\
+    " => word 1: the command is missing, run or asm or replay or convert or serve or diagnose or drill or frame or unframe\n\
+    dril p => word 1: the command is run or asm or replay or convert or serve or diagnose or drill or frame or unframe, not dril\n\
+    drill p => word 2: SEED is 0 to 4294967295, not p\n\
+    drill 4294967296 => word 2: SEED is 0 to 4294967295, not 4294967296\n\
+    drill 1 100001 => word 3: COUNT is 1 to 100000, not 100001\n\
+    drill 1 => word 3: COUNT is missing\n\
+    drill 1 1 --ring 2 => word 4: --ring is no option of drill\n\
+    drill 1 1 => \n\
+    frame a => word 2: a is one name too many for frame\n\
+    frame --form text => word 2: --form is no option of frame\n\
+    unframe => \n\
+    diagnose p --record r --report t => word 7: --diagnosis is missing, a name\n\
+    diagnose p --diagnosis r --report t --record r => word 8: --record and --diagnosis are two names, not r twice\n\
+    serve p 80 1 --at-once 257 => word 6: --at-once is 1 to 256, not 257\n\
     serve p => word 3: PORT is missing\n\
     serve p 65536 => word 3: PORT is 1 to 65535, not 65536\n\
     serve p --record r 80 0 => word 6: CONNS is 1 to 4096, not 0\n\
@@ -274,6 +331,74 @@ const SERVE_USAGE: &str =
   --budget 1 to 16777216 (1000000)
   --guard off or extent or block (off)
   --patience 0 to 3600 (60)
+  --at-once 1 to 256 (1)
+";
+
+const DIAGNOSE_USAGE: &str = "diagnose PROGRAM and in any place, each once:
+  --record a name, always
+  --report a name, always
+  --diagnosis a name, always
+  --form text or json (text)
+  --frame line or length or whole (line)
+  --window 1 to 64 (4)
+  --hold 0 to 1000 (0)
+  --ring 1 to 16 (8)
+  --every 1 to 64 (1)
+  --frames 2 to 16 (4)
+  --budget 1 to 16777216 (1000000)
+  --guard off or extent or block (off)
+drill SEED (0 to 4294967295) COUNT (1 to 100000)
+frame
+unframe
+";
+
+// What the words of a line ask of the program itself.
+const ASKED: &str = " => None\n\
+    help => Some(All)\n\
+    --help => Some(All)\n\
+    -h => Some(All)\n\
+    --version => Some(Version)\n\
+    -v => None\n\
+    version => None\n\
+    Help => None\n\
+    help run => Some(Of(Run))\n\
+    help asm => Some(Of(Asm))\n\
+    help replay => Some(Of(Replay))\n\
+    help convert => Some(Of(Convert))\n\
+    help serve => Some(Of(Serve))\n\
+    help diagnose => Some(Of(Diagnose))\n\
+    help drill => Some(Of(Drill))\n\
+    help frame => Some(Of(Frame))\n\
+    help unframe => Some(Of(Unframe))\n\
+    help help => None\n\
+    help --help => None\n\
+    help runs => None\n\
+    run --help => Some(Of(Run))\n\
+    unframe --help => Some(Of(Unframe))\n\
+    run -h => None\n\
+    run help => None\n\
+    --help run => None\n\
+    --version run => None\n\
+    help run p => None\n\
+    run p --help => None\n";
+
+const SERVE_HELP: &str = "serve PROGRAM PORT CONNS --record NAME --report NAME [--OPTION VALUE] ..
+  Runs a program for the clients of a port of this machine.
+  PROGRAM a name: The file of the program, a static executable.
+  PORT 1 to 65535: The port that clients connect to, on 127.0.0.1.
+  CONNS 1 to 4096: How many connections are served.
+  --record a name: Where the record of the session is written.
+  --report a name: Where the report of the failures is written.
+  --form text or json (text): The form of the report.
+  --frame line or length or whole (line): How the bytes of a connection are cut into messages.
+  --window 1 to 64 (4): The memory of the program, in MiB.
+  --ring 1 to 16 (8): How many checkpoints of the program are kept at most.
+  --every 1 to 64 (1): How many items are taken from one checkpoint to the next at least.
+  --frames 2 to 16 (4): How often the memory of the program is taken, for it and its checkpoints.
+  --budget 1 to 16777216 (1000000): How many instructions may come from one item to the next.
+  --guard off or extent or block (off): Which accesses to the heap are refused, by its blocks.
+  --patience 0 to 3600 (60): For how many seconds a client is waited for. With 0 it is without limit.
+  --at-once 1 to 256 (1): How many clients are served at the same time. With 1 it is one after another.
 ";
 
 #[test]
@@ -291,21 +416,80 @@ fn words_are_read_and_a_person_is_told(rt: HostRuntime) -> Result<(), Fail> {
 
 #[test]
 fn usage_is_told(rt: HostRuntime) -> Result<(), Fail> {
-    for (command, first, rest, last) in [
-        ("run", RUN_USAGE, "", ""),
-        ("asm", "", "asm SOURCE OUT\n", ""),
-        ("convert", "", "convert PROGRAM RECORD OUT\n", ""),
-        ("serve", "", "", SERVE_USAGE),
+    for (command, first, rest, last, others) in [
+        ("run", RUN_USAGE, "", "", ""),
+        ("asm", "", "asm SOURCE OUT\n", "", ""),
+        ("convert", "", "convert PROGRAM RECORD OUT\n", "", ""),
+        ("serve", "", "", SERVE_USAGE, ""),
         (
             "drill",
+            "",
+            "drill SEED (0 to 4294967295) COUNT (1 to 100000)\n",
+            "",
+            "",
+        ),
+        (
+            "help",
             RUN_USAGE,
             "asm SOURCE OUT\nreplay PROGRAM RECORD\nconvert PROGRAM RECORD OUT\n",
             SERVE_USAGE,
+            DIAGNOSE_USAGE,
         ),
     ] {
         let told = usage(rt.alloc(), command)?;
-        let expected = format!(in rt.alloc(); "{first}{rest}{last}")?;
+        let expected = format!(in rt.alloc(); "{first}{rest}{last}{others}")?;
         assert_eq!(rt; told.as_str(), expected.as_str(), "{command}");
     }
     Ok(())
+}
+
+// What the words of a line ask of the program itself.
+fn asked_by(alloc: Global, line: &str) -> Result<String, Fail> {
+    let words = words_of(alloc, line)?;
+    let asked = asked_help(words.as_slice());
+    Ok(format!(in alloc; "{asked:?}")?)
+}
+
+#[test]
+fn help_is_asked_for(rt: HostRuntime) -> Result<(), Fail> {
+    for row in ASKED.lines() {
+        let (line, expected) = row.split_once(" => ").unwrap_or((row, ""));
+        let asked = asked_by(rt.alloc(), line)?;
+        assert_eq!(rt; asked.as_str(), expected, "{row}");
+    }
+    Ok(())
+}
+
+#[test]
+fn help_is_told(rt: HostRuntime) -> Result<(), Fail> {
+    for (name, expected) in [
+        (CommandName::Serve, SERVE_HELP),
+        (
+            CommandName::Asm,
+            "asm SOURCE OUT\n  Assembles a text, and writes its executable.\n  SOURCE a name: The file of the text that is assembled.\n  OUT a name: The file that is written.\n",
+        ),
+        (
+            CommandName::Frame,
+            "frame\n  Turns lines on standard input into frames of the trunk on standard output.\n",
+        ),
+    ] {
+        let told = help_text(rt.alloc(), Some(name))?;
+        assert_eq!(rt; told.as_str(), expected, "{name:?}");
+    }
+    let all = help_text(rt.alloc(), None)?;
+    assert_eq!(rt; all.as_str().lines().count(), 18);
+    Ok(())
+}
+
+#[test]
+fn each_sentence_is_short(rt: HostRuntime) {
+    for command in COMMANDS {
+        assert!(rt; command.says.len() <= 100, "{}", command.says);
+        for row in command.options {
+            assert!(rt; row.says.len() <= 100, "{}", row.says);
+        }
+    }
+    for row in POSITIONALS {
+        assert!(rt; row.says.len() <= 100, "{}", row.says);
+    }
 }

@@ -8,15 +8,18 @@
 //
 // What is played: `words` of the command, or `options` behind the usual ones; `before`, what `r` and `t` have, which else aren't there; `in`,
 // the input; `files`, `source` and `sink`, the numbers of the calls on them that fail; `takes` and `gives`, how many bytes a call on the source
-// and on the sink moves at most. `clients`, what each client of a port sends, texts between `|`; `bind`, `accept`, `take` and `give`, the numbers
-// of the calls on the listener that fail; `moves`, how many bytes such a call takes or gives at most.
+// and on the sink moves at most. `clients`, what each client of a port sends, texts between `|`; `bind`, `wait`, `accept`, `take` and `give`, the
+// numbers of the calls on the listener and on the crowd that fail; `moves`, how many bytes such a call takes or gives at most. `ready`, what the waits
+// on the crowd answer one after another: `client`, or a connection's number.
 //
 // What is expected, where it stands: `end`, the answer, the status, how many choices are recorded, those behind them, the instructions and the
 // items taken, or `answer` alone; `out`, all that stands in the sink; `left`, what the source gives in one call more; `record` and `report`, the
 // texts of `r` and `t`, `none` where they aren't there; `written`, the bytes of `o`, and `o`, its text; `calls`, those on the listener, each
-// behind a blank; `replies`, what each client was given, a `|` behind each.
+// behind a blank; `replies`, what each client was given, a `|` behind each. `crowd`, the calls on the crowd: a wait for any or for an open one, with
+// what was ready, and at the others their connection; `given`, what each of its connections was given, a `|` behind each.
 ghost use Rattle.std.specs.Prelude.{◌≡◌, ◌<◌};
 
+use crowd::{CrowdCall, CrowdEntry, MemoryCrowd, Ready, TameCrowd};
 use example_guests::source_of;
 use rx_io::{
     Files, ListenCall, ListenEntry, MemoryFiles, MemoryListener, MemorySink, MemorySource, Sink,
@@ -48,6 +51,7 @@ struct Outside {
     source: MemorySource,
     sink: MemorySink,
     listener: MemoryListener,
+    crowd: MemoryCrowd,
 }
 
 // How a command ended, and what it was run over.
@@ -60,11 +64,14 @@ struct Outcome {
 // A call on a listener, and the name of its cell.
 type CallRow = (ListenCall, &'static str);
 
+// A call on a crowd, and the name of its cell.
+type CrowdRow = (CrowdCall, &'static str);
+
 // The names that cells may have.
-const NAMES: [&str; 25] = [
+const NAMES: [&str; 29] = [
     "words", "options", "before", "in", "files", "source", "sink", "takes", "gives", "clients",
     "bind", "accept", "take", "give", "moves", "end", "answer", "out", "left", "record", "report",
-    "written", "o", "calls", "replies",
+    "written", "o", "calls", "replies", "ready", "wait", "crowd", "given",
 ];
 
 fn expect_known(name: &str) -> Result<(), Fail> {
@@ -155,6 +162,7 @@ pub fn run_over<L: Ledger, F: Files, S: Source, K: Sink>(
 {
     let words = words_of(alloc, line)?;
     let mut listener = TameListener::make(alloc, Vec::new(alloc), 1);
+    let mut crowd = TameCrowd::make(alloc, Vec::new(alloc), Vec::new(alloc), 1);
     let mut steps = Steps::<L>::start(blank);
     Ok(run_rx(
         alloc,
@@ -163,6 +171,7 @@ pub fn run_over<L: Ledger, F: Files, S: Source, K: Sink>(
         source,
         sink,
         &mut listener,
+        &mut crowd,
         &mut steps,
     ))
 }
@@ -236,13 +245,67 @@ fn listener_in(alloc: Global, row: &str) -> Result<MemoryListener, Fail> {
     Ok(MemoryListener::make(alloc, inputs, fails, most))
 }
 
-// What a row says of files, streams and listener.
+// Adds which call of a kind fails.
+fn push_crowd_fail(
+    fails: &mut Vec<(CrowdCall, u64)>,
+    row: &str,
+    call: CrowdRow,
+) -> Result<(), Fail> {
+    let fail = number_of(row, call.1, 0)? as u64;
+    fails.push((call.0, fail))?;
+    Ok(())
+}
+
+// The calls on the crowd of a row that fail.
+fn crowd_fails_of(alloc: Global, row: &str) -> Result<Vec<(CrowdCall, u64)>, Fail> {
+    let calls: [CrowdRow; 5] = [
+        (CrowdCall::Bind, "bind"),
+        (CrowdCall::Wait, "wait"),
+        (CrowdCall::Accept, "accept"),
+        (CrowdCall::Take, "take"),
+        (CrowdCall::Give, "give"),
+    ];
+    let mut fails = Vec::new(alloc);
+    for call in calls {
+        push_crowd_fail(&mut fails, row, call)?;
+    }
+    Ok(fails)
+}
+
+// What is ready by a word.
+fn ready_of(word: &str) -> Result<Ready, Fail> {
+    if word == "client" {
+        return Ok(Ready::Accepts);
+    }
+    Ok(Ready::Reads(word.parse::<u16>()?))
+}
+
+// What the waits of a row answer.
+fn script_of(alloc: Global, row: &str) -> Result<Vec<Ready>, Fail> {
+    let mut script = Vec::new(alloc);
+    for word in cell_of(row, "ready").unwrap_or("").split_whitespace() {
+        script.push(ready_of(word)?)?;
+    }
+    Ok(script)
+}
+
+// The crowd of a row.
+fn crowd_in(alloc: Global, row: &str) -> Result<MemoryCrowd, Fail> {
+    let inputs = inputs_of(alloc, cell_of(row, "clients").unwrap_or(""))?;
+    let script = script_of(alloc, row)?;
+    let fails = crowd_fails_of(alloc, row)?;
+    let most = number_of(row, "moves", 10_000)?.max(1);
+    Ok(MemoryCrowd::make(alloc, inputs, script, fails, most))
+}
+
+// What a row says of files, streams, listener and crowd.
 fn outside_in(alloc: Global, program: &[u8], row: &str) -> Result<Outside, Fail> {
     Ok(Outside {
         files: files_of(alloc, program, row)?,
         source: source_in(alloc, row)?,
         sink: sink_in(alloc, row)?,
         listener: listener_in(alloc, row)?,
+        crowd: crowd_in(alloc, row)?,
     })
 }
 
@@ -273,6 +336,7 @@ fn run_counted<L: Ledger>(
         &mut outside.source,
         &mut outside.sink,
         &mut outside.listener,
+        &mut outside.crowd,
         &mut steps,
     )
 }
@@ -387,6 +451,77 @@ fn replies_in(alloc: Global, calls: &[ListenEntry]) -> Result<Vec<u8>, AllocErro
     Ok(replies)
 }
 
+// What a wait answered.
+fn ready_shown(alloc: Global, ready: Ready) -> Result<String, AllocError> {
+    match ready {
+        Ready::Accepts => String::from_str(alloc, "client"),
+        Ready::Reads(conn) => format!(in alloc; "{conn}"),
+    }
+}
+
+// A call on a crowd, behind a blank.
+fn crowd_call_shown(alloc: Global, call: &CrowdEntry) -> Result<String, AllocError> {
+    match call {
+        CrowdEntry::Bound(port) => format!(in alloc; " bound {port}"),
+        CrowdEntry::Waited { may_accept, ready } => {
+            let asked = if *may_accept { "any" } else { "open" };
+            let ready = ready_shown(alloc, *ready)?;
+            format!(in alloc; " {asked} {ready}")
+        }
+        CrowdEntry::Accepted(conn) => format!(in alloc; " accepted {conn}"),
+        CrowdEntry::Took { conn, bytes, room } => {
+            format!(in alloc; " took {conn} {} of {room}", bytes.as_slice().len())
+        }
+        CrowdEntry::Gave {
+            conn,
+            bytes,
+            offered,
+        } => { format!(in alloc; " gave {conn} {} of {offered}", bytes.as_slice().len()) }
+        CrowdEntry::Closed(conn) => format!(in alloc; " closed {conn}"),
+        CrowdEntry::Failed(call) => format!(in alloc; " failed {call:?}"),
+    }
+}
+
+// The calls on a crowd.
+fn crowd_calls_shown(alloc: Global, calls: &[CrowdEntry]) -> Result<String, AllocError> {
+    let mut text = String::new(alloc);
+    for call in calls {
+        let shown = crowd_call_shown(alloc, call)?;
+        text.push_str(shown.as_str())?;
+    }
+    Ok(text)
+}
+
+// Adds what a call gave to a connection.
+fn push_given(given: &mut Vec<u8>, call: &CrowdEntry, of: u16) -> Result<(), AllocError> {
+    if let CrowdEntry::Gave { conn, bytes, .. } = call {
+        if *conn == of {
+            given.extend_from_slice(bytes.as_slice())?;
+        }
+    }
+    Ok(())
+}
+
+// Adds what a connection was given, and a `|`.
+fn push_connection(given: &mut Vec<u8>, calls: &[CrowdEntry], of: u16) -> Result<(), AllocError> {
+    for call in calls {
+        push_given(given, call, of)?;
+    }
+    given.push(b'|')?;
+    Ok(())
+}
+
+// What each connection of a crowd was given, a `|` behind each.
+fn given_in(alloc: Global, calls: &[CrowdEntry]) -> Result<Vec<u8>, AllocError> {
+    let mut given = Vec::new(alloc);
+    for call in calls {
+        if let CrowdEntry::Accepted(conn) = call {
+            push_connection(&mut given, calls, *conn)?;
+        }
+    }
+    Ok(given)
+}
+
 // Compares a text with a cell, if it stands there.
 fn expect_text(
     rt: &impl Abort,
@@ -457,6 +592,20 @@ fn expect_calls(
     expect_text(rt, alloc, row, "replies", replies.as_str())
 }
 
+// Compares the calls on a crowd with a row.
+fn expect_crowd(
+    rt: &impl Abort,
+    alloc: Global,
+    row: &str,
+    calls: &[CrowdEntry],
+) -> Result<(), Fail> {
+    let shown = crowd_calls_shown(alloc, calls)?;
+    expect_text(rt, alloc, row, "crowd", shown.as_str())?;
+    let given = given_in(alloc, calls)?;
+    let given = String::from_utf8_lossy(alloc, given.as_slice())?;
+    expect_text(rt, alloc, row, "given", given.as_str())
+}
+
 // Compares an answer and its counts with a row.
 fn expect_end(rt: &impl Abort, alloc: Global, row: &str, end: &End) -> Result<(), Fail> {
     let text = shown(alloc, end)?;
@@ -476,7 +625,8 @@ fn expect_outside(
     expect_bytes(rt, alloc, row, "left", left.as_slice())?;
     expect_bytes(rt, alloc, row, "out", seen.sink.bytes())?;
     expect_files(rt, alloc, row, &seen.files)?;
-    expect_calls(rt, alloc, row, seen.listener.calls())
+    expect_calls(rt, alloc, row, seen.listener.calls())?;
+    expect_crowd(rt, alloc, row, seen.crowd.calls())
 }
 
 // Plays a row, and compares.

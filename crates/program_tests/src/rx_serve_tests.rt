@@ -168,6 +168,34 @@ fn a_guard_finds_an_access_where_it_goes_wrong(rt: HostRuntime) -> Result<(), Fa
     )
 }
 
+// A table has ten trials, five for each of two checkpoints, and the session is that of `run`: its output, record and report are those of the rows above.
+// Calls on files are the five of a `run` before its session, to start `o` and to add to it, those of the session, and to add the rest to `o`.
+#[test]
+fn a_failure_is_diagnosed_as_its_row_says(rt: HostRuntime) -> Result<(), Fail> {
+    play_rows(
+        &rt,
+        rt.alloc(),
+        r#"
+        overflow
+        words=diagnose p --record r --report t --diagnosis o; in=0100000000 0200002800 78*39 0a; end=Finished 0 2 [] 303 2; out=0200002800 78*39 0a; left=; record=rx record 2 window 4 frame line/m 00012100 - 00000010/m 00012310 - 00000010/end 303 2/; report=rx report 1/failure 0 point 2 cause AssertFailed 1 at 000100ac/try 0 checkpoint 1 env pad result survived/end 0 taken 2 steps 303/; o=rx diagnosis 1/failure 0 point 2 cause AssertFailed 1 at 000100ac/try 0 checkpoint 1 env pad result survived/try 1 checkpoint 1 env zero result AssertFailed 1/try 2 checkpoint 1 env isolate result AssertFailed 1/try 3 checkpoint 1 env delay result AssertFailed 1/try 4 checkpoint 1 env all result survived/try 5 checkpoint 0 env pad result survived/try 6 checkpoint 0 env zero result AssertFailed 1/try 7 checkpoint 0 env isolate result AssertFailed 1/try 8 checkpoint 0 env delay result AssertFailed 1/try 9 checkpoint 0 env all result survived/verdict pad all/end 0 episodes 1/
+        words=diagnose p --record r --report t --diagnosis o --ring 1; in=0100000000 0200002800 78*39 0a 0200000100 0a 0200000100 0a 0200000100 0a 0200002800 78*39 0a; end=Finished 0 10 [] 749 6; left=; record=rx record 2 window 4 frame line/m 00012100 - 00000010/m 00012310 - 00000010/m 00012100 - 00000010/m 00012310 - 00000010/m 00012100 - 00000010/m 00012310 - 00000010/m 00012100 - 00000010/m 00012310 - 00000010/m 00012100 - 00000010/m 00012310 - 00000010/end 749 6/; report=rx report 1/failure 0 point 2 cause AssertFailed 1 at 000100ac/try 0 checkpoint 1 env pad result survived/failure 1 point 6 cause AssertFailed 1 at 000100ac/try 0 checkpoint 5 env pad result survived/end 0 taken 6 steps 749/; o=rx diagnosis 1/failure 0 point 2 cause AssertFailed 1 at 000100ac/try 0 checkpoint 1 env pad result survived/try 1 checkpoint 1 env zero result AssertFailed 1/try 2 checkpoint 1 env isolate result AssertFailed 1/try 3 checkpoint 1 env delay result AssertFailed 1/try 4 checkpoint 1 env all result survived/verdict pad all/failure 1 point 6 cause AssertFailed 1 at 000100ac/try 0 checkpoint 5 env pad result survived/try 1 checkpoint 5 env zero result AssertFailed 1/try 2 checkpoint 5 env isolate result AssertFailed 1/try 3 checkpoint 5 env delay result AssertFailed 1/try 4 checkpoint 5 env all result survived/verdict pad all/end 0 episodes 2/
+        # Nothing fails.
+        words=diagnose p --record r --report t --diagnosis o; in=0100000000 0200000300 68690a; end=Finished 0 2 [] 81 2; out=0200000300 68690a; left=; o=rx diagnosis 1/end 0 episodes 0/
+        # The diagnosis can't be started, or its first line not be added, and no session begins.
+        words=diagnose p --record r --report t --diagnosis o; in=0100000000 0200002800 78*39 0a; files=6; end=FileFault 9 0 [] 0 0; out=; left=0100000000 0200002800 78*39 0a; record=rx record 2 window 4 frame line/; report=rx report 1/; o=none
+        words=diagnose p --record r --report t --diagnosis o; in=0100000000 0200002800 78*39 0a; files=7; end=FileFault 9 0 [] 0 0; out=; left=0100000000 0200002800 78*39 0a; record=rx record 2 window 4 frame line/; report=rx report 1/; o=
+        # The episode can't be noted; the last line of the report can't be added; the rest of the diagnosis can't.
+        words=diagnose p --record r --report t --diagnosis o; in=0100000000 0200002800 78*39 0a; files=8; end=FileFault 9 0 [Choice { ask: Malloc { size: 16 }, at: 73984, zeroed: false }, Choice { ask: Malloc { size: 16 }, at: 74512, zeroed: false }] 303 2; out=; left=; record=rx record 2 window 4 frame line/; report=rx report 1/; o=rx diagnosis 1/
+        words=diagnose p --record r --report t --diagnosis o; in=0100000000 0200002800 78*39 0a; files=11; end=FileFault 9 2 [] 303 2; out=0200002800 78*39 0a; left=; record=rx record 2 window 4 frame line/m 00012100 - 00000010/m 00012310 - 00000010/end 303 2/; report=rx report 1/failure 0 point 2 cause AssertFailed 1 at 000100ac/try 0 checkpoint 1 env pad result survived/; o=rx diagnosis 1/
+        words=diagnose p --record r --report t --diagnosis o; in=0100000000 0200002800 78*39 0a; files=12; end=FileFault 9 2 [] 303 2; out=0200002800 78*39 0a; left=; record=rx record 2 window 4 frame line/m 00012100 - 00000010/m 00012310 - 00000010/end 303 2/; report=rx report 1/failure 0 point 2 cause AssertFailed 1 at 000100ac/try 0 checkpoint 1 env pad result survived/end 0 taken 2 steps 303/; o=rx diagnosis 1/
+        words=diagnose p --record r --report t --diagnosis t; in=0100000000 0200002800 78*39 0a; files=1; end=BadWords 2 0 [] 0 0; out=; left=0100000000 0200002800 78*39 0a; record=none; report=none
+
+        null
+        words=diagnose p --record r --report t --diagnosis o; in=0100000000 0200000200 780a; end=GaveUp { point: 2, cause: BadAccess } 5 0 [] 20 2; out=; left=; record=rx record 2 window 4 frame line/end 20 2/; report=rx report 1/failure 0 point 2 cause BadAccess at 00010028/try 0 checkpoint 1 env pad result BadAccess/try 1 checkpoint 1 env zero result BadAccess/try 2 checkpoint 1 env isolate result BadAccess/try 3 checkpoint 1 env delay result BadAccess/try 4 checkpoint 1 env all result BadAccess/try 5 checkpoint 0 env pad result BadAccess/try 6 checkpoint 0 env zero result BadAccess/try 7 checkpoint 0 env isolate result BadAccess/try 8 checkpoint 0 env delay result BadAccess/try 9 checkpoint 0 env all result BadAccess/end 5 taken 2 steps 20/; o=rx diagnosis 1/failure 0 point 2 cause BadAccess at 00010028/try 0 checkpoint 1 env pad result BadAccess/try 1 checkpoint 1 env zero result BadAccess/try 2 checkpoint 1 env isolate result BadAccess/try 3 checkpoint 1 env delay result BadAccess/try 4 checkpoint 1 env all result BadAccess/try 5 checkpoint 0 env pad result BadAccess/try 6 checkpoint 0 env zero result BadAccess/try 7 checkpoint 0 env isolate result BadAccess/try 8 checkpoint 0 env delay result BadAccess/try 9 checkpoint 0 env all result BadAccess/verdict none/end 5 episodes 1/
+    "#,
+    )
+}
+
 // The source fails at its second call, and the sink, which takes three bytes, at its second.
 #[test]
 fn a_call_fails_at_the_start(rt: HostRuntime) -> Result<(), Fail> {
@@ -294,6 +322,25 @@ fn a_record_is_replayed_as_its_row_says(rt: HostRuntime) -> Result<(), Fail> {
     )
 }
 
+// A drill needs nothing but its output. Lines become frames and frames lines, and what is refused is told by its first byte.
+#[test]
+fn a_command_without_a_program_ends_as_its_row_says(rt: HostRuntime) -> Result<(), Fail> {
+    play_rows(
+        &rt,
+        rt.alloc(),
+        r#"
+        three
+        words=drill 0 1; in=00; end=Finished 0 0 [] 0 0; out=6472696c6c203020310a6974656d7320390a657069736f64657320300a627974657320350a73746174757320300a; left=00; record=none; report=none
+        words=drill 0 1; sink=1; end=WriteFault 8 0 [] 0 0; out=; record=none
+        words=frame; in=2b300a 303e68690a 2d30; end=Finished 0 0 [] 0 0; out=0100000000 0200000300 68690a 0300000000; left=; record=none
+        words=frame; in=2b300a 303f0a 2d30; end=InputRefused { kind: 7, offset: 3 } 4 0 [] 0 0; out=0100000000; left=2d30
+        words=frame; in=2b300a 2d300a; source=4; end=ReadFault 7 0 [] 0 0; out=0100000000
+        words=unframe; in=0200000300 68690a 0201000100 78; end=Finished 0 0 [] 0 0; out=303c68690a 313c785c0a; left=
+        words=unframe; in=0200000300 68690a 0900000000 00; end=InputRefused { kind: 1, offset: 8 } 4 0 [] 0 0; out=303c68690a; left=00
+    "#,
+    )
+}
+
 // The records of both versions become one of version 2, and nothing is given. Calls on files are to load the program and the record, to start `o` and to add
 // to it.
 #[test]
@@ -358,6 +405,53 @@ fn a_guest_that_fails_serves_a_port(rt: HostRuntime) -> Result<(), Fail> {
         overflow
         words=serve p 80 2 --record r --report t; clients=xxxxxxxxxxxxxxxxxxxxxxxxxxxxxxxxxxxxxxx/|yyyyyyyyyyyyyyyyyyyyyyyyyyyyyyyyyyyyyyy/; end=Finished 0 4 [] 620 6; replies=xxxxxxxxxxxxxxxxxxxxxxxxxxxxxxxxxxxxxxx/|yyyyyyyyyyyyyyyyyyyyyyyyyyyyyyyyyyyyyyy/|; calls= bound 80 accepted took 40 of 4096 gave 40 of 40 took 0 of 4096 closed accepted took 40 of 4096 gave 40 of 40 took 0 of 4096 closed; record=rx record 2 window 4 frame line/m 00012100 - 00000010/m 00012310 - 00000010/m 00012100 - 00000010/m 00012310 - 00000010/end 620 6/; report=rx report 1/failure 0 point 2 cause AssertFailed 1 at 000100ac/try 0 checkpoint 1 env pad result survived/end 0 taken 6 steps 620/
         words=serve p 80 2 --record r --report t; clients=xxxxxxxxxxxxxxxxxxxxxxxxxxxxxxxxxxxxxxx//|yyyyyyyyyyyyyyyyyyyyyyyyyyyyyyyyyyyyyyy/; end=Finished 0 6 [] 673 7; replies=xxxxxxxxxxxxxxxxxxxxxxxxxxxxxxxxxxxxxxx//|yyyyyyyyyyyyyyyyyyyyyyyyyyyyyyyyyyyyyyy/|; calls= bound 80 accepted took 41 of 4096 gave 40 of 40 gave 1 of 1 took 0 of 4096 closed accepted took 40 of 4096 gave 40 of 40 took 0 of 4096 closed; record=rx record 2 window 4 frame line/m 00012100 - 00000010/m 00012310 - 00000010/m 00012100 - 00000010/m 00012310 - 00000010/m 00012100 - 00000010/m 00012310 - 00000010/end 673 7/; report=rx report 1/failure 0 point 2 cause AssertFailed 1 at 000100ac/try 0 checkpoint 1 env pad result survived/failure 1 point 6 cause AssertFailed 1 at 000100ac/try 0 checkpoint 5 env pad result survived/end 0 taken 7 steps 673/
+    "#,
+    )
+}
+
+// Several clients of a port are served at the same time, in the order in which they are ready. The echo takes an open, a line and a close of each: 10, 18
+// and 10 instructions behind its first 6.
+#[test]
+fn a_crowd_is_served_as_its_row_says(rt: HostRuntime) -> Result<(), Fail> {
+    play_rows(
+        &rt,
+        rt.alloc(),
+        r#"
+        echo
+        # Their requests come in turns.
+        words=serve p 80 2 --record r --report t --at-once 2; clients=hi/yo/|ok/; moves=3; ready=client client 1 0 1 0; end=Finished 0 0 [] 100 7; given=hi/yo/|ok/|; crowd= bound 80 any client accepted 0 any client accepted 1 open 1 took 1 3 of 4096 gave 1 3 of 3 open 0 took 0 3 of 4096 gave 0 3 of 3 open 1 took 1 0 of 4096 closed 1 open 0 took 0 3 of 4096 gave 0 3 of 3 open 0 took 0 0 of 4096 closed 0; calls=; replies=; record=rx record 2 window 4 frame line/end 100 7/; report=rx report 1/end 0 taken 7 steps 100/
+        # The first one is silent until the other has gone.
+        words=serve p 80 2 --record r --report t --at-once 256; clients=hi/|ok/yo/; moves=3; ready=client client 1 1 1; end=Finished 0 0 [] 100 7; given=hi/|ok/yo/|; crowd= bound 80 any client accepted 0 any client accepted 1 open 1 took 1 3 of 4096 gave 1 3 of 3 open 1 took 1 3 of 4096 gave 1 3 of 3 open 1 took 1 0 of 4096 closed 1 open 0 took 0 3 of 4096 gave 0 3 of 3 open 0 took 0 0 of 4096 closed 0; record=rx record 2 window 4 frame line/end 100 7/; report=rx report 1/end 0 taken 7 steps 100/
+        # A give to one fails, or its second call does, or a take of it: it is gone, and the other one is served on.
+        words=serve p 80 2 --record r --report t --at-once 2; clients=hi/yo/|ok/; moves=3; give=1; ready=client client 1 0 0; end=Finished 0 0 [] 100 7; given=hi/yo/||; crowd= bound 80 any client accepted 0 any client accepted 1 open 1 took 1 3 of 4096 failed Give(1) closed 1 open 0 took 0 3 of 4096 gave 0 3 of 3 open 0 took 0 3 of 4096 gave 0 3 of 3 open 0 took 0 0 of 4096 closed 0; record=rx record 2 window 4 frame line/end 100 7/; report=rx report 1/end 0 taken 7 steps 100/
+        words=serve p 80 2 --record r --report t --at-once 2; clients=hi/|ok/; moves=2; give=2; ready=client client 1 1 0 0; end=Finished 0 0 [] 82 6; given=hi/|ok|; crowd= bound 80 any client accepted 0 any client accepted 1 open 1 took 1 2 of 4096 open 1 took 1 1 of 4096 gave 1 2 of 3 failed Give(1) closed 1 open 0 took 0 2 of 4096 open 0 took 0 1 of 4096 gave 0 2 of 3 gave 0 1 of 1 open 0 took 0 0 of 4096 closed 0; record=rx record 2 window 4 frame line/end 82 6/; report=rx report 1/end 0 taken 6 steps 82/
+        words=serve p 80 2 --record r --report t --at-once 2; clients=hi/yo/|ok/; moves=3; take=1; ready=client client 1 0 0; end=Finished 0 0 [] 82 6; given=hi/yo/||; crowd= bound 80 any client accepted 0 any client accepted 1 open 1 failed Take(1) closed 1 open 0 took 0 3 of 4096 gave 0 3 of 3 open 0 took 0 3 of 4096 gave 0 3 of 3 open 0 took 0 0 of 4096 closed 0; record=rx record 2 window 4 frame line/end 82 6/; report=rx report 1/end 0 taken 6 steps 82/
+        # No third client is waited for while two are open.
+        words=serve p 80 3 --record r --report t --at-once 2; clients=a/|b/|c/; ready=client client client; end=Finished 0 0 [] 120 9; given=a/|b/|c/|; crowd= bound 80 any client accepted 0 any client accepted 1 open 0 took 0 2 of 4096 gave 0 2 of 2 open 0 took 0 0 of 4096 closed 0 any client accepted 2 open 1 took 1 2 of 4096 gave 1 2 of 2 open 1 took 1 0 of 4096 closed 1 open 2 took 2 2 of 4096 gave 2 2 of 2 open 2 took 2 0 of 4096 closed 2; record=rx record 2 window 4 frame line/end 120 9/; report=rx report 1/end 0 taken 9 steps 120/
+        # The bind fails, or a wait, or an accept.
+        words=serve p 80 2 --record r --report t --at-once 2; clients=a/|b/; bind=1; end=ReadFault 7 0 [] 0 0; given=; crowd= failed Bind; record=rx record 2 window 4 frame line/; report=rx report 1/
+        words=serve p 80 2 --record r --report t --at-once 2; clients=a/|b/; wait=1; end=ReadFault 7 0 [] 6 0; given=; crowd= bound 80 failed Wait; record=rx record 2 window 4 frame line/; report=rx report 1/
+        words=serve p 80 2 --record r --report t --at-once 2; clients=a/|b/; wait=3; end=ReadFault 7 0 [] 26 2; given=||; crowd= bound 80 any client accepted 0 any client accepted 1 failed Wait; record=rx record 2 window 4 frame line/; report=rx report 1/
+        words=serve p 80 2 --record r --report t --at-once 2; clients=a/|b/; accept=2; end=ReadFault 7 0 [] 16 1; given=|; crowd= bound 80 any client accepted 0 any client failed Accept; record=rx record 2 window 4 frame line/; report=rx report 1/
+        # One at a time is served over the listener. Nothing is called where no file is loaded, nor by words of no command.
+        words=serve p 80 2 --record r --report t --at-once 1; clients=hi/|there/; end=Finished 0 0 [] 82 6; replies=hi/|there/|; crowd=; given=
+        words=serve q 80 2 --record r --report t --at-once 2; clients=hi/; end=FileFault 9 0 [] 0 0; calls=; crowd=; record=none; report=none
+        words=serve p 80 2 --record r --report t --at-once 0; clients=hi/; end=BadWords 2 0 [] 0 0; calls=; crowd=; record=none; report=none
+        words=serve p 80 2 --record r --report t --at-once 257; clients=hi/; end=BadWords 2 0 [] 0 0; calls=; crowd=; record=none; report=none
+    "#,
+    )
+}
+
+// Overflow fails at the long line of the first of two clients, its third item, and is served on with padding for four items, of which the other's line is
+// one. The instructions are as many as over a port, since no item costs more or fewer by its place.
+#[test]
+fn a_guest_that_fails_serves_a_crowd(rt: HostRuntime) -> Result<(), Fail> {
+    play_rows(
+        &rt,
+        rt.alloc(),
+        r#"
+        overflow
+        words=serve p 80 2 --record r --report t --at-once 2; clients=xxxxxxxxxxxxxxxxxxxxxxxxxxxxxxxxxxxxxxx/|yyyyyyyyyyyyyyyyyyyyyyyyyyyyyyyyyyyyyyy/; ready=client client 0 1 0 1; end=Finished 0 4 [] 620 6; given=xxxxxxxxxxxxxxxxxxxxxxxxxxxxxxxxxxxxxxx/|yyyyyyyyyyyyyyyyyyyyyyyyyyyyyyyyyyyyyyy/|; crowd= bound 80 any client accepted 0 any client accepted 1 open 0 took 0 40 of 4096 gave 0 40 of 40 open 1 took 1 40 of 4096 gave 1 40 of 40 open 0 took 0 0 of 4096 closed 0 open 1 took 1 0 of 4096 closed 1; record=rx record 2 window 4 frame line/m 00012100 - 00000010/m 00012310 - 00000010/m 00012100 - 00000010/m 00012310 - 00000010/end 620 6/; report=rx report 1/failure 0 point 3 cause AssertFailed 1 at 000100ac/try 0 checkpoint 2 env pad result survived/end 0 taken 6 steps 620/
     "#,
     )
 }

@@ -1,5 +1,5 @@
 //! `rx`: runs a guest program on the frames of standard input, and writes what it sends as frames on standard output; or serves the
-//! clients of a port with it; assembles programs, replays records, and converts them.
+//! clients of a port with it; diagnoses failures; assembles programs, replays records, and converts them.
 #![tactic(auto)]
 
 ghost use Rattle.std.specs.Prelude.{◌≡◌, ◌<◌};
@@ -7,12 +7,16 @@ ghost use Rattle.rx_serve.specs.Status.{status_of};
 
 mod blame;
 mod descriptors;
+mod helping;
 mod message;
 mod outputs;
+mod readings;
 mod telling;
+mod text_telling;
 
-use command_line::{Command, read_command};
+use command_line::{Command, asked_help, read_command};
 use descriptors::hold_closed;
+use helping::print_help;
 use outputs::{Objection, find_objection};
 use rx_io::{StdFiles, StdSink, StdSource, Steps};
 use rx_serve::{End, run_rx};
@@ -21,8 +25,8 @@ use std::env;
 use std::marker::Brand;
 use std::process::ExitCode;
 use std::sync::ledger::{Blank, Ledger};
-use tcp_edge::TcpListenerEdge;
-use telling::{tell, tell_memory, tell_not_utf8, tell_objection};
+use tcp_edge::{TcpCrowdEdge, TcpListenerEdge};
+use telling::{tell, tell_diagnosed, tell_memory, tell_not_utf8, tell_objection};
 
 // The status where memory ran out, and where the words are those of no command.
 const NO_MEMORY: u8 = 10;
@@ -65,6 +69,7 @@ fn run<L: Ledger>(rt: &HostRuntime, words: &[String], patience: u64, blank: Blan
     let mut input = StdSource::make(rt);
     let mut output = StdSink::make(rt);
     let mut listener = TcpListenerEdge::make(rt, patience);
+    let mut crowd = TcpCrowdEdge::make(rt, alloc, patience);
     let mut steps = Steps::<L>::start(blank);
     run_rx(
         alloc,
@@ -73,6 +78,7 @@ fn run<L: Ledger>(rt: &HostRuntime, words: &[String], patience: u64, blank: Blan
         &mut input,
         &mut output,
         &mut listener,
+        &mut crowd,
         &mut steps,
     )
 }
@@ -95,6 +101,9 @@ fn main(rt: HostRuntime) -> ExitCode {
             return ExitCode::from(BAD_WORDS);
         }
     };
+    if let Some(help) = asked_help(words.as_slice()) {
+        return ExitCode::from(print_help(&rt, help));
+    }
     if let Some(status) = refused_outputs(&rt, words.as_slice()) {
         return ExitCode::from(status);
     }
@@ -106,5 +115,6 @@ fn main(rt: HostRuntime) -> ExitCode {
     if end.status != 0 {
         tell(&rt, end.answer, words.as_slice());
     }
+    tell_diagnosed(&rt, end.answer, words.as_slice());
     ExitCode::from(end.status)
 }

@@ -1,18 +1,19 @@
 // The files that a command is to write, looked at before it begins: what would be lost by that.
-use command_line::{AsmCommand, Command, ConvertCommand, RunCommand};
+use command_line::{AsmCommand, Command, ConvertCommand, DiagnoseCommand, RunCommand};
 use std::fs;
 use std::fs::File;
 use std::io::Read;
 use std::os::unix::fs::MetadataExt;
 
 // How many bytes at a file's front tell of what kind it is.
-const FRONT: usize = 12;
+const FRONT: usize = 13;
 
 /// What a command writes into a file.
 #[derive(Clone, Copy, Debug, PartialEq, Eq)]
 pub enum Kind {
     Record,
     Report,
+    Diagnosis,
     Executable,
 }
 
@@ -22,6 +23,7 @@ impl Kind {
         match self {
             Kind::Record => "a record",
             Kind::Report => "a report",
+            Kind::Diagnosis => "a diagnosis",
             Kind::Executable => "an executable",
         }
     }
@@ -31,6 +33,7 @@ impl Kind {
         match self {
             Kind::Record => agree(front, b"rx record "),
             Kind::Report => agree(front, b"rx report ") || agree(front, b"{\"report\":"),
+            Kind::Diagnosis => agree(front, b"rx diagnosis "),
             Kind::Executable => agree(front, b"\x7fELF"),
         }
     }
@@ -128,6 +131,21 @@ fn objection_to_session<'a>(rt: &HostRuntime, run: &RunCommand<'a>) -> Option<Ob
     }
 }
 
+fn objection_to_diagnose<'a>(
+    rt: &HostRuntime,
+    diagnose: &DiagnoseCommand<'a>,
+) -> Option<Objection<'a>> {
+    let run = &diagnose.session;
+    let diagnosis = Output {
+        name: diagnose.diagnosis,
+        kind: Kind::Diagnosis,
+    };
+    match objection_to_session(rt, run) {
+        Some(objection) => Some(objection),
+        None => objection_to(rt, diagnosis, &[run.program, run.recording, run.report]),
+    }
+}
+
 fn objection_to_asm<'a>(rt: &HostRuntime, asm: &AsmCommand<'a>) -> Option<Objection<'a>> {
     let executable = Output {
         name: asm.out,
@@ -152,8 +170,9 @@ pub fn find_objection<'a>(rt: &HostRuntime, command: &Command<'a>) -> Option<Obj
     match command {
         Command::Run(run) => objection_to_session(rt, run),
         Command::Serve(serve) => objection_to_session(rt, &serve.session),
+        Command::Diagnose(diagnose) => objection_to_diagnose(rt, diagnose),
         Command::Asm(asm) => objection_to_asm(rt, asm),
         Command::Convert(convert) => objection_to_convert(rt, convert),
-        Command::Replay(_) => None,
+        Command::Replay(_) | Command::Drill(_) | Command::Frame | Command::Unframe => None,
     }
 }

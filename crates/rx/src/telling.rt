@@ -7,9 +7,11 @@ ghost use Rattle.command_line.specs.Ranges.{AreInRange, HasRanges};
 use crate::blame::{Blame, find_blame};
 use crate::message::{write_outside, write_refused};
 use crate::outputs::Objection;
+use crate::readings::tell_readings;
+use crate::text_telling::{tell_drill, tell_frame, tell_unframe};
 use command_line::{
-    AsmCommand, Command, ConvertCommand, ReplayCommand, RunCommand, ServeCommand, complaint,
-    read_command, usage,
+    AsmCommand, Command, ConvertCommand, DiagnoseCommand, ReplayCommand, RunCommand, ServeCommand,
+    complaint, read_command, usage,
 };
 use elf_image::{RefusedField, field_of_refusal};
 use run_history::{Answer, Cause};
@@ -258,6 +260,92 @@ fn tell_serve(rt: &HostRuntime, answer: Answer, command: &ServeCommand<'_>)
     let _ = eprintln!(rt; "rx: {message}");
 }
 
+// ---- diagnose
+
+// The sentence for an answer to `diagnose`: that of a session, but for what is written.
+#[derive(Debug, Drop)]
+struct DiagnoseMessage<'a> {
+    session: RunMessage<'a>,
+    diagnosis: &'a str,
+}
+
+impl DiagnoseMessage<'_> {
+    fn file_fault<W: fmt::Write>(&self, f: &mut fmt::Formatter<W>) -> fmt::Result {
+        let program = self.session.program;
+        let recording = self.session.recording;
+        let report = self.session.report;
+        let diagnosis = self.diagnosis;
+        match &self.session.blame {
+            Some(blame) => write!(f, "{blame}"),
+            None => write!(
+                f,
+                "the program file {program} couldn't be read, or the record {recording}, the report {report} or the diagnosis {diagnosis} couldn't be written: is the disk full?"
+            ),
+        }
+    }
+}
+
+impl fmt::Display for DiagnoseMessage<'_> {
+    fn fmt<W: fmt::Write>(&self, f: &mut fmt::Formatter<W>) -> fmt::Result {
+        match self.session.answer {
+            Answer::FileFault => self.file_fault(f),
+            _ => write!(f, "{}", self.session),
+        }
+    }
+}
+
+fn tell_diagnose(rt: &HostRuntime, answer: Answer, command: &DiagnoseCommand<'_>)
+    requires { AreInRange (run_shown command.now.session) }
+{
+    let run = &command.session;
+    let mut session = run_message(rt, answer, run, window_bytes(run));
+    session.blame = find_blame(
+        rt,
+        answer,
+        &[run.program],
+        &[run.recording, run.report, command.diagnosis],
+    );
+    let message = DiagnoseMessage {
+        session,
+        diagnosis: command.diagnosis,
+    };
+    let _ = eprintln!(rt; "rx: {message}");
+}
+
+// Whether an answer is an end of a session, behind which a diagnosis has its whole text.
+fn is_end(answer: Answer) -> bool {
+    matches!(
+        answer,
+        Answer::Finished
+            | Answer::Exited(_)
+            | Answer::GaveUp { .. }
+            | Answer::InputRefused { .. }
+            | Answer::MessageTooLong { .. }
+            | Answer::LimitItems
+            | Answer::LimitEvents
+    )
+}
+
+// Tells what the verdicts of a diagnosis say, by its file.
+fn tell_verdicts(rt: &HostRuntime, diagnosis: &str) {
+    let Ok(file) = StdFiles::make(rt, rt.alloc()).load(rt.alloc(), diagnosis, MAX_RECORD) else {
+        return;
+    };
+    if let Ok(text) = str::from_utf8(file.as_slice()) {
+        tell_readings(rt, text);
+    }
+}
+
+/// Tells what each verdict of a diagnosis says of its fault, where these words asked for one and the session came to an end.
+pub fn tell_diagnosed(rt: &HostRuntime, answer: Answer, words: &[String]) {
+    if !is_end(answer) {
+        return;
+    }
+    if let Ok(Some(Command::Diagnose(diagnose))) = read_command(rt.alloc(), words) {
+        tell_verdicts(rt, diagnose.diagnosis);
+    }
+}
+
 // ---- asm
 
 // The sentence for an answer to `asm`.
@@ -504,6 +592,10 @@ pub fn tell(rt: &HostRuntime, answer: Answer, words: &[String]) {
         Ok(Some(Command::Replay(replay))) => tell_replay(rt, answer, &replay),
         Ok(Some(Command::Convert(convert))) => tell_convert(rt, answer, &convert),
         Ok(Some(Command::Serve(serve))) => tell_serve(rt, answer, &serve),
+        Ok(Some(Command::Diagnose(diagnose))) => tell_diagnose(rt, answer, &diagnose),
+        Ok(Some(Command::Drill(_))) => tell_drill(rt, answer),
+        Ok(Some(Command::Frame)) => tell_frame(rt, answer),
+        Ok(Some(Command::Unframe)) => tell_unframe(rt, answer),
         Ok(None) => tell_words(rt, words),
         Err(_) => tell_memory(rt),
     }

@@ -1,6 +1,7 @@
 -- Which files a command called, from the calls that its parts made.
+use Rattle.std.proofs.Common.{◌≢◌}
 use Rattle.run_history.specs.declared.answer.Answer.TheVariants as answer
-use Rattle.rx_serve.proofs.Terms.{List, Option, [], refl, subst, ℕ, ◌++◌, ◌∷◌, ◌≡◌, ◌≢◌, Err, FileCall, Added, Loaded, Started, Calls, Contents, Answer, calls_then, front_all, front_behind, front_first, AddsAlone, CallsFront, starting, starts_of, Names, ConvertValue, ReplayValue, RunValue, LoadsText, Writes, names_of, CallsAnswer, CallsAsm, CallsConvert, CallsEnding, CallsServed, CallsWrite, before_session, replayed, replaying, HasReplayCause}
+use Rattle.rx_serve.proofs.Terms.{List, Option, [], refl, subst, ℕ, ◌++◌, ◌∷◌, ◌≡◌, Err, FileCall, Added, Loaded, Started, Calls, Contents, Answer, calls_then, front_all, front_behind, front_first, AddsAlone, CallsFront, starting, starts_of, Names, ConvertValue, ReplayValue, RunValue, LoadsText, Writes, names_of, CallsAnswer, CallsAsm, CallsConvert, CallsEnding, CallsServed, CallsWrite, before_session, replayed, replaying, HasReplayCause}
 
 -- a file was loaded, or perhaps not
 pub load_front : (name : List ℕ) (old new : Option (List FileCall)) (end : Answer) → CallsAnswer name old new end → CallsFront old new (Loaded name ∷ [])

@@ -3,7 +3,8 @@ use Rattle.session_history.specs.declared.ends.SessionBreak.TheVariants as sessi
 use Rattle.session_history.specs.declared.ends.Stop.TheVariants as stop
 use Rattle.rx_io.specs.declared.fault.IoFault.TheVariants as fault
 use Rattle.run_history.specs.declared.answer.Answer.TheVariants as answer
-use Rattle.rx_serve.proofs.Terms.{List, None, Option, Some, inl, inr, refl, subst, sym, ◌∙◌, ◌≡◌, IoFault, ListenEntry, Answer, Stop, is_end_answer, IsEnd, answer_of, RunValue, ServeValue, asm, convert, replay, run, serve, End, Outside, HasLoadCause, HasAsmCause, window_of, Route, trunk_of, IsFilesAnswer, HasNotBegun, HasServed, IsBindAnswer, ServeEnds, RunEnds, OnlyBadWordsAreRefused}
+use Rattle.trunk_text.specs.declared.turning.Ended.TheVariants as ended
+use Rattle.rx_serve.proofs.Terms.{List, None, Option, Some, inl, inr, refl, subst, sym, ℕ, ◌-◌, ◌∙◌, ◌≡◌, Result, IoFault, ListenEntry, Binds, CrowdBinds, number_cases, Ended, Answer, Stop, is_end_answer, IsEnd, answer_of, DrillEnds, DiagnoseValue, RunValue, ServeValue, asm, convert, diagnose, drill, frame, replay, run, serve, unframe, End, Outside, HasLoadCause, HasAsmCause, window_of, Port, Route, Several, trunk_of, IsFilesAnswer, HasNotBegun, HasServed, EndsOver, Heard, IsBindAnswer, ServeEnds, limits_of, DiagnoseEnds, turned_answer, RunEnds, OnlyBadWordsAreRefused}
 use Rattle.rx_serve.proofs.ReplayLemmas.{replay_not_refused}
 use Rattle.rx_serve.proofs.ConvertLemmas.{convert_not_refused}
 
@@ -39,15 +40,45 @@ run_not_refused value old new end (inl begun) is = run_not_refused_begun value o
 run_not_refused value old new end (inr served) is = run_not_refused_served value (trunk_of old new) old new end served is
 
 -- nor is a `serve`
-serve_not_refused : (value : ServeValue) (calls calls_later : Option (List ListenEntry)) (old new : Outside) (end : End) → ServeEnds value calls calls_later old new end → end.answer ≡ answer.BadWords → ⊥
-serve_not_refused value calls calls_later old new end (inl begun) is = run_not_refused_begun value.session old new end begun.0 is
-serve_not_refused value calls calls_later old new end (inr (inl unbound)) is = bind_not_refused unbound.fault end.answer unbound.answered is
-serve_not_refused value calls calls_later old new end (inr (inr port)) is = run_not_refused_served value.session _ old new end port.served is
+over_not_refused : {Call : Type 0} (value : ServeValue) (binds : Option (List Call) → Option (List Call) → ℕ → Result (Unit {0}) IoFault → Type 0) (route : Option (List Call) → Option (List Call) → Route)
+    (calls calls_later : Option (List Call)) (old new : Outside) (end : End) → EndsOver value binds route calls calls_later old new end → end.answer ≡ answer.BadWords → ⊥
+over_not_refused value binds route calls calls_later old new end (inl begun) is = run_not_refused_begun value.session old new end begun.0 is
+over_not_refused value binds route calls calls_later old new end (inr (inl unbound)) is = bind_not_refused unbound.fault end.answer unbound.answered is
+over_not_refused value binds route calls calls_later old new end (inr (inr port)) is = run_not_refused_served value.session _ old new end port.served is
+
+serve_not_refused : (value : ServeValue) (before later : Heard) (old new : Outside) (end : End) → ServeEnds value before later old new end → end.answer ≡ answer.BadWords → ⊥
+serve_not_refused value before later old new end ends is = elim (number_cases value.at_once 1) [
+  | inl one ↦ over_not_refused value Binds (Port value.conns) before.listener later.listener old new end (ends.one one) is
+  | inr several ↦ over_not_refused value CrowdBinds (Several (limits_of value)) before.crowd later.crowd old new end (ends.several several) is
+]
+
+-- nor is a `diagnose`
+diagnose_not_refused : (value : DiagnoseValue) (old new : Outside) (end : End) → DiagnoseEnds value old new end → end.answer ≡ answer.BadWords → ⊥
+diagnose_not_refused value old new end (inl begun) is = run_not_refused_begun value.session old new end begun is
+diagnose_not_refused value old new end (inr (inl none)) is = note_not_refused none.fault end.answer none.answered is
+diagnose_not_refused value old new end (inr (inr served)) is =
+    elim served.answered [
+      | inl own ↦ run_not_refused_served value.session (trunk_of old served.beside) old served.beside (record end { answer = served.ended }) served.served (sym own ∙ is)
+      | inr (at_end, (why, note)) ↦ note_not_refused why end.answer note is
+    ]
+
+-- nor is an input that was turned
+turned_not_refused : (why : Ended) → turned_answer why ≡ answer.BadWords → ⊥
+turned_not_refused ended.Finished is = cc
+turned_not_refused (ended.Refused flaw offset) is = cc
+turned_not_refused ended.ReadFault is = cc
+turned_not_refused ended.WriteFault is = cc
+turned_not_refused ended.Limit is = cc
+turned_not_refused ended.Memory is = cc
 
 pub only_bad_words : OnlyBadWordsAreRefused
-only_bad_words None calls calls_later old new end ends is = refl
-only_bad_words (Some (run value)) calls calls_later old new end ends is = absurd (run_not_refused value old new end ends is)
-only_bad_words (Some (asm value)) calls calls_later old new end ends is = absurd (subst (HasAsmCause old.files value.source) is ends.cause)
-only_bad_words (Some (replay value)) calls calls_later old new end ends is = absurd (replay_not_refused value old new end.answer ends.replays is)
-only_bad_words (Some (convert value)) calls calls_later old new end ends is = absurd (convert_not_refused value old new end.answer ends.converts is)
-only_bad_words (Some (serve value)) calls calls_later old new end ends is = absurd (serve_not_refused value calls calls_later old new end ends is)
+only_bad_words None before later old new end ends is = refl
+only_bad_words (Some (run value)) before later old new end ends is = absurd (run_not_refused value old new end ends is)
+only_bad_words (Some (asm value)) before later old new end ends is = absurd (subst (HasAsmCause old.files value.source) is ends.cause)
+only_bad_words (Some (replay value)) before later old new end ends is = absurd (replay_not_refused value old new end.answer ends.replays is)
+only_bad_words (Some (convert value)) before later old new end ends is = absurd (convert_not_refused value old new end.answer ends.converts is)
+only_bad_words (Some (serve value)) before later old new end ends is = absurd (serve_not_refused value before later old new end ends is)
+only_bad_words (Some (diagnose value)) before later old new end ends is = absurd (diagnose_not_refused value old new end ends is)
+only_bad_words (Some (drill value)) before later old new end ends is = absurd (subst (DrillEnds value.seed value.count (new.counter - old.counter) old.output new.output) is ends.drilled)
+only_bad_words (Some frame) before later old new end ends is = absurd (turned_not_refused ends.ended (sym ends.answered ∙ is))
+only_bad_words (Some unframe) before later old new end ends is = absurd (turned_not_refused ends.ended (sym ends.answered ∙ is))

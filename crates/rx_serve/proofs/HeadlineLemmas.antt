@@ -5,11 +5,12 @@ use Rattle.session_history.specs.declared.ends.Stop.TheVariants as stop
 use Rattle.run_history.specs.declared.answer.Answer.TheVariants as answer
 use Rattle.run_history.specs.Run.{run}
 use Rattle.session_history.specs.Owing.{OwesNothing}
-use Rattle.session_history.specs.declared.ends.SessionEnd.{SessionEnd}
 use Rattle.session_history.specs.Ends.{EndsBy}
 use Rattle.over_trunk.specs.Trunk.{StopsTrunk, Carries}
 use Rattle.session_history.specs.Passing.{passed_in}
-use Rattle.rx_serve.proofs.Terms.{IfSome, List, None, Option, Some, [], ap, append-nil, arith, drop, length, refl, subst, suc, sym, true, zero, ℕ, ◌++◌, ◌∙◌, ◌≡◌, ◌≤◌, length-take-le, take-append-drop, none-some, option_and_then_some, same_Some, Item, ListenEntry, IsDrained, Stream, Prefix, sent_to, Entry, Coming, events_in, Choice, payload, Image, Answer, next_parts, Chooses, Effect, Emits, Ends, Fails, Goes, State, Wants, start, Run, after, effect, next, output, Stop, at_its_end, came_to, holds_at_end, is_end_answer, passed_all, received_at_end, HasPassedAll, IsAccount, Session, journal_of, AtEnd, EndsAt, HasComeTo, IsEnd, answer_of, end_answer, AreGiven, Rules, entries_of, Episode, Unnoted, noted, Keeping, HasNoted, IsOutcome, Telling, given_to, EndsAfter, GoesOverPort, End, GoesOver, IsDone, IsServed, Passed, PassedOver, PassedPort, PassedTrunk, Port, Route, Serves, Trunk, Headline, LastExits, received_items}
+use Rattle.over_crowd.specs.Calls as crowd
+use Rattle.over_crowd.specs.Serving as gathered
+use Rattle.rx_serve.proofs.Terms.{IfSome, List, None, Option, Some, [], ap, append-nil, arith, drop, length, refl, subst, suc, sym, true, zero, ℕ, ◌++◌, ◌∙◌, ◌≡◌, ◌≤◌, length-take-le, take-append-drop, none-some, option_and_then_some, same_Some, Item, ListenEntry, IsDrained, Stream, Prefix, sent_to, Entry, Coming, events_in, CrowdEntry, Limits, Choice, payload, Image, Answer, next_parts, Chooses, Effect, Emits, Ends, Fails, Goes, State, Wants, start, Run, after, effect, next, output, SessionEnd, Stop, at_its_end, came_to, holds_at_end, is_end_answer, passed_all, received_at_end, HasPassedAll, IsAccount, Session, journal_of, AtEnd, EndsAt, HasComeTo, IsEnd, answer_of, end_answer, AreGiven, Rules, entries_of, Episode, Unnoted, noted, Keeping, HasNoted, IsOutcome, Telling, given_to, EndsAfter, GoesOverPort, GoesOverCrowd, End, GoesOver, IsDone, IsServed, Passed, PassedCalls, PassedOver, PassedTrunk, Port, Route, Serves, Several, Trunk, Headline, LastExits, received_items}
 
 ended_of : Option State → Option ℕ
 ended_of None = None
@@ -104,13 +105,24 @@ passed_trunk rules image (Some before) later session end account all carries = r
 
 -- and given to the connections of a port
 passed_port : (conns : ℕ) (rules : Rules) (image : Image) (calls calls_later : Option (List ListenEntry)) (session : Session) (end : Answer) → IsAccount rules image session → (IsEnd end → HasPassedAll rules session)
-    → GoesOverPort conns rules calls calls_later session → IfSome calls (λ before. PassedPort rules session end before calls_later)
+    → GoesOverPort conns rules calls calls_later session → IfSome calls (λ before. PassedCalls given_to rules session end before calls_later)
 passed_port conns rules image None later session end account all goes = tt
 passed_port conns rules image (Some before) None session end account all goes = absurd goes
 passed_port conns rules image (Some before) (Some later) session end account all goes = record {
   calls = goes.calls;
   made = ap Some goes.grew;
   passed = passed_by rules image session end (λ conn. given_to conn goes.calls) goes.moved.given account all;
+}
+
+-- of several at the same time too
+passed_several : (limits : Limits) (rules : Rules) (image : Image) (calls calls_later : Option (List CrowdEntry)) (session : Session) (end : Answer) → IsAccount rules image session → (IsEnd end → HasPassedAll rules session)
+    → GoesOverCrowd limits rules calls calls_later session → IfSome calls (λ before. PassedCalls crowd.given_to rules session end before calls_later)
+passed_several limits rules image None later session end account all goes = tt
+passed_several limits rules image (Some before) None session end account all goes = absurd goes
+passed_several limits rules image (Some before) (Some later) session end account all goes = record {
+  calls = goes.calls;
+  made = ap Some goes.grew;
+  passed = passed_by rules image session end (λ conn. crowd.given_to conn goes.calls) goes.moved.given account all;
 }
 
 -- at Finished the source has no byte left
@@ -120,13 +132,23 @@ drained (Some stream) later events stops = stops.1
 
 -- and each connection of a port was accepted and closed
 served_all : (conns : ℕ) (rules : Rules) (calls calls_later : Option (List ListenEntry)) (session : Session) → session.came ≡ Some session_end.Finished → GoesOverPort conns rules calls calls_later session
-    → IfSome calls (λ before. IsServed conns before calls_later)
+    → IfSome calls (λ before. IsServed (EndsAfter conns) before calls_later)
 served_all conns rules None later session came goes = tt
 served_all conns rules (Some before) None session came goes = absurd goes
 served_all conns rules (Some before) (Some later) session came goes = record {
   calls = goes.calls;
   made = ap Some goes.grew;
   ends = subst (λ (end : Option SessionEnd). IfSome end (EndsAfter conns goes.calls)) came goes.ends;
+}
+
+served_several : (limits : Limits) (rules : Rules) (calls calls_later : Option (List CrowdEntry)) (session : Session) → session.came ≡ Some session_end.Finished → GoesOverCrowd limits rules calls calls_later session
+    → IfSome calls (λ before. IsServed (gathered.EndsAfter limits.conns) before calls_later)
+served_several limits rules None later session came goes = tt
+served_several limits rules (Some before) None session came goes = absurd goes
+served_several limits rules (Some before) (Some later) session came goes = record {
+  calls = goes.calls;
+  made = ap Some goes.grew;
+  ends = subst (λ (end : Option SessionEnd). IfSome end (gathered.EndsAfter limits.conns goes.calls)) came goes.ends;
 }
 
 -- of the answers of the allocator of a run the first ones stand in the record, and the others are the tail
@@ -183,11 +205,13 @@ passed_over : (route : Route) (rules : Rules) (image : Image) (coming : Option C
     → (IsEnd end → HasPassedAll rules session) → PassedOver route rules session end
 passed_over (Trunk source source_later sink sink_later) rules image coming session why end goes account all = passed_trunk rules image sink sink_later session end account all goes.carried
 passed_over (Port conns calls calls_later) rules image coming session why end goes account all = passed_port conns rules image calls calls_later session end account all goes.1
+passed_over (Several limits calls calls_later) rules image coming session why end goes account all = passed_several limits rules image calls calls_later session end account all goes.1
 
 done_over : (route : Route) (rules : Rules) (coming : Option Coming) (session : Session) (why : Stop) → GoesOver route rules coming session why → session.came ≡ Some session_end.Finished → IsDone route
 done_over (Trunk source source_later sink sink_later) rules coming session why goes came =
     drained source source_later _ (subst (λ (end : Option SessionEnd). IfSome end (StopsTrunk source source_later (events_in (journal_of session)))) came goes.stops)
 done_over (Port conns calls calls_later) rules coming session why goes came = served_all conns rules calls calls_later session came goes.1
+done_over (Several limits calls calls_later) rules coming session why goes came = served_several limits rules calls calls_later session came goes.1
 
 pub headline : (rules : Rules) (keeping : Keeping) (image : Image) (route : Route) (why : Stop) (end : End) (recording : List Choice) (told : List Episode) (before now : Option Unnoted)
     → (IsEnd end.answer → end.answer ≡ answer_of why) → (counted : ℕ)

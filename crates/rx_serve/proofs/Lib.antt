@@ -2,6 +2,7 @@ pub mod Terms
 pub mod AssemblyLemmas
 pub mod SettingsLemmas
 pub mod FewSteps
+pub mod MemoryLemmas
 pub mod NamesLemmas
 pub mod NotingLemmas
 pub mod CallingLemmas
@@ -9,6 +10,7 @@ pub mod RouteLemmas
 pub mod HeadlineLemmas
 pub mod GuardLemmas
 pub mod RunLemmas
+pub mod DiagnosingLemmas
 mod RecordLemmas
 mod ReplayLemmas
 mod ConvertLemmas
@@ -17,6 +19,7 @@ mod CommandLemmas
 mod EndsLemmas
 pub mod SessionLaws
 mod PortOrder
+mod CrowdOrder
 mod PortSends
 mod ServeLaws
 pub mod Lemmas

@@ -1,10 +1,11 @@
 -- The record and the report of words that are taken have different names.
 use Rattle.std.proofs.lemmas.Slice.Eq.{bytes_eq-Decides}
 use Rattle.std.specs.Str.{bytes_eq}
+use Rattle.std.proofs.Common.{◌≢◌}
 use Rattle.command_line.specs.Texts.{Text}
 use Rattle.command_line.specs.Options.{takes_of, value_of}
-use Rattle.command_line.proofs.Asking.{asked_run, asked_serve}
-use Rattle.rx_serve.proofs.Terms.{List, Some, false, not, refl, subst, sym, true, true≢false, ◌&&◌, ◌∙◌, ◌≡◌, ◌≢◌, and_parts, AreTwo, RunValue, ServeValue, command_of, fits, have_names, is_run, is_serve, positional, run, run_form, run_value, serve, serve_form, serve_value, Parts, conns_row, port_row, record_row, report_row, names_of}
+use Rattle.command_line.proofs.Asking.{asked_run, asked_serve, asked_diagnose}
+use Rattle.rx_serve.proofs.Terms.{List, Some, false, not, refl, subst, sym, true, true≢false, ◌&&◌, ◌∙◌, ◌≡◌, and_parts, ◌≢◌, IsThird, AreTwo, DiagnoseValue, RunValue, ServeValue, command_of, diagnose, diagnose_form, diagnose_value, fits, has_fourth, have_names, is_diagnose, is_run, is_serve, positional, run, run_form, run_value, serve, serve_form, serve_value, Parts, conns_row, diagnosis_row, port_row, record_row, report_row, names_of}
 
 not_alike : (a b : Text) → not (bytes_eq a b) ≡ true → a ≢ b
 not_alike a b differs same = elim (bytes_eq a b) as (λ t. bytes_eq a b ≡ t → not t ≡ true → ⊥) [
@@ -41,3 +42,30 @@ pub port_names_differ : (words : List Text) (value : ServeValue) → command_of 
 port_names_differ words value asked =
     let found = asked_serve words value asked in
     subst (λ (v : ServeValue). AreTwo (names_of v.session)) found.value_is (of_session found.parts_are found.is)
+
+-- and behind `diagnose`, where the diagnosis has a third one
+record AreThree (value : DiagnoseValue) : Type 0 where
+  two : AreTwo (names_of value.session)
+  third : IsThird (names_of value.session) value.diagnosis
+
+of_diagnosed : (p : Parts) → is_diagnose p ≡ true → AreThree (diagnose_value p)
+unfolding is_diagnose diagnose_value
+of_diagnosed p is =
+    let program : Text = positional 0 p in
+    let recording : Text = value_of record_row p.options in
+    let report : Text = value_of report_row p.options in
+    let diagnosis : Text = value_of diagnosis_row p.options in
+    let behind = and_parts (have_names p) (has_fourth p) (and_parts (fits diagnose_form p) (have_names p && has_fourth p) is).1 in
+    let others = and_parts (not (bytes_eq recording diagnosis)) (not (bytes_eq report diagnosis)) (and_parts (not (bytes_eq program diagnosis)) (not (bytes_eq recording diagnosis) && not (bytes_eq report diagnosis)) behind.1).1 in
+    record { two = of_names p behind.0; third = record { no_record = not_alike recording diagnosis others.0; no_report = not_alike report diagnosis others.1 } }
+
+three_names : (words : List Text) (value : DiagnoseValue) → command_of words ≡ Some (diagnose value) → AreThree value
+three_names words value asked =
+    let found = asked_diagnose words value asked in
+    subst AreThree found.value_is (of_diagnosed found.parts_are found.is)
+
+pub diagnose_names_differ : (words : List Text) (value : DiagnoseValue) → command_of words ≡ Some (diagnose value) → AreTwo (names_of value.session)
+diagnose_names_differ words value asked = (three_names words value asked).two
+
+pub diagnosis_differs : (words : List Text) (value : DiagnoseValue) → command_of words ≡ Some (diagnose value) → IsThird (names_of value.session) value.diagnosis
+diagnosis_differs words value asked = (three_names words value asked).third

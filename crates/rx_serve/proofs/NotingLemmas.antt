@@ -3,7 +3,7 @@ use Rattle.std.proofs.lemmas.Nat.{mul-le}
 use Rattle.file_notes.proofs.LawLemmas.{whole_texts}
 use Rattle.rx_io.specs.declared.fault.IoFault.TheVariants as fault
 use Rattle.run_history.specs.declared.answer.Answer.TheVariants as answer
-use Rattle.rx_serve.proofs.Terms.{Bool, List, None, Ok, Option, Some, [], arith, inl, inr, refl, subst, sym, ℕ, ◌*◌, ◌+◌, ◌<◌, ◌^◌, ◌∙◌, ◌≡◌, ◌≤◌, IoFault, FileCall, Contents, Stream, Choice, Heap, Image, Answer, Stop, Session, journal_of, IsEnd, answer_of, Rules, Episode, NoneFailed, noted, Keeping, Form, MAX_TAKEN, AreAsks, InRecord, InReport, Left, Nothing, unnoted_of, Names, Stands, Options, AreInRange, keeping_for, rules_of, IsHandedLast, IsNoteStop, Outcome, RunValue, Outside, outside, status_of, Route, Serves, ClosesFiles, EndsFiles, HaveTexts, IsFilesAnswer, ServesNoted, StartsFiles, names_of, report_form}
+use Rattle.rx_serve.proofs.Terms.{Bool, List, None, Ok, Option, Some, [], arith, inl, inr, refl, subst, sym, ℕ, ◌*◌, ◌+◌, ◌<◌, ◌^◌, ◌∙◌, ◌≡◌, ◌≤◌, IoFault, FileCall, Contents, Stream, Choice, Heap, Image, Answer, Stop, is_end_answer, Session, journal_of, IsEnd, answer_of, Rules, Episode, Try, NoneFailed, Shown, noted, Keeping, Form, MAX_TAKEN, AreAsks, InRecord, InReport, Left, Nothing, unnoted_of, Names, Stands, Options, AreInRange, keeping_for, rules_of, IsHandedLast, IsNoteStop, Outcome, SessionState, HasServedTrunk, RunValue, Outside, outside, status_of, Route, Watches, ClosesFiles, EndsFiles, HaveTexts, IsFilesAnswer, ServesNoted, StartsFiles, WatchesNoted, names_of, report_form}
 use Rattle.rx_serve.proofs.FewSteps.{few_steps}
 use Rattle.recovery.proofs.Few.{few_items}
 use Rattle.session_history.specs.declared.ends.SessionBreak.TheVariants as session_break
@@ -39,6 +39,14 @@ note_stop_no_end (stop.Breaks session_break.ReadFault) note is = is
 note_stop_no_end (stop.Breaks session_break.WriteFault) note is = is
 note_stop_no_end (stop.Breaks session_break.FileFault) note is = is
 note_stop_no_end (stop.Breaks session_break.Memory) note is = is
+
+-- a session that was answered with a fault of the files was broken off by one
+pub file_stop : (why : Stop) → answer_of why ≡ answer.FileFault → why ≡ stop.Breaks session_break.FileFault
+file_stop (stop.Ends end) is = absurd (subst IsEnd is (is_end_answer end))
+file_stop (stop.Breaks session_break.ReadFault) is = absurd (let never : answer.ReadFault ≡ answer.FileFault = is in cc)
+file_stop (stop.Breaks session_break.WriteFault) is = absurd (let never : answer.WriteFault ≡ answer.FileFault = is in cc)
+file_stop (stop.Breaks session_break.FileFault) is = refl
+file_stop (stop.Breaks session_break.Memory) is = absurd (let never : answer.Memory ≡ answer.FileFault = is in cc)
 
 pub whole_at : (why : Stop) (left : Left) (tail : List Choice) (missing : List Episode) → IsHandedLast (Some NoneFailed) (Some (unnoted_of left)) why tail missing → IsEnd (answer_of why) → left ≡ Nothing
 whole_at why left tail missing (inl none) is = nothing_left left none.0
@@ -79,35 +87,59 @@ closes_whole value choices episodes left taken steps before started noted now en
 -- ---- the notes
 
 -- a session served with notes that were new, and that stand in its files
-pub serves_noted : {rules : Rules} {keeping : Keeping} {image : Image} (value : RunValue) (route : Route) (old new : Outside) {outcome : Outcome} {counted : ℕ}
+pub watches_noted : {rules : Rules} {keeping : Keeping} {image : Image} (value : RunValue) (route : Route) (old new : Outside) {outcome : Outcome} {counted : ℕ} {tables_before tables : Option (List (List Try))}
     → (names : Names) (wanted : Form) (told : Option Contents) (choices_before choices : List Choice) (episodes_before episodes : List Episode) (left_before left : Left)
     → choices_before ≡ [] → episodes_before ≡ [] → left_before ≡ Nothing → new.counter ≡ old.counter + counted
-    → Serves route rules keeping image outcome (noted (Some choices_before) (Some episodes_before) (Some (unnoted_of left_before))) (noted (Some choices) (Some episodes) (Some (unnoted_of left))) counted
+    → Watches route rules keeping image outcome (noted (Some choices_before) (Some episodes_before) (Some (unnoted_of left_before))) (noted (Some choices) (Some episodes) (Some (unnoted_of left))) counted tables_before tables
     → names ≡ names_of value → wanted ≡ report_form value.form → told ≡ old.files → Stands names wanted told new.files choices episodes left → AreAsks choices
-    → ServesNoted rules keeping image value route old new outcome
-serves_noted {rules = rules} {keeping = keeping} {image = image} value route old new {outcome = outcome} {counted = counted} names wanted told choices_before choices episodes_before episodes left_before left none none_told none_left count serves names_are form_is told_is stands asks = record {
-  choices = choices;
-  episodes = episodes;
-  left = left;
-  counted = counted;
-  counts = count;
-  serves =
-      subst (λ part. Serves route rules keeping image outcome (noted (Some []) (Some []) (Some (unnoted_of part))) (noted (Some choices) (Some episodes) (Some (unnoted_of left))) counted) none_left
-      (subst (λ list. Serves route rules keeping image outcome (noted (Some []) (Some list) (Some (unnoted_of left_before))) (noted (Some choices) (Some episodes) (Some (unnoted_of left))) counted) none_told
-      (subst (λ list. Serves route rules keeping image outcome (noted (Some list) (Some episodes_before) (Some (unnoted_of left_before))) (noted (Some choices) (Some episodes) (Some (unnoted_of left))) counted) none serves));
-  stands =
-      subst (λ before. Stands (names_of value) (report_form value.form) before new.files choices episodes left) told_is
-      (subst (λ f. Stands (names_of value) f told new.files choices episodes left) form_is (subst (λ n. Stands n wanted told new.files choices episodes left) names_are stands));
-  asks = asks;
-}
+    → WatchesNoted rules keeping image value route old new outcome tables_before tables
+watches_noted {rules = rules} {keeping = keeping} {image = image} value route old new {outcome = outcome} {counted = counted} {tables_before = tables_before} {tables = tables} names wanted told choices_before choices episodes_before episodes left_before left none none_told none_left count serves names_are form_is told_is stands asks =
+    let all : Watches route rules keeping image outcome (noted (Some []) (Some []) (Some NoneFailed)) (noted (Some choices) (Some episodes) (Some (unnoted_of left))) counted tables_before tables =
+    subst (λ part. Watches route rules keeping image outcome (noted (Some []) (Some []) (Some (unnoted_of part))) (noted (Some choices) (Some episodes) (Some (unnoted_of left))) counted tables_before tables) none_left
+    (subst (λ list. Watches route rules keeping image outcome (noted (Some []) (Some list) (Some (unnoted_of left_before))) (noted (Some choices) (Some episodes) (Some (unnoted_of left))) counted tables_before tables) none_told
+    (subst (λ list. Watches route rules keeping image outcome (noted (Some list) (Some episodes_before) (Some (unnoted_of left_before))) (noted (Some choices) (Some episodes) (Some (unnoted_of left))) counted tables_before tables) none serves)) in
+    record {
+      noted = record {
+        choices = choices;
+        episodes = episodes;
+        left = left;
+        counted = counted;
+        counts = count;
+        serves = all.serves;
+        stands =
+            subst (λ before. Stands (names_of value) (report_form value.form) before new.files choices episodes left) told_is
+            (subst (λ f. Stands (names_of value) f told new.files choices episodes left) form_is (subst (λ n. Stands n wanted told new.files choices episodes left) names_are stands));
+        asks = asks;
+      };
+      watched = all.watched;
+    }
+
+-- the same, with the episodes that were noted
+pub watches_kept : {rules : Rules} {keeping : Keeping} {image : Image} (value : RunValue) (route : Route) (old new : Outside) {outcome : Outcome} {counted : ℕ} {tables_before tables : Option (List (List Try))}
+    → (names : Names) (wanted : Form) (told : Option Contents) (choices_before choices : List Choice) (episodes_before episodes : List Episode) (left_before left : Left)
+    → choices_before ≡ [] → episodes_before ≡ [] → left_before ≡ Nothing → new.counter ≡ old.counter + counted
+    → Watches route rules keeping image outcome (noted (Some choices_before) (Some episodes_before) (Some (unnoted_of left_before))) (noted (Some choices) (Some episodes) (Some (unnoted_of left))) counted tables_before tables
+    → names ≡ names_of value → wanted ≡ report_form value.form → told ≡ old.files → Stands names wanted told new.files choices episodes left → AreAsks choices
+    → (w : WatchesNoted rules keeping image value route old new outcome tables_before tables) × (w.noted.episodes ≡ episodes)
+unfolding watches_noted
+watches_kept value route old new names wanted told choices_before choices episodes_before episodes left_before left none none_told none_left count serves names_are form_is told_is stands asks =
+    (watches_noted value route old new names wanted told choices_before choices episodes_before episodes left_before left none none_told none_left count serves names_are form_is told_is stands asks, refl)
 
 -- the same, of what the files tell by another name
-pub noted_at : {rules : Rules} {keeping : Keeping} {image : Image} {value : RunValue} {route : Route} {old : Outside} {outcome : Outcome} {files files_now : Option Contents} {calls calls_now : Option (List FileCall)}
+pub watched_at : {rules : Rules} {keeping : Keeping} {image : Image} {value : RunValue} {route : Route} {old : Outside} {outcome : Outcome} {tables_before tables : Option (List (List Try))} {files files_now : Option Contents} {calls calls_now : Option (List FileCall)}
     {input : Option Stream} {output : Option (List ℕ)} {counter : ℕ} → files ≡ files_now → calls ≡ calls_now
-    → ServesNoted rules keeping image value route old (outside files calls input output counter) outcome → ServesNoted rules keeping image value route old (outside files_now calls_now input output counter) outcome
-noted_at {rules = rules} {keeping = keeping} {image = image} {value = value} {route = route} {old = old} {outcome = outcome} {files_now = files_now} {calls = calls} {input = input} {output = output} {counter = counter} same same_calls noted =
-    subst (λ c. ServesNoted rules keeping image value route old (outside files_now c input output counter) outcome) same_calls
-    (subst (λ f. ServesNoted rules keeping image value route old (outside f calls input output counter) outcome) same noted)
+    → WatchesNoted rules keeping image value route old (outside files calls input output counter) outcome tables_before tables → WatchesNoted rules keeping image value route old (outside files_now calls_now input output counter) outcome tables_before tables
+watched_at {rules = rules} {keeping = keeping} {image = image} {value = value} {route = route} {old = old} {outcome = outcome} {tables_before = tables_before} {tables = tables} {files_now = files_now} {calls = calls} {input = input} {output = output} {counter = counter} same same_calls noted =
+    subst (λ c. WatchesNoted rules keeping image value route old (outside files_now c input output counter) outcome tables_before tables) same_calls
+    (subst (λ f. WatchesNoted rules keeping image value route old (outside f calls input output counter) outcome tables_before tables) same noted)
+
+pub kept_at : {rules : Rules} {keeping : Keeping} {image : Image} {value : RunValue} {route : Route} {old : Outside} {outcome : Outcome} {tables_before tables : Option (List (List Try))} {files files_now : Option Contents} {calls calls_now : Option (List FileCall)}
+    {input : Option Stream} {output : Option (List ℕ)} {counter : ℕ} {episodes : List Episode} → files ≡ files_now → calls ≡ calls_now
+    → (w : WatchesNoted rules keeping image value route old (outside files calls input output counter) outcome tables_before tables) × (w.noted.episodes ≡ episodes)
+    → (w : WatchesNoted rules keeping image value route old (outside files_now calls_now input output counter) outcome tables_before tables) × (w.noted.episodes ≡ episodes)
+kept_at {rules = rules} {keeping = keeping} {image = image} {value = value} {route = route} {old = old} {outcome = outcome} {tables_before = tables_before} {tables = tables} {files_now = files_now} {calls = calls} {input = input} {output = output} {counter = counter} {episodes = episodes} same same_calls noted =
+    subst (λ c. (w : WatchesNoted rules keeping image value route old (outside files_now c input output counter) outcome tables_before tables) × (w.noted.episodes ≡ episodes)) same_calls
+    (subst (λ f. (w : WatchesNoted rules keeping image value route old (outside f calls input output counter) outcome tables_before tables) × (w.noted.episodes ≡ episodes)) same noted)
 
 -- ---- the counts
 
@@ -124,3 +156,14 @@ few_counts options ranges permits {image = image} noted =
     let product : session.survivor.now.state.machine.taken * (options.budget + 1) ≤ 2 ^ 20 * (2 ^ 24 + 1) = mul-le session.survivor.now.state.machine.taken (options.budget + 1) (2 ^ 20) (2 ^ 24 + 1) few (omega (arith, budget)) in
     let done = few_steps (rules_of options permits).limits _ session.survivor.plan image session.survivor.now account.served in
     (subst (λ n. n ≤ MAX_TAKEN) s.is.taken_is few, subst (λ n. n < 2 ^ 63) s.is.steps_are (omega (arith, product, done, budget)))
+
+-- ---- notes that were lent
+
+module _ {R : Type 0} where
+  -- what a session left, of what the notes show by other names
+  pub served_at : {rules : Rules} {source source_later : Option Stream} {sink sink_later : Option (List ℕ)} {shown shown_now other other_now : Shown} {counted : ℕ} {tables_before tables : Option (List (List Try))} {old new : SessionState R} {answered : Answer}
+      → shown ≡ other → shown_now ≡ other_now → HasServedTrunk rules source source_later sink sink_later shown shown_now counted tables_before tables old new answered
+      → HasServedTrunk rules source source_later sink sink_later other other_now counted tables_before tables old new answered
+  served_at {rules = rules} {source = source} {source_later = source_later} {sink = sink} {sink_later = sink_later} {shown_now = shown_now} {other = other} {counted = counted} {tables_before = tables_before} {tables = tables} {old = old} {new = new} {answered = answered} same same_now served =
+      subst (λ (s : Shown). HasServedTrunk rules source source_later sink sink_later other s counted tables_before tables old new answered) same_now
+      (subst (λ (s : Shown). HasServedTrunk rules source source_later sink sink_later s shown_now counted tables_before tables old new answered) same served)

@@ -1,6 +1,5 @@
 -- No connection of a port is opened that was closed before.
-use Rattle.std.proofs.Common.{◌==◌}
-use Rattle.links.proofs.Journaled.{events_in-append}
+use Rattle.std.proofs.Common.{◌==◌, if◌then◌else◌, ◌⊎◌}
 use Rattle.links.specs.declared.journal.Entry.TheVariants as entry
 use Rattle.links.specs.declared.journal.LinkEvent.TheVariants as event
 use Rattle.port_link.specs.declared.place.Stage.{Stage}
@@ -11,7 +10,7 @@ use Rattle.port_link.specs.declared.place.Place.{Place}
 use Rattle.port_link.specs.declared.place.Stage.TheVariants.{Broken, Dropping, Ended, Open, Waiting}
 use Rattle.port_link.specs.Ports.{AreCalls, IsCall, Port, after_call, closed_entries, entries_of, fresh_port, gives_all, gives_part, port_after, takes_bytes, with_part}
 use Rattle.port_link.specs.Standing.{link_journal, with_close, with_ends}
-use Rattle.rx_serve.proofs.Terms.{Bool, List, [], ap, append-nil, arith, false, if◌then◌else◌, inl, inr, length, nat_lt, refl, subst, suc, sym, true, zero, ℕ, ◌++◌, ◌+◌, ◌<◌, ◌∙◌, ◌∷◌, ◌≡◌, ◌⊎◌, ne_eqb, or_from, or_parts, ListenEntry, Entry, LinkEvent, events_in, OpensOnce, closes}
+use Rattle.rx_serve.proofs.Terms.{Bool, List, [], ap, append-nil, arith, false, inl, inr, length, nat_lt, refl, subst, suc, sym, true, zero, ℕ, ◌++◌, ◌+◌, ◌<◌, ◌∙◌, ◌∷◌, ◌≡◌, ne_eqb, or_from, or_parts, ListenEntry, Entry, LinkEvent, events_in-append, events_in, OpensOnce, closes}
 
 -- ---- one event more
 
@@ -23,7 +22,7 @@ abbrev behind_head : {A : Type 0} → List A → List A
 behind_head [] = []
 behind_head (x ∷ xs) = xs
 
-none_mid : {A : Type 0} (before after : List A) (x : A) → [] ≡ before ++ x ∷ after → ⊥
+pub none_mid : {A : Type 0} (before after : List A) (x : A) → [] ≡ before ++ x ∷ after → ⊥
 none_mid [] after x same = cc
 none_mid (b ∷ before) after x same = cc
 
@@ -39,13 +38,13 @@ split_last (a ∷ xs) (b ∷ before) after last x same =
       | inr (rest, is) ↦ inr (rest, ap (λ y. y ∷ xs) first ∙ ap (λ ys. b ∷ ys) is)
     ]
 
-once_more : (events : List LinkEvent) (one : LinkEvent) → OpensOnce events → ((conn : ℕ) → one ≡ event.Opens conn → closes conn events ≡ false) → OpensOnce (events ++ one ∷ [])
+pub once_more : (events : List LinkEvent) (one : LinkEvent) → OpensOnce events → ((conn : ℕ) → one ≡ event.Opens conn → closes conn events ≡ false) → OpensOnce (events ++ one ∷ [])
 once_more events one once fresh before after conn same = elim (split_last events before after one (event.Opens conn) same) [
   | inl (is, opens) ↦ subst (λ (list : List LinkEvent). closes conn list ≡ false) is (fresh conn opens)
   | inr (rest, is) ↦ once before rest conn is
 ]
 
-closes_no_more : (conn : ℕ) (events : List LinkEvent) (one : LinkEvent) → closes conn (one ∷ []) ≡ false → closes conn events ≡ false → closes conn (events ++ one ∷ []) ≡ false
+pub closes_no_more : (conn : ℕ) (events : List LinkEvent) (one : LinkEvent) → closes conn (one ∷ []) ≡ false → closes conn events ≡ false → closes conn (events ++ one ∷ []) ≡ false
 closes_no_more conn [] one none closed = none
 closes_no_more conn (event.Opens c ∷ events) one none closed = closes_no_more conn events one none closed
 closes_no_more conn (event.Piece c bytes ∷ events) one none closed = closes_no_more conn events one none closed
@@ -63,7 +62,7 @@ record InTurn (conn : ℕ) (stage : Stage) (events : List LinkEvent) : Type 0 wh
   behind : (other : ℕ) → conn < other → closes other events ≡ false
   waits : stage ≡ Waiting → closes conn events ≡ false
 
-abbrev opened_conn : ℕ → LinkEvent → ℕ
+abbrev pub opened_conn : ℕ → LinkEvent → ℕ
 opened_conn other (event.Opens conn) = conn
 opened_conn other (event.Piece conn bytes) = other
 opened_conn other (event.Closes conn) = other
@@ -84,7 +83,7 @@ turn_piece conn stage events bytes turn = record {
   waits = λ waits. closes_no_more conn events (event.Piece conn bytes) refl (turn.waits waits);
 }
 
-closes_other : (conn other : ℕ) → conn < other → closes other (event.Closes conn ∷ []) ≡ false
+pub closes_other : (conn other : ℕ) → conn < other → closes other (event.Closes conn ∷ []) ≡ false
 closes_other conn other less = or_from (conn == other) false (ne_eqb conn other (λ same. omega arith)) refl
 
 turn_closes : (conn : ℕ) (stage later : Stage) (events : List LinkEvent) → (later ≡ Waiting → ⊥) → InTurn conn stage events → InTurn conn later (events ++ event.Closes conn ∷ [])

@@ -1,7 +1,6 @@
 -- A line at which a record is refused is one of its lines, or the one behind them.
-use Rattle.std.specs.Prelude.{if◌then◌else◌}
 use Rattle.schedule_file.specs.Telling.{answer_of}
-use Rattle.rx_serve.proofs.Terms.{Bool, List, None, Some, [], arith, false, length, true, ℕ, ◌+◌, ◌∷◌, ◌≡◌, ◌≤◌, is_some, ◌==◌, lines_of, onto, refused_behind, refused_from, refused_line, refused_lines, refused_under, end_of, head_of}
+use Rattle.rx_serve.proofs.Terms.{Bool, List, None, Some, [], arith, false, length, true, ℕ, ◌+◌, ◌∷◌, ◌≡◌, ◌≤◌, if◌then◌else◌, is_some, ◌==◌, lines_of, onto, refused_behind, refused_from, refused_line, refused_lines, refused_under, end_of, head_of}
 
 behind_few : (number line : ℕ) (lines : List (List ℕ)) → refused_behind number lines ≡ Some line → line ≤ number
 behind_few number line [] is = let none : None ≡ Some line = is in absurd (cc)

@@ -2,25 +2,37 @@
 use Rattle.run_history.specs.declared.answer.Answer.TheVariants as answer
 use Rattle.rx_io.specs.declared.fault.IoFault.TheVariants as fault
 use Rattle.session_state.specs.Serving.{IsReadyToServe}
-use Rattle.rx_serve.proofs.Terms.{Bool, List, Ok, Option, ap, arith, inl, inr, refl, subst, sym, ℕ, ◌<◌, ◌^◌, ◌∙◌, ◌≡◌, ◌≤◌, Err, IoFault, FileCall, Rose, Contents, Choice, Heap, Image, Answer, Stop, answer_of, Rules, Keeping, MAX_TAKEN, CallsFront, Options, AreInRange, keeping_for, rules_of, Outcome, IsBegun, SessionState, RunValue, End, IsUntouched, Outside, HasImage, HasLoadCause, options_of, rule_of, rules_of_run, window_of, HasNoSession, Route, ClosesFiles, IsFilesAnswer, ServesNoted, StartsFiles, CallsServed, before_session, HasBegun, StartsPartly, HasNotBegun, HasServed}
+use Rattle.rx_serve.proofs.Terms.{Bool, List, None, Ok, Option, ap, arith, inl, inr, refl, subst, sym, ℕ, ◌+◌, ◌<◌, ◌^◌, ◌∙◌, ◌≡◌, ◌≤◌, Err, IoFault, FileCall, Rose, Contents, Choice, Heap, Image, Answer, Stop, answer_of, Rules, Try, Keeping, TellsMore, MAX_TAKEN, CallsFront, Options, AreInRange, keeping_for, rules_of, AreAllTables, Outcome, story_of, IsBegun, SessionState, RunValue, End, IsUntouched, Outside, HasImage, HasLoadCause, options_of, rule_of, rules_of_run, window_of, HasNoSession, Route, ClosesFiles, IsFilesAnswer, ServesNoted, StartsFiles, WatchesNoted, CallsServed, before_session, HasBegun, StartsPartly, HasNotBegun, HasServed}
 use Rattle.rx_serve.proofs.GuardLemmas.{keeps_to_blocks}
 use Rattle.rx_serve.proofs.HeadlineLemmas.{headline}
 use Rattle.rx_serve.proofs.NotingLemmas.{closes_same, closes_whole, few_counts, whole_at}
 
--- what a session that served noted, whatever calls are told beside it
-noted_of : {rules : Rules} {keeping : Keeping} {image : Image} (value : RunValue) (route : Route) (old new : Outside) (started served : Option Contents) (calls calls_later : Option (List FileCall)) (outcome : Outcome)
-    → ServesNoted rules keeping image value route (record old { files = started; calls = calls }) (record new { files = served; calls = calls_later }) outcome
-    → ServesNoted rules keeping image value route (record old { files = started }) (record new { files = served }) outcome
-noted_of value route old new started served calls calls_later outcome s = record {
-  choices = s.choices;
-  episodes = s.episodes;
-  left = s.left;
-  counted = s.counted;
-  counts = s.counts;
-  serves = s.serves;
-  stands = s.stands;
-  asks = s.asks;
+-- what a session that served noted, and its watch told, whatever calls are told beside it
+abbrev watched_of : {rules : Rules} {keeping : Keeping} {image : Image} (value : RunValue) (route : Route) (old new : Outside) (started served : Option Contents) (calls calls_later : Option (List FileCall)) (outcome : Outcome) {tables_before tables : Option (List (List Try))}
+    → WatchesNoted rules keeping image value route (record old { files = started; calls = calls }) (record new { files = served; calls = calls_later }) outcome tables_before tables
+    → WatchesNoted rules keeping image value route (record old { files = started }) (record new { files = served }) outcome tables_before tables
+watched_of value route old new started served calls calls_later outcome w = let s = w.noted in record {
+  noted = record {
+    choices = s.choices;
+    episodes = s.episodes;
+    left = s.left;
+    counted = s.counted;
+    counts = s.counts;
+    serves = s.serves;
+    stands = s.stands;
+    asks = s.asks;
+  };
+  watched = w.watched;
 }
+
+-- a session at which nobody looked
+pub unwatched : {rules : Rules} {keeping : Keeping} {image : Image} {value : RunValue} {route : Route} {old new : Outside} {outcome : Outcome} → ServesNoted rules keeping image value route old new outcome
+    → WatchesNoted rules keeping image value route old new outcome None None
+unwatched s = record { noted = s; watched = refl }
+
+-- nobody counts
+pub no_more : (steps : ℕ) → steps + 0 ≡ 0 + steps
+no_more steps = omega arith
 
 -- the image of a program file, in the window that the command asks for
 image_of : {told : Option Contents} {image : Image} (value : RunValue) (options : Options) → options ≡ options_of value → HasImage told value.program options.window image → HasImage told value.program (window_of value) image
@@ -81,6 +93,10 @@ not_begun value old new answered end why is nothing untouched called = record {
   nothing = nothing;
 }
 
+-- the tables that a watch told of a session, as an end says of it
+abbrev pub TablesTold : (value : RunValue) {route : Route} {old new : Outside} {end : End} → HasServed value route old new end → Option (List (List Try)) → Option (List (List Try)) → Type 0
+TablesTold value served tables_before tables = TellsMore tables_before tables (AreAllTables (rules_of_run value) (story_of served.noted.serves.telling) served.noted.serves.telling.walk served.why)
+
 module _ {R : Type 0} where
   pub has_begun : (value : RunValue) (told loaded later : Option Contents) (options : Options) {image : Image} {rule : R} {session : SessionState R} → options ≡ options_of value → HasImage told value.program options.window image → loaded ≡ told
       → StartsFiles value loaded later (Ok tt) → IsBegun image options rule session → HasBegun value rule told later session
@@ -101,40 +117,44 @@ module _ {R : Type 0} where
 
   -- a session that served under the rule of its command's guard, as an end
   pub run_ends : (permits : R → Heap → ℕ → ℕ → Bool) (value : RunValue) (route : Route) (old new : Outside) (started served : Option Contents) (calls calls_later : Option (List FileCall)) {image : Image} (options : Options) {rule : R} {session : SessionState R}
-      (end : End) (why : Stop) {answer : Answer} {recorded : ℕ} {tail : List Choice} {taken steps taken_told steps_told : ℕ} → permits rule ≡ rule_of value.guard → options ≡ options_of value → HasImage old.files value.program options.window image → IsBegun image options rule session
+      (end : End) (why : Stop) {answer : Answer} {recorded : ℕ} {tail : List Choice} {taken steps taken_told steps_told : ℕ} {tables_before tables : Option (List (List Try))} → permits rule ≡ rule_of value.guard → options ≡ options_of value → HasImage old.files value.program options.window image → IsBegun image options rule session
       → StartsFiles value old.files started (Ok tt)
-      → ServesNoted (rules_of session.options (permits session.cpu.rule)) (keeping_for session.options) image value route (record old { files = started; calls = calls }) (record new { files = served; calls = calls_later }) (record { stop = why; recorded = recorded; tail = tail; taken = taken; steps = steps })
+      → (noted_now : WatchesNoted (rules_of session.options (permits session.cpu.rule)) (keeping_for session.options) image value route (record old { files = started; calls = calls }) (record new { files = served; calls = calls_later }) (record { stop = why; recorded = recorded; tail = tail; taken = taken; steps = steps }) tables_before tables)
       → taken_told ≡ taken → steps_told ≡ steps → ClosesFiles value taken_told steps_told served new.files (answer_of why) answer → CallsServed value old.calls new.calls (answer_of why) answer
-      → end.answer ≡ answer → end.recorded ≡ recorded → end.tail ≡ tail → end.taken ≡ taken → end.steps ≡ steps → HasServed value route old new end
-  run_ends permits value route old new started served calls calls_later {image = image} options {rule = rule} {session = session} end why {answer = answer} {recorded = recorded} {tail = tail} {taken = taken} {steps = steps} {taken_told = taken_told} {steps_told = steps_told} own is program begun starts serves same_taken same_steps closes called answered recorded_is tail_is taken_is steps_is =
+      → end.answer ≡ answer → end.recorded ≡ recorded → end.tail ≡ tail → end.taken ≡ taken → end.steps ≡ steps → (served : HasServed value route old new end) × (TablesTold value served tables_before tables × ((served.noted.episodes ≡ noted_now.noted.episodes) × (served.why ≡ why)))
+  run_ends permits value route old new started served calls calls_later {image = image} options {rule = rule} {session = session} end why {answer = answer} {recorded = recorded} {tail = tail} {taken = taken} {steps = steps} {taken_told = taken_told} {steps_told = steps_told} {tables_before = tables_before} {tables = tables} own is program begun starts serves same_taken same_steps closes called answered recorded_is tail_is taken_is steps_is =
       let settings : session.options ≡ options_of value = begun.options_are ∙ is in
       let Rule : Type 0 = Heap → ℕ → ℕ → Bool in
-      let Noted : Options → Rule → Outcome → Type 0 = λ o rule outcome. ServesNoted (rules_of o rule) (keeping_for o) image value route (record old { files = started }) (record new { files = served }) outcome in
+      let Noted : Options → Rule → Outcome → Type 0 = λ o rule outcome. (w : WatchesNoted (rules_of o rule) (keeping_for o) image value route (record old { files = started }) (record new { files = served }) outcome tables_before tables) × (w.noted.episodes ≡ serves.noted.episodes) in
       let rule_is : permits session.cpu.rule ≡ rule_of value.guard = ap permits begun.cpu.rule_is ∙ own in
       let outcome : Outcome = record { stop = why; recorded = recorded; tail = tail; taken = taken; steps = steps } in
       let same : outcome ≡ record { stop = why; recorded = end.recorded; tail = end.tail; taken = end.taken; steps = end.steps } =
       λ i. record { stop = why; recorded = (sym recorded_is) i; tail = (sym tail_is) i; taken = (sym taken_is) i; steps = (sym steps_is) i } in
-      let noted =
+      let both =
       subst (Noted (options_of value) (rule_of value.guard)) same
       (subst (λ rule. Noted (options_of value) rule outcome) rule_is
-      (subst (λ o. Noted o (permits session.cpu.rule) outcome) settings (noted_of value route old new started served calls calls_later outcome serves))) in
+      (subst (λ o. Noted o (permits session.cpu.rule) outcome) settings (watched_of value route old new started served calls calls_later outcome serves, refl))) in
+      let watched = both.0 in
       let closed : ClosesFiles value end.taken end.steps served new.files (answer_of why) end.answer =
       subst (λ a. ClosesFiles value end.taken end.steps served new.files (answer_of why) a) (sym answered)
       (subst (λ t. ClosesFiles value t end.steps served new.files (answer_of why) answer) (same_taken ∙ sym taken_is) (subst (λ n. ClosesFiles value taken_told n served new.files (answer_of why) answer) (same_steps ∙ sym steps_is) closes)) in
-      record {
-        image = image;
-        program = image_of value options is program;
-        files_started = started;
-        files_served = served;
-        why = why;
-        starts = starts;
-        noted = noted;
-        closes = closed;
-        called = subst (CallsServed value old.calls new.calls (answer_of why)) (sym answered) called;
-        texts = closes_whole value noted.choices noted.episodes noted.left end.taken end.steps old.files started served new.files (answer_of why) end.answer starts noted.stands (whole_at why noted.left end.tail noted.serves.is.notes.missing noted.serves.is.notes.handed) closed;
-        headline = headline (rules_of_run value) (keeping_for (options_of value)) image route why end noted.choices noted.episodes _ _ (closes_same value end.taken end.steps served new.files (answer_of why) end.answer closed) noted.counted noted.serves;
-        guarded = keeps_to_blocks value.guard (rules_of_run value) (keeping_for (options_of value)) image why end noted.choices noted.episodes refl noted.serves.is;
-      }
+      let noted = watched.noted in (
+        record {
+          image = image;
+          program = image_of value options is program;
+          files_started = started;
+          files_served = served;
+          why = why;
+          starts = starts;
+          noted = noted;
+          closes = closed;
+          called = subst (CallsServed value old.calls new.calls (answer_of why)) (sym answered) called;
+          texts = closes_whole value noted.choices noted.episodes noted.left end.taken end.steps old.files started served new.files (answer_of why) end.answer starts noted.stands (whole_at why noted.left end.tail noted.serves.is.notes.missing noted.serves.is.notes.handed) closed;
+          headline = headline (rules_of_run value) (keeping_for (options_of value)) image route why end noted.choices noted.episodes _ _ (closes_same value end.taken end.steps served new.files (answer_of why) end.answer closed) noted.counted noted.serves;
+          guarded = keeps_to_blocks value.guard (rules_of_run value) (keeping_for (options_of value)) image why end noted.choices noted.episodes refl noted.serves.is;
+        },
+        (watched.watched, (both.1, refl)),
+      )
 
   -- how many items were taken, and how many instructions done, fit into a record
   pub counts_fit : (permits : R → Heap → ℕ → ℕ → Bool) {value : RunValue} {route : Route} {old new : Outside} {image : Image} (options : Options) {rule : R} {session : SessionState R} {outcome : Outcome}

@@ -40,3 +40,7 @@ port_few value ((port, others), none) =
 pub conns_few : (value : ServeValue) → HasRanges (serve value) → (1 ≤ value.conns) × (value.conns ≤ 4096)
 unfolding conns_row
 conns_few value ((port, (conns, others)), none) = conns
+
+-- and of clients at the same time
+pub at_once_few : (value : ServeValue) → HasRanges (serve value) → (1 ≤ value.at_once) × (value.at_once ≤ 256)
+at_once_few value ((port, (conns, (window, (ring, (every, (frames, (budget, (patience, (at_once, others))))))))), none) = at_once

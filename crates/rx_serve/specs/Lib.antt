@@ -14,7 +14,10 @@ pub mod Guarding
 pub mod Beginning
 pub mod Running
 pub mod Serving
+pub mod Diagnosing
 pub mod Replaying
 pub mod Converting
+pub mod Drilling
+pub mod TextFrames
 pub mod Commands
 pub mod Laws

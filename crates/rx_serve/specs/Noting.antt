@@ -3,13 +3,12 @@ use Rattle.std.specs.Prelude.{◌≡◌, ◌⊎◌, ℕ, ◌+◌, List, [], Opti
 use Rattle.command_line.specs.declared.run_words.Form.{Form as Wanted}
 use Rattle.command_line.specs.declared.run_words.Form.TheVariants as wanted
 use Rattle.file_notes.specs.Texts.{report_text}
-use Rattle.file_notes.specs.Writing.{StartsBoth, AddsBoth}
 use Rattle.run_history.specs.declared.answer.Answer.TheVariants as answer
 use Rattle.rx_io.specs.declared.fault.IoFault.TheVariants as fault
 use Rattle.run_report.specs.declared.form.Form.TheVariants as form
 use Rattle.run_report.specs.Report as report
 use Rattle.schedule_file.specs.Lines as recording
-use Rattle.rx_serve.specs.Terms.{IoFault, Contents, Choice, Image, Answer, IsEnd, Rules, Episode, NoneFailed, noted, Keeping, Form, VERSION, record_of, text_of, AreAsks, Left, unnoted_of, Names, Stands, Outcome, RunValue}
+use Rattle.rx_serve.specs.Terms.{IoFault, Contents, Choice, Image, Answer, IsEnd, Rules, Episode, Try, NoneFailed, noted, Keeping, TellsMore, Form, VERSION, record_of, text_of, AreAsks, Left, unnoted_of, Names, Stands, AddsBoth, StartsBoth, AreAllTables, Outcome, story_of, RunValue}
 use Rattle.rx_serve.specs.Outside.{Outside}
 use Rattle.rx_serve.specs.Route.{Route, Serves}
 use Rattle.rx_serve.specs.Status.{status_of}
@@ -53,6 +52,12 @@ pub record ServesNoted (rules : Rules) (keeping : Keeping) (image : Image) (valu
   pub serves : Serves route rules keeping image outcome (noted (Some []) (Some []) (Some NoneFailed)) (noted (Some choices) (Some episodes) (Some (unnoted_of left))) counted
   pub stands : Stands (names_of value) (report_form value.form) old.files new.files choices episodes left
   pub asks : AreAsks choices
+
+-- A session that was watched served so, and its watch, where it tells its tables, has told those of its recoveries more. What the watch counted isn't
+-- the session's.
+pub record WatchesNoted (rules : Rules) (keeping : Keeping) (image : Image) (value : RunValue) (route : Route) (old new : Outside) (outcome : Outcome) (tables_before tables : Option (List (List Try))) : Type 0 where
+  pub noted : ServesNoted rules keeping image value route old new outcome
+  pub watched : TellsMore tables_before tables (AreAllTables rules (story_of noted.serves.telling) noted.serves.telling.walk outcome.stop)
 
 -- What a session that came to this end leaves behind its notes. At an end of its own the last lines were written; where that failed, the answer
 -- says it in place of the end. Where it was broken off, its files are left as they are.

@@ -6,6 +6,7 @@ pub use Rattle.rx_io.specs.declared.file_calls.FileCall.TheVariants.{Added, Load
 pub use Rattle.rx_io.specs.declared.listener_calls.ListenEntry.{ListenEntry}
 pub use Rattle.rx_io.specs.Calling.{Calls}
 pub use Rattle.rx_io.specs.Faults.{HasCause, Rose}
+pub use Rattle.rx_io.specs.Listening.{Binds}
 pub use Rattle.rx_io.specs.Named.{Contents, Holds}
 pub use Rattle.rx_io.specs.Outside.{IsDrained, Stream}
 pub use Rattle.rx_io.specs.Prefix.{Prefix}
@@ -13,9 +14,16 @@ pub use Rattle.rx_io.specs.Sends.{Send, sent_to}
 pub use Rattle.links.specs.declared.journal.Entry.{Entry}
 pub use Rattle.links.specs.declared.journal.LinkEvent.{LinkEvent}
 pub use Rattle.links.specs.Links.{ComesUntold, Coming, Piece, events_in, pieces_in}
+pub use Rattle.crowd.specs.declared.crowd_calls.CrowdEntry.{CrowdEntry}
+pub use Rattle.crowd.specs.Crowding.{CrowdBinds}
+pub use Rattle.crowd_link.specs.declared.place.Limits.{Limits}
 pub use Rattle.block_book.specs.declared.choice.Choice.{Choice}
 pub use Rattle.block_book.specs.Heap.{Heap}
 pub use Rattle.trunk_wire.specs.Pieces.{payload}
+pub use Rattle.trunk_text.specs.declared.turning.Ended.{Ended}
+pub use Rattle.trunk_text.specs.Framing.{framing}
+pub use Rattle.trunk_text.specs.Turns.{Moved, Turned, Way}
+pub use Rattle.trunk_text.specs.Unframing.{unframing}
 pub use Rattle.elf_image.specs.declared.image.Image.{Image}
 pub use Rattle.elf_image.specs.Image.{heap_end, heap_start, written}
 pub use Rattle.elf_image.specs.Refusals.{IsImage}
@@ -29,6 +37,7 @@ pub use Rattle.run_history.specs.Run.{Run, after, effect, output}
 unfoldable pub use Rattle.run_history.specs.Run.{does, next}
 unfoldable pub use Rattle.heap_guard.specs.Guard.{permits}
 pub use Rattle.heap_guard.specs.Guarded.{KeepsToExtents, KeepsToLiveBlocks}
+pub use Rattle.session_history.specs.declared.ends.SessionEnd.{SessionEnd}
 pub use Rattle.session_history.specs.declared.ends.Stop.{Stop}
 pub use Rattle.session_history.specs.Account.{HasPassedAll, IsAccount, Session, journal_of}
 pub use Rattle.session_history.specs.AccountLaws.{IsComplete, NoOtherAnswer, OpensOnce, PassesAtOnce, SentIsPassed, piece_of}
@@ -38,9 +47,14 @@ pub use Rattle.session_history.specs.Heeding.{AreHeeded, heeded, items_in}
 pub use Rattle.session_history.specs.Lawful.{Rules, entries_of}
 pub use Rattle.session_history.specs.Opened.{closes, is_gone, is_open}
 pub use Rattle.session_notes.specs.declared.episode.Episode.{Episode}
-pub use Rattle.session_notes.specs.Noting.{NoneFailed, Noted, Unnoted, noted}
+pub use Rattle.session_notes.specs.declared.episode.Try.{Try}
+pub use Rattle.session_notes.specs.declared.note_list.NoteList.{NoteList}
+pub use Rattle.session_notes.specs.Lists.{list_episodes}
+pub use Rattle.session_notes.specs.Noting.{NoneFailed, Noted, Shown, Unnoted, noted}
 pub use Rattle.recovery.specs.Handling.{Keeping}
+pub use Rattle.recovery.specs.Watching.{TellsMore}
 pub use Rattle.run_report.specs.declared.form.Form.{Form}
+pub use Rattle.diagnosis.specs.Diagnosis.{diagnosis_text, head_text, rest_text}
 pub use Rattle.schedule_file.specs.declared.recorded.Recorded.{Recorded}
 pub use Rattle.schedule_file.specs.declared.recorded.TheConstants.{MAX_TAKEN, VERSION}
 pub use Rattle.schedule_file.specs.Records.{IsAsk, IsChoice, IsReading, IsRecord, record_of, text_of}
@@ -48,24 +62,29 @@ pub use Rattle.schedule_file.specs.Refusals.{lines_of, onto, refused_behind, ref
 pub use Rattle.schedule_file.specs.Telling.{is_ask}
 unfoldable pub use Rattle.schedule_file.specs.Telling.{end_of, head_of}
 pub use Rattle.file_notes.specs.Asks.{AreAsks}
+pub use Rattle.file_notes.specs.Beside.{IsThird, StandsBeside}
 pub use Rattle.file_notes.specs.Calling.{AddsAlone, CallsFront, ending, is_addition, starting, starts_of}
 pub use Rattle.file_notes.specs.Left.{InRecord, InReport, Left, Nothing, unnoted_of}
 pub use Rattle.file_notes.specs.Names.{AreTwo, Names}
 pub use Rattle.file_notes.specs.Standing.{Stands}
+pub use Rattle.file_notes.specs.Writing.{AddsBoth, StartsBoth, Writes, all_kept, nothing_kept}
 pub use Rattle.session_state.specs.declared.options.Options.{Options}
 pub use Rattle.session_state.specs.Options.{AreInRange, keeping_for, rules_of}
-pub use Rattle.session_state.specs.Recovered.{HasNoted, IsHandedLast, IsNoteStop, IsOutcome, Outcome, Telling}
+pub use Rattle.session_state.specs.Recovered.{AreAllTables, HasNoted, IsHandedLast, IsNoteStop, IsOutcome, Outcome, Telling, story_of}
 pub use Rattle.session_state.specs.Sessions.{IsBegun, SessionState}
 pub use Rattle.replay.specs.Replaying.{EndsBy, bounds_of}
 pub use Rattle.over_trunk.specs.Converting.{ConvertsTrunk}
 pub use Rattle.over_trunk.specs.EndLaws.{AreAllHeeded, NoOtherEnd, SendsAreWritten}
 pub use Rattle.over_trunk.specs.Replaying.{ReplaysTrunk, WritesSends}
-pub use Rattle.over_trunk.specs.Serving.{GoesOverTrunk, IsRecordedUpTo, IsTrunkFault, ServesTrunk}
+pub use Rattle.over_trunk.specs.Serving.{GoesOverTrunk, HasServedTrunk, IsRecordedUpTo, IsTrunkFault, ServesTrunk, WatchesTrunk}
+pub use Rattle.over_trunk.specs.WatchLaws.{BeginWith, NotedTablesAreTold}
 pub use Rattle.over_port.specs.Calls.{given_to}
 pub use Rattle.over_port.specs.Serving.{CalledPort, EndsAfter, GoesOverPort, ServesPort}
+pub use Rattle.over_crowd.specs.Serving.{CalledCrowd, GoesOverCrowd, ServesCrowd}
+pub use Rattle.drill.specs.Drilling.{DrillEnds}
 pub use Rattle.command_line.specs.declared.run_words.Guard.{Guard}
-pub use Rattle.command_line.specs.Commands.{AsmValue, CommandValue, ConvertValue, ReplayValue, RunValue, ServeValue, asm, command_of, convert, convert_shown, fits, have_names, positional, replay, replay_shown, run, run_shown, serve, serve_shown}
-unfoldable pub use Rattle.command_line.specs.Commands.{is_run, is_serve, run_form, run_value, serve_form, serve_value}
+pub use Rattle.command_line.specs.Commands.{AsmValue, CommandValue, ConvertValue, DiagnoseValue, DrillValue, ReplayValue, RunValue, ServeValue, asm, command_of, convert, convert_shown, diagnose, diagnose_shown, drill, drill_shown, fits, frame, has_fourth, have_names, positional, replay, replay_shown, run, run_shown, serve, serve_shown, unframe}
+unfoldable pub use Rattle.command_line.specs.Commands.{diagnose_form, diagnose_value, is_diagnose, is_run, is_serve, run_form, run_value, serve_form, serve_value}
 pub use Rattle.command_line.specs.Parts.{Parts, texts_of}
 pub use Rattle.command_line.specs.Ranges.{HasRanges}
-unfoldable pub use Rattle.command_line.specs.Table.{conns_row, port_row, record_row, report_row}
+unfoldable pub use Rattle.command_line.specs.Table.{conns_row, diagnosis_row, port_row, record_row, report_row}

@@ -1,5 +1,5 @@
 // The two files of a session: its record and its report.
-ghost use Rattle.std.specs.Prelude.{◌≡◌, ◌⊎◌, ℕ, ◌+◌, ◌≤◌, ◌<◌, ◌^◌, true, false};
+ghost use Rattle.std.specs.Prelude.{◌≡◌, ◌⊎◌, ℕ, ◌+◌, ◌-◌, ◌≤◌, ◌<◌, ◌^◌, true, false, Some, None, if◌then◌else◌};
 ghost use Rattle.block_book.specs.declared.choice.Choice.{Choice};
 ghost use Rattle.command_line.specs.Commands.{run_shown};
 ghost use Rattle.command_line.specs.Ranges.{AreInRange};
@@ -14,20 +14,30 @@ ghost use Rattle.run_history.specs.declared.answer.Answer.TheVariants as answer;
 ghost use Rattle.schedule_file.specs.declared.recorded.TheConstants.{MAX_TAKEN};
 ghost use Rattle.session_history.specs.Ends.{IsEnd, answer_of};
 ghost use Rattle.session_history.specs.declared.ends.Stop.{Stop};
+ghost use Rattle.file_notes.specs.Keeping.{IsCopy};
+ghost use Rattle.over_trunk.specs.Serving.{HasServedTrunk, trunk_counts};
+ghost use Rattle.session_history.specs.Answering.{HasAnswerCause};
+ghost use Rattle.session_notes.specs.Lists.{list_episodes};
+ghost use Rattle.session_state.specs.Serving.{rules_by};
 ghost use Rattle.rx_serve.specs.Calling.{CallsEnding};
-ghost use Rattle.rx_serve.specs.Noting.{IsFilesAnswer, names_of, report_form, StartsFiles, ServesNoted, ClosesFiles};
+ghost use Rattle.rx_serve.specs.Diagnosing.{IsKept};
+ghost use Rattle.rx_serve.specs.Noting.{IsFilesAnswer, names_of, report_form, StartsFiles, WatchesNoted, ClosesFiles};
 ghost use Rattle.rx_serve.specs.Outside.{outside, faults, HasFaults};
 ghost use Rattle.rx_serve.specs.Route.{Trunk};
 
 use crate::ending::status_of_answer;
 use command_line::RunCommand;
-use file_notes::{FileNames, FileNotes, FirstLine, LastLines, end_files, start_files};
+use file_notes::{
+    FileNames, FileNotes, FirstLine, KeepingNotes, LastLines, end_files, start_files,
+};
 use guest_space::AccessRule;
 use over_trunk::serve_trunk;
+use recovery::Watch;
 use run_history::Answer;
 use run_report::Form;
 use rx_engine::Session;
 use rx_io::{Files, IoFault, Sink, Source, Steps};
+use session_notes::{NoteList, Notes};
 use std::alloc::Global;
 use std::sync::ledger::Ledger;
 
@@ -52,7 +62,7 @@ pub(crate) fn note_answer(fault: IoFault) -> Answer
 }
 
 // Whether an answer is an end of a session, without fault or want of memory.
-fn is_end(answer: Answer) -> bool
+pub(crate) fn is_end(answer: Answer) -> bool
     ensures end { result ≡ true → IsEnd answer }
     ensures none { result ≡ false → IsEnd answer → ⊥ }
 {
@@ -91,33 +101,107 @@ pub(crate) fn start_notes<F: Files>(
     start_files(alloc, files, &names, &first, report_form(run.form))
 }
 
-/// Serves a trunk, and notes the answers of the allocator and the recoveries in both files.
-pub(crate) fn serve_noted<R: AccessRule, F: Files, S: Source, K: Sink, L: Ledger>(
+/// Serves a trunk, and notes the answers of the allocator and the recoveries in both files. What the watch counts isn't the session's.
+pub(crate) fn serve_noted<R: AccessRule, F: Files, S: Source, K: Sink, W: Watch, L: Ledger>(
     alloc: Global,
     run: &RunCommand<'_>,
     session: &mut Session<R>,
     files: &mut F,
     input: &mut S,
     output: &mut K,
+    watch: &mut W,
     steps: &mut Steps<L>,
 ) -> Answer
     requires two { AreTwo (names_of (run_shown run.now)) }
     requires begun { IsReadyToServe session.old }
-    ensures serves { (why : Stop) × (result ≡ answer_of why) × ((image : Image) → IsBegun image session.old.options session.old.cpu.rule session.old
-        → ServesNoted (rules_of session.old.options (R.rule session.old.cpu.rule)) (keeping_for session.old.options) image (run_shown run.now) (Trunk (S.told input.old) (S.told input.new) (K.told output.old) (K.told output.new)) (outside (F.told files.old) (F.calls files.old) (S.told input.old) (K.told output.old) steps.old) (outside (F.told files.new) (F.calls files.new) (S.told input.new) (K.told output.new) steps.new) (outcome_of why session.new)) }
+    ensures serves { (why : Stop) × (result ≡ answer_of why) × ((image : Image) (own : ℕ) → IsBegun image session.old.options session.old.cpu.rule session.old → own + W.ran watch.new ≡ W.ran watch.old + steps.new
+        → WatchesNoted (rules_of session.old.options (R.rule session.old.cpu.rule)) (keeping_for session.old.options) image (run_shown run.now) (Trunk (S.told input.old) (S.told input.new) (K.told output.old) (K.told output.new)) (outside (F.told files.old) (F.calls files.old) (S.told input.old) (K.told output.old) steps.old) (outside (F.told files.new) (F.calls files.new) (S.told input.new) (K.told output.new) own) (outcome_of why session.new) (W.tables watch.old) (W.tables watch.new)) }
     ensures adds { AddsAlone (names_of (run_shown run.now)) (F.calls files.old) (F.calls files.new) }
     ensures later { F.faults files.old ≤ F.faults files.new }
     ensures faults { HasFaults (faults (F.faults files.old) (S.faults input.old) (K.faults output.old)) (faults (F.faults files.new) (S.faults input.new) (K.faults output.new)) result }
-    ensures counted_at_least { steps.old + session.new.steps ≤ steps.new }
+    ensures counted_at_least { W.ran watch.new + steps.old + session.new.steps ≤ W.ran watch.old + steps.new }
 {
     let names = FileNames {
         record: run.recording,
         report: run.report,
     };
     let mut notes = FileNotes::make(alloc, &mut *files, names, report_form(run.form));
-    let answer = serve_trunk(alloc, session, input, output, &mut notes, steps);
+    let answer = serve_trunk(alloc, session, input, output, &mut notes, watch, steps);
     let _ = notes.is_whole();
     answer
+}
+
+/// How a session was answered, and the episodes that were noted, if they could be kept.
+#[derive(Drop)]
+pub(crate) struct Kept {
+    pub(crate) answer: Answer,
+    pub(crate) episodes: Option<NoteList>,
+}
+
+// Serves a trunk, and tells each episode to both notes; and whether each that was noted is kept in the list.
+fn serve_copied<R: AccessRule, S: Source, K: Sink, N: Notes, W: Watch, L: Ledger>(
+    alloc: Global,
+    session: &mut Session<R>,
+    input: &mut S,
+    output: &mut K,
+    notes: &mut N,
+    list: &mut NoteList,
+    watch: &mut W,
+    steps: &mut Steps<L>,
+) -> (Answer, bool)
+    requires begun { IsReadyToServe session.old }
+    requires same { IsCopy false (N.shown notes.old).told.episodes (Some (list_episodes list.old)) }
+    ensures served { HasServedTrunk (rules_by R.rule session.old) (S.told input.old) (S.told input.new) (K.told output.old) (K.told output.new) (N.shown notes.old) (N.shown notes.new) ((W.ran watch.old + steps.new) - (W.ran watch.new + steps.old)) (W.tables watch.old) (W.tables watch.new) session.old session.new result.0 }
+    ensures cause { HasAnswerCause (trunk_counts (S.faults input.old) (K.faults output.old)) (trunk_counts (S.faults input.new) (K.faults output.new)) result.0 }
+    ensures fixed { N.fixed notes.new ≡ N.fixed notes.old }
+    ensures counted_at_least { W.ran watch.new + steps.old + session.new.steps ≤ W.ran watch.old + steps.new }
+    ensures copied { result.1 ≡ true → IsCopy false (N.shown notes.new).told.episodes (Some (list_episodes list.new)) }
+{
+    let mut both = KeepingNotes::make(&mut *notes, &mut *list);
+    let answer = serve_trunk(alloc, session, input, output, &mut both, watch, steps);
+    let copied = both.is_copied();
+    (answer, copied)
+}
+
+// A list, if it has all that it should.
+fn kept_if(copied: bool, list: NoteList) -> Option<NoteList>
+    ensures { result ≡ (if copied then Some list else None) }
+{
+    if copied { Some(list) } else { None }
+}
+
+/// The same, and keeps the episodes that were noted, unless memory runs out for that.
+pub(crate) fn serve_kept<R: AccessRule, F: Files, S: Source, K: Sink, W: Watch, L: Ledger>(
+    alloc: Global,
+    run: &RunCommand<'_>,
+    session: &mut Session<R>,
+    files: &mut F,
+    input: &mut S,
+    output: &mut K,
+    watch: &mut W,
+    steps: &mut Steps<L>,
+) -> Kept
+    requires two { AreTwo (names_of (run_shown run.now)) }
+    requires begun { IsReadyToServe session.old }
+    ensures serves { (why : Stop) × (result.answer ≡ answer_of why) × ((image : Image) (own : ℕ) → IsBegun image session.old.options session.old.cpu.rule session.old → own + W.ran watch.new ≡ W.ran watch.old + steps.new
+        → (w : WatchesNoted (rules_of session.old.options (R.rule session.old.cpu.rule)) (keeping_for session.old.options) image (run_shown run.now) (Trunk (S.told input.old) (S.told input.new) (K.told output.old) (K.told output.new)) (outside (F.told files.old) (F.calls files.old) (S.told input.old) (K.told output.old) steps.old) (outside (F.told files.new) (F.calls files.new) (S.told input.new) (K.told output.new) own) (outcome_of why session.new) (W.tables watch.old) (W.tables watch.new)) × IsKept result.episodes w.noted.episodes) }
+    ensures adds { AddsAlone (names_of (run_shown run.now)) (F.calls files.old) (F.calls files.new) }
+    ensures later { F.faults files.old ≤ F.faults files.new }
+    ensures faults { HasFaults (faults (F.faults files.old) (S.faults input.old) (K.faults output.old)) (faults (F.faults files.new) (S.faults input.new) (K.faults output.new)) result.answer }
+    ensures counted_at_least { W.ran watch.new + steps.old + session.new.steps ≤ W.ran watch.old + steps.new }
+{
+    let names = FileNames {
+        record: run.recording,
+        report: run.report,
+    };
+    let mut notes = FileNotes::make(alloc, &mut *files, names, report_form(run.form));
+    let mut list = NoteList::make(alloc, Vec::new(alloc));
+    let (answer, copied) = serve_copied(
+        alloc, session, input, output, &mut notes, &mut list, watch, steps,
+    );
+    let _ = notes.is_whole();
+    let episodes = kept_if(copied, list);
+    Kept { answer, episodes }
 }
 
 /// Adds the last lines to both files, where a session came to this end, and answers how it ended then.

@@ -1,4 +1,4 @@
-// The command `serve`: a program is loaded, and serves the connections of a port.
+// The command `serve`: a program is loaded, and serves the connections of a port, one after another.
 ghost use Rattle.std.specs.Prelude.{◌≡◌, ℕ, ◌+◌, ◌<◌, ◌≤◌, ◌^◌, List, Option};
 ghost use Rattle.command_line.specs.Commands.{run_shown, serve_shown};
 ghost use Rattle.command_line.specs.Ranges.{AreInRange};
@@ -15,7 +15,7 @@ ghost use Rattle.session_state.specs.Sessions.{IsBegun};
 ghost use Rattle.rx_serve.specs.Noting.{names_of, ServesNoted};
 ghost use Rattle.rx_serve.specs.Outside.{outside, faults, HasFaults};
 ghost use Rattle.rx_serve.specs.Route.{Port};
-ghost use Rattle.rx_serve.specs.Serving.{IsBindAnswer, ServeEnds};
+ghost use Rattle.rx_serve.specs.Serving.{IsBindAnswer, PortEnds};
 ghost use Rattle.rx_serve.specs.Settings.{rule_of};
 ghost use Rattle.rx_serve.specs.Status.{status_of};
 
@@ -34,7 +34,7 @@ use std::alloc::Global;
 use std::sync::ledger::Ledger;
 
 // A port that couldn't be bound, as its answer.
-fn bind_answer(fault: IoFault) -> Answer
+pub(crate) fn bind_answer(fault: IoFault) -> Answer
     ensures { IsBindAnswer fault result }
 {
     match fault {
@@ -88,7 +88,7 @@ fn serve_under<R: AccessRule + Drop, F: Files, N: Listener, L: Ledger>(
     requires two { AreTwo (names_of (run_shown serve.now.session)) }
     requires listens { (serve.now.port < 2 ^ 16) × ((1 ≤ serve.now.conns) × (serve.now.conns ≤ 4096)) }
     requires rule { R.rule rule ≡ rule_of serve.now.session.guard }
-    ensures ends { (input : Option Stream) (output : Option (List ℕ)) → ServeEnds (serve_shown serve.now) (N.told listener.old) (N.told listener.new) (outside (F.told files.old) (F.calls files.old) input output steps.old) (outside (F.told files.new) (F.calls files.new) input output steps.new) result }
+    ensures ends { (input : Option Stream) (output : Option (List ℕ)) → PortEnds (serve_shown serve.now) (N.told listener.old) (N.told listener.new) (outside (F.told files.old) (F.calls files.old) input output steps.old) (outside (F.told files.new) (F.calls files.new) input output steps.new) result }
     ensures faults { (output : ℕ) → HasFaults (faults (F.faults files.old) (N.faults listener.old) output) (faults (F.faults files.new) (N.faults listener.new) output) result.answer }
     ensures fixed { N.fixed listener.new ≡ N.fixed listener.old }
     ensures status { result.status ≡ status_of result.answer }
@@ -125,7 +125,7 @@ pub fn serve_program<F: Files, N: Listener, L: Ledger>(
     requires in_range { AreInRange (run_shown serve.now.session) }
     requires two { AreTwo (names_of (run_shown serve.now.session)) }
     requires listens { (serve.now.port < 2 ^ 16) × ((1 ≤ serve.now.conns) × (serve.now.conns ≤ 4096)) }
-    ensures ends { (input : Option Stream) (output : Option (List ℕ)) → ServeEnds (serve_shown serve.now) (N.told listener.old) (N.told listener.new) (outside (F.told files.old) (F.calls files.old) input output steps.old) (outside (F.told files.new) (F.calls files.new) input output steps.new) result }
+    ensures ends { (input : Option Stream) (output : Option (List ℕ)) → PortEnds (serve_shown serve.now) (N.told listener.old) (N.told listener.new) (outside (F.told files.old) (F.calls files.old) input output steps.old) (outside (F.told files.new) (F.calls files.new) input output steps.new) result }
     ensures faults { (output : ℕ) → HasFaults (faults (F.faults files.old) (N.faults listener.old) output) (faults (F.faults files.new) (N.faults listener.new) output) result.answer }
     ensures fixed { N.fixed listener.new ≡ N.fixed listener.old }
     ensures status { result.status ≡ status_of result.answer }

@@ -2,17 +2,22 @@
 ghost use Rattle.std.specs.Prelude.{◌≡◌, ◌+◌, ◌≤◌};
 ghost use Rattle.command_line.specs.Parts.{texts_of};
 ghost use Rattle.command_line.specs.Commands.{command_of};
-ghost use Rattle.rx_serve.specs.Commands.{Ends, Listens, heard_by};
+ghost use Rattle.rx_serve.specs.Commands.{Ends, Gathers, Listens, heard_by};
 ghost use Rattle.rx_serve.specs.Outside.{outside, faults, HasFaults};
+ghost use Rattle.rx_serve.specs.Serving.{heard};
 ghost use Rattle.rx_serve.specs.Status.{status_of};
 
 use crate::assembly::assemble_file;
+use crate::clients::serve_clients;
 use crate::converting::convert_file;
+use crate::diagnosing::diagnose_program;
+use crate::drilling::drill_session;
 use crate::ending::End;
-use crate::port_serving::serve_program;
 use crate::replaying::replay_file;
 use crate::serving::run_program;
+use crate::text_frames::{frame_input, unframe_input};
 use command_line::{Command, read_command};
+use crowd::Crowd;
 use run_history::Answer;
 use rx_io::{Files, Listener, Sink, Source, Steps};
 use std::alloc::Global;
@@ -27,28 +32,31 @@ use std::sync::ledger::Ledger;
 /// the recorded run again over the trunk of `input` and `output`: its sends are frames, and events are taken only where it asks for an item.
 /// `convert PROGRAM RECORD OUT` does the recorded run again over `input`, gives nothing, and writes the record of version 2 of that run.
 /// `serve PROGRAM PORT CONNS --record RECORD --report REPORT` lets the program serve so many connections of `listener` at a port, one after
-/// another, with a record and a report as of `run`.
-pub fn run_rx<F: Files, S: Source, K: Sink, N: Listener, L: Ledger>(
+/// another, with a record and a report as of `run`; with `--at-once N` those of `crowd`, up to N at the same time.
+pub fn run_rx<F: Files, S: Source, K: Sink, N: Listener, C: Crowd, L: Ledger>(
     alloc: Global,
     words: &[String],
     files: &mut F,
     input: &mut S,
     output: &mut K,
     listener: &mut N,
+    crowd: &mut C,
     steps: &mut Steps<L>,
 ) -> End
     // What is left, by cases on the command that the words ask for. `run`: the headline, with the account that it is true of; or no session began, by its
-    // cause. `serve`: the same, over the calls on the listener. `asm`: the executable of the text's image, and nothing else is touched. `replay`: the recorded run is done again, or no replay began,
+    // cause. `serve`: the same, over the calls on the listener or on the crowd. `asm`: the executable of the text's image, and nothing else is touched. `replay`: the recorded run is done again, or no replay began,
     // by its cause. `convert`: the recorded run is done again, and at its end its record of version 2 is written; or no run began or came to its end, by
     // its cause. Words of no command are refused, and nothing is touched.
-    ensures ends { Ends (command_of (texts_of words.now)) (N.told listener.old) (N.told listener.new) (outside (F.told files.old) (F.calls files.old) (S.told input.old) (K.told output.old) steps.old) (outside (F.told files.new) (F.calls files.new) (S.told input.new) (K.told output.new) steps.new) result }
+    ensures ends { Ends (command_of (texts_of words.now)) (heard (N.told listener.old) (C.told crowd.old)) (heard (N.told listener.new) (C.told crowd.new)) (outside (F.told files.old) (F.calls files.old) (S.told input.old) (K.told output.old) steps.old) (outside (F.told files.new) (F.calls files.new) (S.told input.new) (K.told output.new) steps.new) result }
 
     // A fault is answered only where the count of that object's own faults rose.
-    ensures faults { HasFaults (faults (F.faults files.old) (heard_by (command_of (texts_of words.now)) (S.faults input.old) (N.faults listener.old)) (K.faults output.old)) (faults (F.faults files.new) (heard_by (command_of (texts_of words.now)) (S.faults input.new) (N.faults listener.new)) (K.faults output.new)) result.answer }
+    ensures faults { HasFaults (faults (F.faults files.old) (heard_by (command_of (texts_of words.now)) (S.faults input.old) (N.faults listener.old) (C.faults crowd.old)) (K.faults output.old)) (faults (F.faults files.new) (heard_by (command_of (texts_of words.now)) (S.faults input.new) (N.faults listener.new) (C.faults crowd.new)) (K.faults output.new)) result.answer }
 
-    // Only `serve` calls the listener, and no command changes what of it no call changes.
+    // Only a `serve` of one client after another calls the listener, and only one of several at the same time the crowd. No command changes what of
+    // them no call changes.
     ensures listener { (Listens (command_of (texts_of words.now)) → ⊥) → listener.new ≡ listener.old }
-    ensures fixed { N.fixed listener.new ≡ N.fixed listener.old }
+    ensures crowd { (Gathers (command_of (texts_of words.now)) → ⊥) → crowd.new ≡ crowd.old }
+    ensures fixed { (N.fixed listener.new ≡ N.fixed listener.old) × (C.fixed crowd.new ≡ C.fixed crowd.old) }
     ensures status { result.status ≡ status_of result.answer }
     ensures counted_at_least { steps.old + result.steps ≤ steps.new }
 {
@@ -66,7 +74,15 @@ pub fn run_rx<F: Files, S: Source, K: Sink, N: Listener, L: Ledger>(
             let answer = convert_file(alloc, &convert, files, input, steps);
             End::without_session(alloc, answer)
         }
-        Ok(Some(Command::Serve(serve))) => serve_program(alloc, &serve, files, listener, steps),
+        Ok(Some(Command::Serve(serve))) => serve_clients(
+            alloc, &serve, files, listener, crowd, steps,
+        ),
+        Ok(Some(Command::Diagnose(diagnose))) => {
+            diagnose_program(alloc, &diagnose, files, input, output, steps)
+        }
+        Ok(Some(Command::Drill(drill))) => drill_session(alloc, drill, output, steps),
+        Ok(Some(Command::Frame)) => frame_input(alloc, input, output),
+        Ok(Some(Command::Unframe)) => unframe_input(alloc, input, output),
         Ok(None) => End::without_session(alloc, Answer::BadWords),
         Err(_) => End::without_session(alloc, Answer::Memory),
     }

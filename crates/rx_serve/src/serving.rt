@@ -19,6 +19,7 @@ use crate::settings::options_of;
 use command_line::{Guard, RunCommand};
 use guest_space::{AccessRule, AllMapped};
 use heap_guard::{GuardMode, HeapGuard};
+use recovery::NoWatch;
 use run_history::Answer;
 use rx_engine::Session;
 use rx_io::{Files, Sink, Source, Steps};
@@ -76,7 +77,17 @@ fn run_under<R: AccessRule + Drop, F: Files, S: Source, K: Sink, L: Ledger>(
         Ok(session) => session,
         Err(answer) => return End::without_session(alloc, answer),
     };
-    let ended = serve_noted(alloc, run, &mut session, files, input, output, steps);
+    let mut watch = NoWatch;
+    let ended = serve_noted(
+        alloc,
+        run,
+        &mut session,
+        files,
+        input,
+        output,
+        &mut watch,
+        steps,
+    );
     let answer = end_notes(alloc, files, run, ended, session.taken(), session.steps());
     End::of_session(answer, session.into_end())
 }

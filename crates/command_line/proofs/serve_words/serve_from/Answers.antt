@@ -17,4 +17,5 @@ returns c =
       port = (c.number_or_zero.ensures ∙ ap number_read (c.value_in.ensures _ read.names.1.0)) i;
       conns = (c.number_or_zero-2.ensures ∙ ap number_read (c.value_in-2.ensures _ read.names.1.1.0)) i;
       patience = (c.number_or_zero-3.ensures ∙ ap number_read (c.value_in-3.ensures _ options.1.1.1.1.1.1.1.1.1.1.0)) i;
+      at_once = (c.number_or_zero-4.ensures ∙ ap number_read (c.value_in-4.ensures _ options.1.1.1.1.1.1.1.1.1.1.1.0)) i;
     }

@@ -1,6 +1,4 @@
-use Rattle.std.proofs.lemmas.List.{take_more}
-use Rattle.file_notes.proofs.Terms.{length}
-use Rattle.std.proofs.Common.{arith, ◌<◌}
+use Rattle.file_notes.proofs.Terms.{arith, length, ◌<◌, take_more}
 use Rattle.file_notes.proofs.AskLemmas.{more_asks, more_lines}
 use Rattle.file_notes.proofs.adding.choice_bytes.Goals as goal
 

@@ -1,5 +1,4 @@
-use Rattle.file_notes.proofs.Terms.{take, ◌≡◌, choice_lines}
-use Rattle.file_notes.specs.Asks.{AreAsks}
+use Rattle.file_notes.proofs.Terms.{take, ◌≡◌, choice_lines, AreAsks}
 use Rattle.file_notes.proofs.adding.choice_bytes.Given as goal
 
 abbrev pub invariant-choices : goal.invariant-choices

@@ -1,20 +1,20 @@
 use Rattle.session_history.specs.Answering.{HasAnswerCause}
-use Rattle.over_trunk.proofs.Terms.{rules, subst, sym, ◌-◌, ◌∙◌, told_nothing, intake_of, output_of, seen_of, Image, Answer, keeping_for, outcome_of, rules_by, IsBegun, ServesTrunk, trunk_counts}
-use Rattle.over_trunk.proofs.ServeLemmas.{serves, left_recorded}
+use Rattle.over_trunk.proofs.Terms.{rules, subst, sym, ◌+◌, ◌-◌, ◌∙◌, told_nothing, intake_of, output_of, seen_of, Image, Answer, keeping_for, outcome_of, rules_by, IsBegun, WatchesTrunk, trunk_counts}
+use Rattle.over_trunk.proofs.ServeLemmas.{watches, watches_at, left_recorded}
 use Rattle.over_trunk.proofs.serving.serve_trunk.Goals as goal
 
 pub returns-clause-served : goal.returns-clause-served
 returns-clause-served g c =
-    let went = c.serve.ensures.outside.0 in
+    let went = c.serve_watched.ensures.outside.0 in
     let made = c.make-link.ensures in
-    let has = c.serve.ensures.served in
+    let has = c.serve_watched.ensures.served in
     let served : (image : Image) → IsBegun image c.args.session.now.options c.args.session.now.cpu.rule c.args.session.now
-    → ServesTrunk (rules_by g.R.AccessRule.rule c.args.session.now) (keeping_for c.args.session.now.options) image (g.S.Source.told c.make-link.result.source.now) (g.S.Source.told c.serve.new.link.source.now)
-    (g.K.Sink.told c.make-link.result.sink.now) (g.K.Sink.told c.serve.new.link.sink.now) (outcome_of has.why c.serve.new.self) (g.N.Notes.shown c.args.notes.now).told (g.N.Notes.shown c.serve.new.notes).told (c.serve.new.steps - c.args.steps.now) =
+    → WatchesTrunk (rules_by g.R.AccessRule.rule c.args.session.now) (keeping_for c.args.session.now.options) image (g.S.Source.told c.make-link.result.source.now) (g.S.Source.told c.serve_watched.new.link.source.now)
+    (g.K.Sink.told c.make-link.result.sink.now) (g.K.Sink.told c.serve_watched.new.link.sink.now) (outcome_of has.why c.serve_watched.new.self) (g.N.Notes.shown c.args.notes.now).told (g.N.Notes.shown c.serve_watched.new.notes).told ((g.W.Watch.ran c.args.watch.now + c.serve_watched.new.steps) - (g.W.Watch.ran c.serve_watched.new.watch + c.args.steps.now)) (g.W.Watch.tables c.args.watch.now) (g.W.Watch.tables c.serve_watched.new.watch) =
     λ image begun.
-    serves (rules_by g.R.AccessRule.rule c.args.session.now) (keeping_for c.args.session.now.options) image {old = intake_of (λ s. g.S.Source.told s.now) c.make-link.result} {new = intake_of (λ s. g.S.Source.told s.now) c.serve.new.link}
-    {out = output_of (λ s. g.K.Sink.told s.now) c.make-link.result} {later = output_of (λ s. g.K.Sink.told s.now) c.serve.new.link}
-    (seen_of (λ s. g.S.Source.told s.now) (λ s. g.S.Source.faults s.now) (λ s. g.K.Sink.told s.now) (λ s. g.K.Sink.faults s.now) c.make-link.result) (seen_of (λ s. g.S.Source.told s.now) (λ s. g.S.Source.faults s.now) (λ s. g.K.Sink.told s.now) (λ s. g.K.Sink.faults s.now) c.serve.new.link)
+    watches (rules_by g.R.AccessRule.rule c.args.session.now) (keeping_for c.args.session.now.options) image {old = intake_of (λ s. g.S.Source.told s.now) c.make-link.result} {new = intake_of (λ s. g.S.Source.told s.now) c.serve_watched.new.link}
+    {out = output_of (λ s. g.K.Sink.told s.now) c.make-link.result} {later = output_of (λ s. g.K.Sink.told s.now) c.serve_watched.new.link}
+    (seen_of (λ s. g.S.Source.told s.now) (λ s. g.S.Source.faults s.now) (λ s. g.K.Sink.told s.now) (λ s. g.K.Sink.faults s.now) c.make-link.result) (seen_of (λ s. g.S.Source.told s.now) (λ s. g.S.Source.faults s.now) (λ s. g.K.Sink.told s.now) (λ s. g.K.Sink.faults s.now) c.serve_watched.new.link)
     (record {
       phases = made.shows.phases;
       took = made.fresh.took;
@@ -23,14 +23,14 @@ returns-clause-served g c =
       gives = made.shows.gives;
       told = made.told ∙ (λ i. told_nothing (g.S.Source.told ((sym made.fresh.source_is) i).now) (g.K.Sink.told ((sym made.fresh.sink_is) i).now));
     })
-    (record { countable = g.met.S.Source.countable c.serve.new.link.source.now; short = g.met.K.Sink.countable c.serve.new.link.sink.now; taken = went.taken; given = went.given })
-    has.link (has.served image begun).0.recovered (left_recorded (rules_by g.R.AccessRule.rule c.args.session.now) image (has.served image begun).0.recovered.telling c.serve.new.self has.why has.keeping (has.served image begun).1) in
-    record { why = has.why; is = has.is; served = search (rules, served); notes = has.notes }
+    (record { countable = g.met.S.Source.countable c.serve_watched.new.link.source.now; short = g.met.K.Sink.countable c.serve_watched.new.link.sink.now; taken = went.taken; given = went.given })
+    has.link (has.served image begun).0 (left_recorded (rules_by g.R.AccessRule.rule c.args.session.now) image (has.served image begun).0.recovered.telling c.serve_watched.new.self has.why has.keeping (has.served image begun).1) in
+    record { why = has.why; is = has.is; served = λ image begun. watches_at (search rules) (search rules) (search rules) (search rules) (served image begun); notes = has.notes }
 
 pub returns-clause-cause : goal.returns-clause-cause
 returns-clause-cause g c =
-    let cause : HasAnswerCause (trunk_counts (g.S.Source.faults c.make-link.result.source.now) (g.K.Sink.faults c.make-link.result.sink.now)) (trunk_counts (g.S.Source.faults c.serve.new.link.source.now) (g.K.Sink.faults c.serve.new.link.sink.now)) c.serve.result = subst (λ (a : Answer). HasAnswerCause (trunk_counts (g.S.Source.faults c.make-link.result.source.now) (g.K.Sink.faults c.make-link.result.sink.now)) (trunk_counts (g.S.Source.faults c.serve.new.link.source.now) (g.K.Sink.faults c.serve.new.link.sink.now)) a) (sym c.serve.ensures.served.is) c.serve.ensures.served.link.cause in
+    let cause : HasAnswerCause (trunk_counts (g.S.Source.faults c.make-link.result.source.now) (g.K.Sink.faults c.make-link.result.sink.now)) (trunk_counts (g.S.Source.faults c.serve_watched.new.link.source.now) (g.K.Sink.faults c.serve_watched.new.link.sink.now)) c.serve_watched.result = subst (λ (a : Answer). HasAnswerCause (trunk_counts (g.S.Source.faults c.make-link.result.source.now) (g.K.Sink.faults c.make-link.result.sink.now)) (trunk_counts (g.S.Source.faults c.serve_watched.new.link.source.now) (g.K.Sink.faults c.serve_watched.new.link.sink.now)) a) (sym c.serve_watched.ensures.served.is) c.serve_watched.ensures.served.link.cause in
     search (rules, cause)
 
 pub returns-clause-counted_at_least : goal.returns-clause-counted_at_least
-returns-clause-counted_at_least g c = c.serve.ensures.counted_at_least
+returns-clause-counted_at_least g c = c.serve_watched.ensures.counted_at_least

@@ -1,4 +1,4 @@
-use Rattle.rx_serve.proofs.Lemmas.{noted_at, serves_noted, adds_of, of_trunk}
+use Rattle.rx_serve.proofs.Lemmas.{watched_at, watches_noted, adds_of, watched_trunk}
 use Rattle.rx_serve.proofs.Terms.{ap, arith, rules, ℕ, ◌+◌, ◌-◌, ◌∙◌, ◌≡◌, run_shown, outside, Trunk}
 use Rattle.rx_serve.proofs.noting.serve_noted.Goals as goal
 
@@ -7,18 +7,18 @@ returns-clause-serves g c =
     let made = c.make-notes.ensures in
     let kept = c.serve_trunk-answer.ensures.outside.2 in
     let more = c.serve_trunk-answer.ensures.counted_at_least in
-    let counted : ℕ = c.serve_trunk-answer.new.steps - c.args.steps.now in
-    let count : c.serve_trunk-answer.new.steps ≡ c.args.steps.now + counted = omega (arith, more) in
+    let counted : ℕ = (g.W.Watch.ran c.args.watch.now + c.serve_trunk-answer.new.steps) - (g.W.Watch.ran c.serve_trunk-answer.new.watch + c.args.steps.now) in
     let has = c.serve_trunk-answer.ensures.served in (
       has.why,
       has.is,
-      λ image begun.
+      λ image own begun same.
+          let count : own ≡ c.args.steps.now + counted = omega (arith, more, same) in
           let serves =
-          serves_noted (run_shown c.args.run.now) (Trunk (g.S.Source.told c.args.input.now) (g.S.Source.told c.serve_trunk-answer.new.input) (g.K.Sink.told c.args.output.now) (g.K.Sink.told c.serve_trunk-answer.new.output)) (outside (g.F.Files.told c.args.files.now) (g.F.Files.calls c.args.files.now) (g.S.Source.told c.args.input.now) (g.K.Sink.told c.args.output.now) c.args.steps.now)
-          (outside (g.F.Files.told c.serve_trunk-answer.new.notes.files.now) (g.F.Files.calls c.serve_trunk-answer.new.notes.files.now) (g.S.Source.told c.serve_trunk-answer.new.input) (g.K.Sink.told c.serve_trunk-answer.new.output) c.serve_trunk-answer.new.steps) _ _ _ _ _ _ _ _ _ made.choices made.episodes made.left count (of_trunk _ _ _ _ _ _ _ _ _ _ _ (has.served image begun))
+          watches_noted (run_shown c.args.run.now) (Trunk (g.S.Source.told c.args.input.now) (g.S.Source.told c.serve_trunk-answer.new.input) (g.K.Sink.told c.args.output.now) (g.K.Sink.told c.serve_trunk-answer.new.output)) (outside (g.F.Files.told c.args.files.now) (g.F.Files.calls c.args.files.now) (g.S.Source.told c.args.input.now) (g.K.Sink.told c.args.output.now) c.args.steps.now)
+          (outside (g.F.Files.told c.serve_trunk-answer.new.notes.files.now) (g.F.Files.calls c.serve_trunk-answer.new.notes.files.now) (g.S.Source.told c.serve_trunk-answer.new.input) (g.K.Sink.told c.serve_trunk-answer.new.output) own) _ _ _ _ _ _ _ _ _ made.choices made.episodes made.left count (watched_trunk _ _ _ _ _ _ _ _ _ _ _ _ _ (has.served image begun))
           (ap (λ k. k.1.0) kept ∙ made.names) (ap (λ k. k.1.1.0) kept ∙ made.form ∙ c.report_form.ensures)
           (ap (λ k. k.1.1.1.0) kept ∙ made.before.0) c.is_whole.ensures.stands c.is_whole.ensures.asks in
-          noted_at (search rules) (search rules) serves,
+          watched_at (search rules) (search rules) serves,
     )
 
 pub returns-clause-adds : goal.returns-clause-adds

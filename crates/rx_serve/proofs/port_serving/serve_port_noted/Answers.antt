@@ -1,4 +1,4 @@
-use Rattle.rx_serve.proofs.Lemmas.{noted_at, serves_noted, of_port}
+use Rattle.rx_serve.proofs.Lemmas.{watched_at, watches_noted, watched_port}
 use Rattle.rx_serve.proofs.Terms.{ap, arith, rules, ℕ, ◌+◌, ◌-◌, ◌∙◌, ◌≡◌, run_shown, outside, Port}
 use Rattle.rx_serve.proofs.port_serving.serve_port_noted.Goals as goal
 
@@ -14,9 +14,9 @@ returns-clause-serves g c input output =
       has.is,
       λ image begun.
           let serves =
-          serves_noted (run_shown c.args.serve.now.session) (Port c.args.serve.now.conns (g.E.Listener.told c.args.listener.now) (g.E.Listener.told c.serve_port-answer.new.listener)) (outside (g.F.Files.told c.args.files.now) (g.F.Files.calls c.args.files.now) input output c.args.steps.now)
-          (outside (g.F.Files.told c.serve_port-answer.new.notes.files.now) (g.F.Files.calls c.serve_port-answer.new.notes.files.now) input output c.serve_port-answer.new.steps) _ _ _ _ _ _ _ _ _ made.choices made.episodes made.left count (of_port _ _ _ _ _ _ _ _ _ _ (has.served image begun))
+          watches_noted (run_shown c.args.serve.now.session) (Port c.args.serve.now.conns (g.E.Listener.told c.args.listener.now) (g.E.Listener.told c.serve_port-answer.new.listener)) (outside (g.F.Files.told c.args.files.now) (g.F.Files.calls c.args.files.now) input output c.args.steps.now)
+          (outside (g.F.Files.told c.serve_port-answer.new.notes.files.now) (g.F.Files.calls c.serve_port-answer.new.notes.files.now) input output c.serve_port-answer.new.steps) _ _ _ _ _ _ _ _ _ made.choices made.episodes made.left count (watched_port _ _ _ _ _ _ _ _ _ _ (has.served image begun))
           (ap (λ k. k.1.0) kept ∙ made.names) (ap (λ k. k.1.1.0) kept ∙ made.form ∙ c.report_form.ensures)
           (ap (λ k. k.1.1.1.0) kept ∙ made.before.0) c.is_whole.ensures.stands c.is_whole.ensures.asks in
-          noted_at (search rules) (search rules) serves,
+          (watched_at (search rules) (search rules) serves).noted,
     )

@@ -1,6 +1,6 @@
 use Rattle.port_link.proofs.CallLemmas.{just_bound}
 use Rattle.rx_engine.specs.declared.left.Left.{Left as Leaves}
-use Rattle.rx_serve.proofs.Lemmas.{options_in_range, closes_other, not_read, not_write, run_served, bind_faults, begun_own, counts_fit, not_begun, not_risen, ready, rose_within, run_ends}
+use Rattle.rx_serve.proofs.Lemmas.{options_in_range, closes_other, not_read, not_write, run_served, bind_faults, begun_own, counts_fit, not_begun, not_risen, ready, rose_within, run_ends, unwatched}
 use Rattle.rx_serve.proofs.Terms.{None, ap, arith, inl, inr, refl, subst, sym, ◌<◌, ◌^◌, ◌∙◌, ◌≤◌, MAX_TAKEN, run_shown, outside, options_of, Port, ClosesFiles, CallsServed, IsBindAnswer}
 use Rattle.rx_serve.proofs.port_serving.serve_under.Goals as goal
 
@@ -58,16 +58,16 @@ returns-clause-ends g c input output =
       bound = g.N.Listener.told c.bind.new.self;
       bind = c.in_default.ensures.call;
       served =
-          run_ends g.R.AccessRule.rule value (Port c.args.serve.now.conns (g.N.Listener.told c.bind.new.self) (g.N.Listener.told c.serve_port_noted-ended.new.listener))
+          (run_ends g.R.AccessRule.rule value (Port c.args.serve.now.conns (g.N.Listener.told c.bind.new.self) (g.N.Listener.told c.serve_port_noted-ended.new.listener))
           (outside (g.F.Files.told c.args.files.now) (g.F.Files.calls c.args.files.now) input output c.args.steps.now)
           (outside (g.F.Files.told c.end_notes-answer.new.files) (g.F.Files.calls c.end_notes-answer.new.files) input output c.serve_port_noted-ended.new.steps)
           (g.F.Files.told c.begin_session.new.files) (g.F.Files.told c.serve_port_noted-ended.new.files) (g.F.Files.calls c.begin_session.new.files) (g.F.Files.calls c.serve_port_noted-ended.new.files) (options_of value) c.of_session.result served.0
           c.requires.rule refl has.program has.begun has.starts
-          (served.2 has.image (begun_own has.image (options_of value) c.args.rule c.in-Ok.session has.begun)) c.taken.ensures c.steps.ensures (subst (λ ended. ClosesFiles value c.taken.result c.steps.result (g.F.Files.told c.serve_port_noted-ended.new.files) (g.F.Files.told c.end_notes-answer.new.files) ended c.end_notes-answer.result) served.1 c.end_notes-answer.ensures.closes)
+          (unwatched (served.2 has.image (begun_own has.image (options_of value) c.args.rule c.in-Ok.session has.begun))) c.taken.ensures c.steps.ensures (subst (λ ended. ClosesFiles value c.taken.result c.steps.result (g.F.Files.told c.serve_port_noted-ended.new.files) (g.F.Files.told c.end_notes-answer.new.files) ended c.end_notes-answer.result) served.1 c.end_notes-answer.ensures.closes)
           (subst (λ ended. CallsServed value (g.F.Files.calls c.args.files.now) (g.F.Files.calls c.end_notes-answer.new.files) ended c.end_notes-answer.result) served.1
           (run_served value _ _ _ _ c.serve_port_noted-ended.result c.end_notes-answer.result c.in-Ok.ensures.calls c.serve_port_noted-ended.ensures.adds c.end_notes-answer.ensures.calls))
           c.of_session.ensures.answer (c.of_session.ensures.recorded ∙ ap (λ (left : Leaves _). left.recorded) c.into_end.ensures) (c.of_session.ensures.tail ∙ ap (λ (left : Leaves _). left.tail) c.into_end.ensures)
-          (c.of_session.ensures.taken ∙ ap (λ (left : Leaves _). left.taken) c.into_end.ensures) (c.of_session.ensures.steps ∙ ap (λ (left : Leaves _). left.steps) c.into_end.ensures);
+          (c.of_session.ensures.taken ∙ ap (λ (left : Leaves _). left.taken) c.into_end.ensures) (c.of_session.ensures.steps ∙ ap (λ (left : Leaves _). left.steps) c.into_end.ensures)).0;
       same_input = refl;
       same_output = refl;
       never_write_fault = λ is. not_risen ((c.serve_port_noted-ended.ensures.faults 0).write_fault (closes_other value _ _ _ _ _ _ not_write c.end_notes-answer.ensures.closes (sym c.of_session.ensures.answer ∙ is)));

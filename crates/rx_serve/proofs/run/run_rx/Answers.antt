@@ -1,21 +1,44 @@
 use Rattle.command_line.proofs.Ranges.{session_in_range}
-use Rattle.rx_serve.proofs.Lemmas.{conns_few, port_few}
-use Rattle.rx_serve.proofs.Terms.{Some, rules, ◌≡◌, command_of, run, run_shown, serve, serve_shown, texts_of}
-use Rattle.rx_serve.proofs.NamesLemmas.{names_differ, port_names_differ}
+use Rattle.rx_serve.proofs.Lemmas.{at_once_few, conns_few, port_few}
+use Rattle.rx_serve.proofs.Terms.{Some, rules, ◌≡◌, command_of, diagnose, diagnose_shown, drill, drill_shown, run, run_shown, serve, serve_shown, texts_of}
+use Rattle.rx_serve.proofs.MemoryLemmas.{memory_ends}
+use Rattle.rx_serve.proofs.NamesLemmas.{names_differ, port_names_differ, diagnose_names_differ, diagnosis_differs}
 
 pub run_program-requires-clause-two : Rattle.rx_serve.proofs.run.run_rx.Goals.run_program-requires-clause-two
 run_program-requires-clause-two g c =
     let asked : command_of (texts_of c.args.words.now) ≡ Some (run (run_shown c.in-Ok-Some-Run.run')) = search (rules, c.in-Ok-Some-Run.ensures.read) in
     names_differ (texts_of c.args.words.now) (run_shown c.in-Ok-Some-Run.run') asked
 
-pub serve_program-requires-clause-two : Rattle.rx_serve.proofs.run.run_rx.Goals.serve_program-requires-clause-two
-serve_program-requires-clause-two g c =
+pub serve_clients-requires-clause-two : Rattle.rx_serve.proofs.run.run_rx.Goals.serve_clients-requires-clause-two
+serve_clients-requires-clause-two g c =
     let asked : command_of (texts_of c.args.words.now) ≡ Some (serve (serve_shown c.in-Ok-Some-Serve.serve)) = search (rules, c.in-Ok-Some-Serve.ensures.read) in
     port_names_differ (texts_of c.args.words.now) (serve_shown c.in-Ok-Some-Serve.serve) asked
 
-pub serve_program-requires-clause-in_range : Rattle.rx_serve.proofs.run.run_rx.Goals.serve_program-requires-clause-in_range
-serve_program-requires-clause-in_range g c = session_in_range (serve_shown c.in-Ok-Some-Serve.serve) (search (rules, c.in-Ok-Some-Serve.ensures.ranges))
+pub serve_clients-requires-clause-in_range : Rattle.rx_serve.proofs.run.run_rx.Goals.serve_clients-requires-clause-in_range
+serve_clients-requires-clause-in_range g c = session_in_range (serve_shown c.in-Ok-Some-Serve.serve) (search (rules, c.in-Ok-Some-Serve.ensures.ranges))
 
-pub serve_program-requires-clause-listens : Rattle.rx_serve.proofs.run.run_rx.Goals.serve_program-requires-clause-listens
-serve_program-requires-clause-listens g c =
+pub serve_clients-requires-clause-listens : Rattle.rx_serve.proofs.run.run_rx.Goals.serve_clients-requires-clause-listens
+serve_clients-requires-clause-listens g c =
     (port_few (serve_shown c.in-Ok-Some-Serve.serve) (search (rules, c.in-Ok-Some-Serve.ensures.ranges)), conns_few (serve_shown c.in-Ok-Some-Serve.serve) (search (rules, c.in-Ok-Some-Serve.ensures.ranges)))
+
+pub serve_clients-requires-clause-at_once : Rattle.rx_serve.proofs.run.run_rx.Goals.serve_clients-requires-clause-at_once
+serve_clients-requires-clause-at_once g c = at_once_few (serve_shown c.in-Ok-Some-Serve.serve) (search (rules, c.in-Ok-Some-Serve.ensures.ranges))
+
+pub diagnose_program-requires-clause-two : Rattle.rx_serve.proofs.run.run_rx.Goals.diagnose_program-requires-clause-two
+diagnose_program-requires-clause-two g c =
+    let asked : command_of (texts_of c.args.words.now) ≡ Some (diagnose (diagnose_shown c.in-Ok-Some-Diagnose.diagnose)) = search (rules, c.in-Ok-Some-Diagnose.ensures.read) in
+    diagnose_names_differ (texts_of c.args.words.now) (diagnose_shown c.in-Ok-Some-Diagnose.diagnose) asked
+
+pub diagnose_program-requires-clause-third : Rattle.rx_serve.proofs.run.run_rx.Goals.diagnose_program-requires-clause-third
+diagnose_program-requires-clause-third g c =
+    let asked : command_of (texts_of c.args.words.now) ≡ Some (diagnose (diagnose_shown c.in-Ok-Some-Diagnose.diagnose)) = search (rules, c.in-Ok-Some-Diagnose.ensures.read) in
+    diagnosis_differs (texts_of c.args.words.now) (diagnose_shown c.in-Ok-Some-Diagnose.diagnose) asked
+
+pub returns-in-Ok-Some-Drill-clause-ends : Rattle.rx_serve.proofs.run.run_rx.Goals.returns-in-Ok-Some-Drill-clause-ends
+returns-in-Ok-Some-Drill-clause-ends g c =
+    let asked : command_of (texts_of c.args.words.now) ≡ Some (drill (drill_shown c.in-Ok-Some-Drill.drill)) = search (rules, c.in-Ok-Some-Drill.ensures.read) in
+    rw asked (c.drill_session.ensures.drills _ _ _)
+
+pub returns-in-Err-clause-ends : Rattle.rx_serve.proofs.run.run_rx.Goals.returns-in-Err-clause-ends
+returns-in-Err-clause-ends g c =
+    memory_ends (command_of (texts_of c.args.words.now)) _ _ c.without_session-in-Err.result (λ none. let same = c.in-Err.ensures.refused none in search (rules, same, c.in-Err.is)) c.without_session-in-Err.ensures.answer c.without_session-in-Err.ensures.nothing

@@ -1,5 +1,5 @@
 use Rattle.rx_engine.specs.declared.left.Left.{Left as Leaves}
-use Rattle.rx_serve.proofs.Lemmas.{options_in_range, closes_other, not_read, not_write, run_served, begun_own, counts_fit, not_begun, ready, rose_within, run_ends}
+use Rattle.rx_serve.proofs.Lemmas.{options_in_range, closes_other, not_read, not_write, run_served, begun_own, counts_fit, no_more, not_begun, ready, rose_within, run_ends}
 use Rattle.rx_serve.proofs.Terms.{ap, arith, inl, inr, refl, subst, sym, ◌<◌, ◌^◌, ◌∙◌, ◌≤◌, MAX_TAKEN, run_shown, outside, options_of, Trunk, ClosesFiles, CallsServed}
 use Rattle.rx_serve.proofs.serving.run_under.Goals as goal
 
@@ -17,14 +17,14 @@ end_notes-answer-requires-clause-taken g c =
     let has = c.in-Ok.ensures.begins in
     let value = run_shown c.args.run.now in
     subst (λ n. n ≤ MAX_TAKEN) (sym c.taken.ensures)
-    (counts_fit g.R.AccessRule.rule (options_of value) (options_in_range value c.requires.in_range (options_of value) refl) has.begun (c.serve_noted-ended.ensures.serves.2 has.image (begun_own has.image (options_of value) c.args.rule c.in-Ok.session has.begun))).0
+    (counts_fit g.R.AccessRule.rule (options_of value) (options_in_range value c.requires.in_range (options_of value) refl) has.begun (c.serve_noted-ended.ensures.serves.2 has.image c.serve_noted-ended.new.steps (begun_own has.image (options_of value) c.args.rule c.in-Ok.session has.begun) (no_more c.serve_noted-ended.new.steps)).noted).0
 
 pub end_notes-answer-requires-clause-steps : goal.end_notes-answer-requires-clause-steps
 end_notes-answer-requires-clause-steps g c =
     let has = c.in-Ok.ensures.begins in
     let value = run_shown c.args.run.now in
     subst (λ n. n < 2 ^ 63) (sym c.steps.ensures)
-    (counts_fit g.R.AccessRule.rule (options_of value) (options_in_range value c.requires.in_range (options_of value) refl) has.begun (c.serve_noted-ended.ensures.serves.2 has.image (begun_own has.image (options_of value) c.args.rule c.in-Ok.session has.begun))).1
+    (counts_fit g.R.AccessRule.rule (options_of value) (options_in_range value c.requires.in_range (options_of value) refl) has.begun (c.serve_noted-ended.ensures.serves.2 has.image c.serve_noted-ended.new.steps (begun_own has.image (options_of value) c.args.rule c.in-Ok.session has.begun) (no_more c.serve_noted-ended.new.steps)).noted).1
 
 pub returns-clause-ends : goal.returns-clause-ends
 returns-clause-ends g c =
@@ -35,11 +35,11 @@ returns-clause-ends g c =
     (outside (g.F.Files.told c.end_notes-answer.new.files) (g.F.Files.calls c.end_notes-answer.new.files) (g.S.Source.told c.serve_noted-ended.new.input) (g.K.Sink.told c.serve_noted-ended.new.output) c.serve_noted-ended.new.steps)
     (g.F.Files.told c.begin_session.new.files) (g.F.Files.told c.serve_noted-ended.new.files) (g.F.Files.calls c.begin_session.new.files) (g.F.Files.calls c.serve_noted-ended.new.files) (options_of value) c.of_session.result c.serve_noted-ended.ensures.serves.0
     c.requires.rule refl has.program has.begun has.starts
-    (c.serve_noted-ended.ensures.serves.2 has.image (begun_own has.image (options_of value) c.args.rule c.in-Ok.session has.begun)) c.taken.ensures c.steps.ensures (subst (λ ended. ClosesFiles value c.taken.result c.steps.result (g.F.Files.told c.serve_noted-ended.new.files) (g.F.Files.told c.end_notes-answer.new.files) ended c.end_notes-answer.result) c.serve_noted-ended.ensures.serves.1 c.end_notes-answer.ensures.closes)
+    (c.serve_noted-ended.ensures.serves.2 has.image c.serve_noted-ended.new.steps (begun_own has.image (options_of value) c.args.rule c.in-Ok.session has.begun) (no_more c.serve_noted-ended.new.steps)) c.taken.ensures c.steps.ensures (subst (λ ended. ClosesFiles value c.taken.result c.steps.result (g.F.Files.told c.serve_noted-ended.new.files) (g.F.Files.told c.end_notes-answer.new.files) ended c.end_notes-answer.result) c.serve_noted-ended.ensures.serves.1 c.end_notes-answer.ensures.closes)
     (subst (λ ended. CallsServed value (g.F.Files.calls c.args.files.now) (g.F.Files.calls c.end_notes-answer.new.files) ended c.end_notes-answer.result) c.serve_noted-ended.ensures.serves.1
     (run_served value _ _ _ _ c.serve_noted-ended.result c.end_notes-answer.result c.in-Ok.ensures.calls c.serve_noted-ended.ensures.adds c.end_notes-answer.ensures.calls))
     c.of_session.ensures.answer (c.of_session.ensures.recorded ∙ ap (λ (left : Leaves _). left.recorded) c.into_end.ensures) (c.of_session.ensures.tail ∙ ap (λ (left : Leaves _). left.tail) c.into_end.ensures)
-    (c.of_session.ensures.taken ∙ ap (λ (left : Leaves _). left.taken) c.into_end.ensures) (c.of_session.ensures.steps ∙ ap (λ (left : Leaves _). left.steps) c.into_end.ensures))
+    (c.of_session.ensures.taken ∙ ap (λ (left : Leaves _). left.taken) c.into_end.ensures) (c.of_session.ensures.steps ∙ ap (λ (left : Leaves _). left.steps) c.into_end.ensures)).0
 
 pub returns-clause-faults : goal.returns-clause-faults
 returns-clause-faults g c = record {

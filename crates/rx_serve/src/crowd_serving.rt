@@ -1,0 +1,142 @@
+// The command `serve`: a program is loaded, and serves several connections of a port at the same time.
+ghost use Rattle.std.specs.Prelude.{◌≡◌, ℕ, ◌+◌, ◌<◌, ◌≤◌, ◌^◌, List, [], Option};
+ghost use Rattle.command_line.specs.Commands.{run_shown, serve_shown};
+ghost use Rattle.command_line.specs.Ranges.{AreInRange};
+ghost use Rattle.elf_image.specs.declared.image.Image.{Image};
+ghost use Rattle.file_notes.specs.Calling.{AddsAlone};
+ghost use Rattle.file_notes.specs.Names.{AreTwo};
+ghost use Rattle.crowd_link.specs.Standing.{IsJustBound};
+ghost use Rattle.rx_io.specs.Outside.{Stream};
+ghost use Rattle.session_history.specs.Ends.{answer_of};
+ghost use Rattle.session_history.specs.declared.ends.Stop.{Stop};
+ghost use Rattle.session_state.specs.Options.{rules_of, keeping_for};
+ghost use Rattle.session_state.specs.Serving.{IsReadyToServe, outcome_of};
+ghost use Rattle.session_state.specs.Sessions.{IsBegun};
+ghost use Rattle.rx_serve.specs.Noting.{names_of, ServesNoted};
+ghost use Rattle.rx_serve.specs.Outside.{outside, faults, HasFaults};
+ghost use Rattle.rx_serve.specs.Route.{Several};
+ghost use Rattle.rx_serve.specs.Serving.{SeveralEnds, limits_of};
+ghost use Rattle.rx_serve.specs.Settings.{rule_of};
+ghost use Rattle.rx_serve.specs.Status.{status_of};
+
+use crate::ending::End;
+use crate::noting::{end_notes, report_form};
+use crate::port_serving::bind_answer;
+use crate::serving::begin_session;
+use command_line::{Guard, ServeCommand};
+use crowd::Crowd;
+use crowd_link::Limits;
+use file_notes::{FileNames, FileNotes};
+use guest_space::{AccessRule, AllMapped};
+use heap_guard::{GuardMode, HeapGuard};
+use over_crowd::serve_crowd;
+use run_history::Answer;
+use rx_engine::Session;
+use rx_io::{Files, Steps};
+use std::alloc::Global;
+use std::sync::ledger::Ledger;
+
+// Serves the connections of a crowd that was just bound, and notes the answers of the allocator and the recoveries in both files.
+fn serve_crowd_noted<R: AccessRule, F: Files, C: Crowd, L: Ledger>(
+    alloc: Global,
+    serve: &ServeCommand<'_>,
+    session: &mut Session<R>,
+    files: &mut F,
+    crowd: &mut C,
+    steps: &mut Steps<L>,
+) -> Answer
+    requires two { AreTwo (names_of (run_shown serve.now.session)) }
+    requires begun { IsReadyToServe session.old }
+    requires few { (serve.now.conns ≤ 4096) × ((1 ≤ serve.now.at_once) × (serve.now.at_once ≤ 256)) }
+    requires none { C.connections crowd.old ≡ [] }
+    requires bound { IsJustBound (C.told crowd.old) }
+    ensures serves { (input : Option Stream) (output : Option (List ℕ)) → (why : Stop) × (result ≡ answer_of why) × ((image : Image) → IsBegun image session.old.options session.old.cpu.rule session.old
+        → ServesNoted (rules_of session.old.options (R.rule session.old.cpu.rule)) (keeping_for session.old.options) image (run_shown serve.now.session) (Several (limits_of (serve_shown serve.now)) (C.told crowd.old) (C.told crowd.new)) (outside (F.told files.old) (F.calls files.old) input output steps.old) (outside (F.told files.new) (F.calls files.new) input output steps.new) (outcome_of why session.new)) }
+    ensures adds { AddsAlone (names_of (run_shown serve.now.session)) (F.calls files.old) (F.calls files.new) }
+    ensures later { F.faults files.old ≤ F.faults files.new }
+    ensures fixed { C.fixed crowd.new ≡ C.fixed crowd.old }
+    ensures faults { (output : ℕ) → HasFaults (faults (F.faults files.old) (C.faults crowd.old) output) (faults (F.faults files.new) (C.faults crowd.new) output) result }
+    ensures counted_at_least { steps.old + session.new.steps ≤ steps.new }
+{
+    let names = FileNames {
+        record: serve.session.recording,
+        report: serve.session.report,
+    };
+    let mut notes = FileNotes::make(alloc, &mut *files, names, report_form(serve.session.form));
+    let limits = Limits {
+        conns: serve.conns as u16,
+        at_once: serve.at_once as u16,
+    };
+    let answer = serve_crowd(alloc, session, crowd, limits, &mut notes, steps);
+    let _ = notes.is_whole();
+    answer
+}
+
+// Loads the program of a command and lets it serve the connections of a crowd under an access rule, which is that of the command's guard.
+fn serve_crowd_under<R: AccessRule + Drop, F: Files, C: Crowd, L: Ledger>(
+    alloc: Global,
+    serve: &ServeCommand<'_>,
+    rule: R,
+    files: &mut F,
+    crowd: &mut C,
+    steps: &mut Steps<L>,
+) -> End
+    requires in_range { AreInRange (run_shown serve.now.session) }
+    requires two { AreTwo (names_of (run_shown serve.now.session)) }
+    requires gathers { (serve.now.port < 2 ^ 16) × ((serve.now.conns ≤ 4096) × ((1 ≤ serve.now.at_once) × (serve.now.at_once ≤ 256))) }
+    requires rule { R.rule rule ≡ rule_of serve.now.session.guard }
+    ensures ends { (input : Option Stream) (output : Option (List ℕ)) → SeveralEnds (serve_shown serve.now) (C.told crowd.old) (C.told crowd.new) (outside (F.told files.old) (F.calls files.old) input output steps.old) (outside (F.told files.new) (F.calls files.new) input output steps.new) result }
+    ensures faults { (output : ℕ) → HasFaults (faults (F.faults files.old) (C.faults crowd.old) output) (faults (F.faults files.new) (C.faults crowd.new) output) result.answer }
+    ensures fixed { C.fixed crowd.new ≡ C.fixed crowd.old }
+    ensures status { result.status ≡ status_of result.answer }
+    ensures counted_at_least { steps.old + result.steps ≤ steps.new }
+{
+    let mut session = match begin_session(alloc, &serve.session, rule, files) {
+        Ok(session) => session,
+        Err(answer) => return End::without_session(alloc, answer),
+    };
+    if let Err(fault) = crowd.bind(serve.port as u16) {
+        return End::without_session(alloc, bind_answer(fault));
+    }
+    let ended = serve_crowd_noted(alloc, serve, &mut session, files, crowd, steps);
+    let answer = end_notes(
+        alloc,
+        files,
+        &serve.session,
+        ended,
+        session.taken(),
+        session.steps(),
+    );
+    End::of_session(answer, session.into_end())
+}
+
+/// Loads the program of a command and lets it serve the connections of a port, several at the same time, with a record and a report of it
+/// in two files. The port is bound once these have their first lines. The access rule is chosen here, once, by the guard that the command asks for.
+pub fn serve_crowd_program<F: Files, C: Crowd, L: Ledger>(
+    alloc: Global,
+    serve: &ServeCommand<'_>,
+    files: &mut F,
+    crowd: &mut C,
+    steps: &mut Steps<L>,
+) -> End
+    requires in_range { AreInRange (run_shown serve.now.session) }
+    requires two { AreTwo (names_of (run_shown serve.now.session)) }
+    requires gathers { (serve.now.port < 2 ^ 16) × ((serve.now.conns ≤ 4096) × ((1 ≤ serve.now.at_once) × (serve.now.at_once ≤ 256))) }
+    ensures ends { (input : Option Stream) (output : Option (List ℕ)) → SeveralEnds (serve_shown serve.now) (C.told crowd.old) (C.told crowd.new) (outside (F.told files.old) (F.calls files.old) input output steps.old) (outside (F.told files.new) (F.calls files.new) input output steps.new) result }
+    ensures faults { (output : ℕ) → HasFaults (faults (F.faults files.old) (C.faults crowd.old) output) (faults (F.faults files.new) (C.faults crowd.new) output) result.answer }
+    ensures fixed { C.fixed crowd.new ≡ C.fixed crowd.old }
+    ensures status { result.status ≡ status_of result.answer }
+    ensures counted_at_least { steps.old + result.steps ≤ steps.new }
+{
+    match serve.session.guard {
+        Guard::Off => serve_crowd_under(alloc, serve, AllMapped, files, crowd, steps),
+        Guard::Extent => {
+            let rule = HeapGuard::over(GuardMode::Extent);
+            serve_crowd_under(alloc, serve, rule, files, crowd, steps)
+        }
+        Guard::Block => {
+            let rule = HeapGuard::over(GuardMode::Block);
+            serve_crowd_under(alloc, serve, rule, files, crowd, steps)
+        }
+    }
+}
