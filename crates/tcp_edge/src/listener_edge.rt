@@ -13,12 +13,15 @@ pub struct TcpListenerEdge<'a, R: Net> {
     patience: Option<Duration>,
     listener: Option<R::Listener>,
     stream: Option<R::Stream>,
+    // Whether the last give to the present client waited for as long as may be: it took a part.
+    is_full: bool,
     faults: u64,
     connection_faults: u64,
 }
 
 impl<'a, R: Net> TcpListenerEdge<'a, R> {
-    /// It listens at no port yet. A take or a give that waits longer than `patience` seconds fails; at 0 it waits without limit.
+    /// It listens at no port yet. A take or a give that waits longer than `patience` seconds fails; at 0 it waits without limit. A give
+    /// that took a part has waited for so long, and the next one to that client fails at once.
     pub fn make(net: &'a R, patience: u64) -> TcpListenerEdge<'a, R>
         ensures present { ⟦<TcpListenerEdge<'a, R> as Listener>⟧.present result ≡ false }
         ensures faults { ⟦<TcpListenerEdge<'a, R> as Listener>⟧.faults result ≡ 0 }
@@ -29,6 +32,7 @@ impl<'a, R: Net> TcpListenerEdge<'a, R> {
             patience: patience_of(patience),
             listener: None,
             stream: None,
+            is_full: false,
             faults: 0,
             connection_faults: 0,
         }
@@ -70,6 +74,7 @@ impl<R: Net> Listener for TcpListenerEdge<'_, R> {
             Some(stream) => {
                 set_up(&stream, self.patience);
                 self.stream = Some(stream);
+                self.is_full = false;
                 Ok(())
             }
             None => {
@@ -95,11 +100,14 @@ impl<R: Net> Listener for TcpListenerEdge<'_, R> {
 
     fn give(&mut self, bytes: &[u8]) -> Result<usize, IoFault> {
         let given = match &mut self.stream {
-            Some(stream) => write_some(stream, bytes),
-            None => None,
+            Some(stream) if !self.is_full => write_some(stream, bytes),
+            _ => None,
         };
         match given {
-            Some(count) => Ok(count),
+            Some(count) => {
+                self.is_full = self.patience.is_some() && count < bytes.len();
+                Ok(count)
+            }
             None => {
                 self.connection_faults = self.connection_faults.saturating_add(1);
                 Err(IoFault::Failed)
