@@ -53,7 +53,7 @@ fn refused_outputs(rt: &HostRuntime, words: &[String]) -> Option<u8> {
     tell_objection(rt, found);
     match found {
         Objection::OneFile(_, _) => Some(BAD_WORDS),
-        Objection::Lost(_) => Some(NO_FILE),
+        Objection::Lost(_) | Objection::Pipe(_) => Some(NO_FILE),
     }
 }
 

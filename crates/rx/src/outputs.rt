@@ -3,7 +3,7 @@ use command_line::{AsmCommand, Command, ConvertCommand, DiagnoseCommand, RunComm
 use std::fs;
 use std::fs::File;
 use std::io::Read;
-use std::os::unix::fs::MetadataExt;
+use std::os::unix::fs::{FileTypeExt, MetadataExt};
 
 // How many bytes at a file's front tell of what kind it is.
 const FRONT: usize = 13;
@@ -59,6 +59,8 @@ pub enum Objection<'a> {
     OneFile(&'a str, &'a str),
     /// The file is there, has bytes, and is something else.
     Lost(Output<'a>),
+    /// It is a pipe. A file is opened anew for each addition, and a pipe's reader takes the first close for the end.
+    Pipe(Output<'a>),
 }
 
 // Whether two names are the same path, but for what changes no path: a dot and more than one slash.
@@ -99,6 +101,14 @@ fn is_something_else(rt: &HostRuntime, output: Output<'_>) -> bool {
     }
 }
 
+// Whether a name is of a pipe.
+fn is_pipe(rt: &HostRuntime, name: &str) -> bool {
+    match fs::metadata(rt, name) {
+        Ok(found) => found.file_type().is_fifo(),
+        Err(_) => false,
+    }
+}
+
 // What speaks against writing one file, beside those that the command reads or writes too.
 fn objection_to<'a>(
     rt: &HostRuntime,
@@ -109,6 +119,9 @@ fn objection_to<'a>(
         if is_one_file(rt, other, output.name) {
             return Some(Objection::OneFile(other, output.name));
         }
+    }
+    if is_pipe(rt, output.name) {
+        return Some(Objection::Pipe(output));
     }
     if is_something_else(rt, output) {
         return Some(Objection::Lost(output));

@@ -47,6 +47,13 @@ pub fn tell_objection(rt: &HostRuntime, objection: Objection<'_>) {
                 "rx: {name} is there, and isn't {kind}: it would be lost, so nothing was done"
             )
         }
+        Objection::Pipe(output) => {
+            let name = output.name;
+            let kind = output.kind.name();
+            eprintln!(rt;
+                "rx: {name} is a pipe, and {kind} is a file that is opened anew for each addition: nothing was done"
+            )
+        }
     };
 }
 
