@@ -1,0 +1,50 @@
+# Completion of rx for bash: `source docs/rx.bash`.
+_rx() {
+    local word=${COMP_WORDS[COMP_CWORD]} before=${COMP_WORDS[COMP_CWORD-1]}
+    if [ "$COMP_CWORD" -eq 1 ]; then
+        COMPREPLY=($(compgen -W 'run asm replay convert serve diagnose drill frame unframe help --help --version' -- "$word"))
+        return
+    fi
+    case "${COMP_WORDS[1]} $before" in
+    'run --form')
+        COMPREPLY=($(compgen -W 'text json' -- "$word"))
+        return ;;
+    'run --frame')
+        COMPREPLY=($(compgen -W 'line length whole' -- "$word"))
+        return ;;
+    'run --guard')
+        COMPREPLY=($(compgen -W 'off extent block' -- "$word"))
+        return ;;
+    'serve --form')
+        COMPREPLY=($(compgen -W 'text json' -- "$word"))
+        return ;;
+    'serve --frame')
+        COMPREPLY=($(compgen -W 'line length whole' -- "$word"))
+        return ;;
+    'serve --guard')
+        COMPREPLY=($(compgen -W 'off extent block' -- "$word"))
+        return ;;
+    'diagnose --form')
+        COMPREPLY=($(compgen -W 'text json' -- "$word"))
+        return ;;
+    'diagnose --frame')
+        COMPREPLY=($(compgen -W 'line length whole' -- "$word"))
+        return ;;
+    'diagnose --guard')
+        COMPREPLY=($(compgen -W 'off extent block' -- "$word"))
+        return ;;
+    esac
+    case "${COMP_WORDS[1]}" in
+    run)
+        [[ $word == -* ]] && COMPREPLY=($(compgen -W '--record --report --form --frame --window --hold --ring --every --frames --budget --guard' -- "$word")) && return ;;
+    serve)
+        [[ $word == -* ]] && COMPREPLY=($(compgen -W '--record --report --form --frame --window --ring --every --frames --budget --guard --patience --at-once' -- "$word")) && return ;;
+    diagnose)
+        [[ $word == -* ]] && COMPREPLY=($(compgen -W '--record --report --diagnosis --form --frame --window --hold --ring --every --frames --budget --guard' -- "$word")) && return ;;
+    help)
+        COMPREPLY=($(compgen -W 'run asm replay convert serve diagnose drill frame unframe' -- "$word"))
+        return ;;
+    esac
+    COMPREPLY=($(compgen -f -- "$word"))
+}
+complete -o filenames -F _rx rx
