@@ -1,5 +1,6 @@
 //! `rx`: runs a guest program on the frames of standard input, and writes what it sends as frames on standard output; or serves the
-//! clients of a port with it; diagnoses failures; assembles programs, replays records, and converts them.
+//! clients of a port with it; diagnoses failures; assembles programs, replays records, and converts them; serves a generated session; and
+//! turns lines into frames and back.
 #![tactic(auto)]
 
 ghost use Rattle.std.specs.Prelude.{◌≡◌, ◌<◌};

@@ -33,6 +33,9 @@ use std::sync::ledger::Ledger;
 /// `convert PROGRAM RECORD OUT` does the recorded run again over `input`, gives nothing, and writes the record of version 2 of that run.
 /// `serve PROGRAM PORT CONNS --record RECORD --report REPORT` lets the program serve so many connections of `listener` at a port, one after
 /// another, with a record and a report as of `run`; with `--at-once N` those of `crowd`, up to N at the same time.
+/// `diagnose PROGRAM --record RECORD --report REPORT --diagnosis DIAGNOSIS` is a `run` that tries all environments at all checkpoints at each
+/// failure, and tells in a fourth file what came of it. `drill SEED COUNT` serves a generated session in memory, and writes five lines about it to
+/// `output`. `frame` writes the frame of each line of `input` to `output`, and `unframe` a line for each frame.
 pub fn run_rx<F: Files, S: Source, K: Sink, N: Listener, C: Crowd, L: Ledger>(
     alloc: Global,
     words: &[String],
@@ -44,9 +47,11 @@ pub fn run_rx<F: Files, S: Source, K: Sink, N: Listener, C: Crowd, L: Ledger>(
     steps: &mut Steps<L>,
 ) -> End
     // What is left, by cases on the command that the words ask for. `run`: the headline, with the account that it is true of; or no session began, by its
-    // cause. `serve`: the same, over the calls on the listener or on the crowd. `asm`: the executable of the text's image, and nothing else is touched. `replay`: the recorded run is done again, or no replay began,
-    // by its cause. `convert`: the recorded run is done again, and at its end its record of version 2 is written; or no run began or came to its end, by
-    // its cause. Words of no command are refused, and nothing is touched.
+    // cause. `serve`: the same, over the calls on the listener or on the crowd. `diagnose`: what a `run` leaves, and beside it a file with each failure's
+    // table. `asm`: the executable of the text's image, and nothing else is touched. `replay`: the recorded run is done again, or no replay began, by its
+    // cause. `convert`: the recorded run is done again, and at its end its record of version 2 is written; or no run began or came to its end, by its
+    // cause. `drill`: five lines of one session. `frame` and `unframe`: what each line or frame of the input becomes. Words of no command are refused, and
+    // nothing is touched.
     ensures ends { Ends (command_of (texts_of words.now)) (heard (N.told listener.old) (C.told crowd.old)) (heard (N.told listener.new) (C.told crowd.new)) (outside (F.told files.old) (F.calls files.old) (S.told input.old) (K.told output.old) steps.old) (outside (F.told files.new) (F.calls files.new) (S.told input.new) (K.told output.new) steps.new) result }
 
     // A fault is answered only where the count of that object's own faults rose.
