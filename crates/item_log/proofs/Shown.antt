@@ -1,6 +1,9 @@
 -- The events that a log shows.
 use Rattle.std.specs.List.{slice_get}
-use Rattle.item_log.proofs.Terms.{List, None, Option, Some, [], ap, arith, drop, length, length-append, length-drop, option_map, refl, subst, suc, sym, zero, zero-add, ℕ, ◌++◌, ◌+◌, ◌-◌, ◌∙◌, ◌∷◌, ◌≡◌, ◌≤◌, drop-append-le, unwrap_or, Item, LinkEvent, Framing, none_open, Heard, behind_items, hear, heard_from, items_of, IsItemOf, Log, Shows, ShowsMore, item_at, with_heard, LogsShow, ShownItems}
+use Rattle.std.specs.Prelude.{OnOk}
+use Rattle.item_log.specs.declared.item_refusal.ItemRefusal.{ItemRefusal}
+use Rattle.item_log.specs.Log.{Logs}
+use Rattle.item_log.proofs.Terms.{Err, List, None, Ok, Option, Result, Some, [], ap, arith, drop, length, length-append, length-drop, option_map, refl, subst, suc, sym, zero, zero-add, ℕ, ◌++◌, ◌+◌, ◌-◌, ◌∙◌, ◌∷◌, ◌≡◌, ◌≤◌, drop-append-le, unwrap_or, Item, LinkEvent, Framing, none_open, Heard, behind_items, hear, heard_from, items_of, IsItemOf, Log, Shows, ShowsMore, item_at, with_heard, LogsShow, ShownItems}
 use Rattle.item_log.proofs.Hearing.{one_more_event, heard_items}
 
 -- at its start a log shows no event
@@ -34,6 +37,11 @@ shows_more_by (Some more) old new event is same =
 
 pub logs_show : LogsShow
 logs_show old new event is = shows_more_by (hear old.framing old.rests event) old new event refl is
+
+-- what an answer shows that logs an event or refuses it
+pub answer_shows : (old new : Log) (event : LinkEvent) (result : Result (Unit {0}) ItemRefusal) → Logs old event new result → OnOk result (ShowsMore old event new)
+answer_shows old new event (Ok done) logs = logs_show old new event logs.0
+answer_shows old new event (Err refusal) logs = tt
 
 -- the element of a list at a place behind its front
 slice_get-drop : {X : Type 0} (xs : List X) (n i : ℕ) → slice_get (drop n xs) i ≡ slice_get xs (n + i)

@@ -1,9 +1,9 @@
 // The connections of a link, and how their pieces are cut.
-ghost use Rattle.std.specs.Prelude.{◌≡◌, ◌<◌, [], Some, None, IsTrue, IfOk, unwrap_or, slice_set};
+ghost use Rattle.std.specs.Prelude.{◌≡◌, ◌<◌, [], true, Some, None, IsTrue, IfOk, unwrap_or, slice_set};
 ghost use Rattle.msg_frame.specs.Messages.{cut};
 ghost use Rattle.msg_frame.specs.Feeding.{count_of};
 ghost use Rattle.item_log.specs.Connections.{none_open, rest_of, is_open};
-ghost use Rattle.item_log.specs.Watching.{FeedsOne};
+ghost use Rattle.item_log.specs.Watching.{FeedsOne, IsMessageOf};
 
 use crate::kinds::CONNECTIONS;
 use msg_frame::{FrameRefusal, Framer, Framing};
@@ -77,6 +77,18 @@ impl Connections {
     {
         match &self.framers[conn as usize] {
             Some(framer) => framer.completes(piece),
+            None => unreachable!(),
+        }
+    }
+
+    /// Whether a piece of a connection is one message, with nothing before it and nothing behind it. It is a quick way to what
+    /// `feed` gives: `false` says nothing.
+    pub fn is_message(&self, conn: u16, piece: &[u8]) -> bool
+        requires { IsTrue (is_open self.now.rests conn) }
+        ensures { result ≡ true → IsMessageOf self.now.framing self.now.rests conn piece.now }
+    {
+        match &self.framers[conn as usize] {
+            Some(framer) => framer.is_message(piece),
             None => unreachable!(),
         }
     }

@@ -3,10 +3,11 @@ ghost use Rattle.std.specs.Prelude.{◌≡◌, ◌≢◌, ℕ, ◌+◌, ◌≤�
 ghost use Rattle.item_log.specs.Connections.{is_open, in_order};
 ghost use Rattle.item_log.specs.Log.{empty_log, received, item_at, trimmed, logged, Logs, Shows, ShowsMore, ShowsStill, IsItemOf};
 ghost use Rattle.item_log.specs.Taking.{Brings, HasReceived, Takes};
+ghost use Rattle.item_log.specs.Watching.{IsMessageOf};
 
 use crate::ItemRefusal;
 use crate::connections::Connections;
-use crate::kept::{drop_front, push_bare, push_messages};
+use crate::kept::{drop_front, push_bare, push_message, push_messages};
 use crate::kinds::{CLOSED, OPENED};
 use links::LinkEvent;
 use msg_frame::Framing;
@@ -106,6 +107,12 @@ impl ItemLog {
         ensures logged { Logs self.old e.now self.new result }
         ensures shows { OnOk result (ShowsMore self.old e.now self.new) }
     {
+        if let LinkEvent::Piece(conn, piece) = e {
+            // Most pieces are one message, and need no list of messages.
+            if self.connections.is_message(*conn, piece.as_slice()) {
+                return self.put_message(*conn, piece.as_slice());
+            }
+        }
         let count = self.brings(e)?;
         if !self.has_room(count) {
             return Err(ItemRefusal::Items);
@@ -173,6 +180,19 @@ impl ItemLog {
     {
         push_bare(self.alloc, &mut self.items, CLOSED, conn)?;
         self.connections.close(conn);
+        Ok(())
+    }
+
+    // Logs a piece that is one message.
+    fn put_message(&mut self, conn: u16, piece: &[u8]) -> Result<(), ItemRefusal>
+        requires in_order { IsTrue (in_order self.old.rests (LinkEvent.Piece conn piece.now)) }
+        requires message { IsMessageOf self.old.framing self.old.rests conn piece.now }
+        ensures { Logs self.old (LinkEvent.Piece conn piece.now) self.new result }
+    {
+        if !self.has_room(1) {
+            return Err(ItemRefusal::Items);
+        }
+        push_message(self.alloc, &mut self.items, conn, piece)?;
         Ok(())
     }
 

@@ -27,6 +27,25 @@ pub fn push_bare(
     Ok(())
 }
 
+/// Puts a message of a connection at the end.
+pub fn push_message(
+    alloc: Global,
+    items: &mut VecDeque<Item>,
+    conn: u16,
+    message: &[u8],
+) -> Result<(), AllocError>
+    ensures ok { OnOk result (items.new.items ≡ items.old.items ++ message_item conn message.now ∷ []) }
+    ensures err { OnErr result (items.new.items ≡ items.old.items) }
+{
+    let bytes = Bytes::from_vec(message.to_vec(alloc)?);
+    items.push_back(Item {
+        kind: MESSAGE,
+        conn,
+        bytes,
+    })?;
+    Ok(())
+}
+
 /// Puts messages of a connection at the end, where room was made for them.
 pub fn push_messages(items: &mut VecDeque<Item>, conn: u16, messages: Vec<Bytes>)
     requires { deque_len items.old + length messages.items ≤ deque_capacity items.old }

@@ -1,6 +1,6 @@
 // The messages of one connection.
-ghost use Rattle.std.specs.Prelude.{◌≡◌, ◌+◌, ◌≤◌, [], ◌++◌, length, IfOk, OnOk, OnErr, All};
-ghost use Rattle.msg_frame.specs.Messages.{cut};
+ghost use Rattle.std.specs.Prelude.{◌≡◌, ◌+◌, ◌≤◌, [], ◌++◌, true, length, IfOk, OnOk, OnErr, All};
+ghost use Rattle.msg_frame.specs.Messages.{cut, one_message};
 ghost use Rattle.msg_frame.specs.Feeding.{IsRest, Feeds, count_of};
 ghost use Rattle.msg_frame.specs.Takes.{Takes, left_of};
 
@@ -74,6 +74,18 @@ impl Framer {
         }
     }
 
+    /// Whether the piece is one message, with nothing before it and nothing behind it. It is a quick way to what
+    /// [`Framer::feed`] gives, by one look at the piece: `false` says nothing.
+    pub fn is_message(&self, piece: &[u8]) -> bool
+        ensures alone { result ≡ true → self.now.rest ≡ [] }
+        ensures whole { result ≡ true → cut self.now.framing [] piece.now ≡ one_message piece.now }
+    {
+        if self.rest.is_empty() {
+            return is_one(self.framing, piece);
+        }
+        false
+    }
+
     /// The messages that the piece makes whole, in their order. A piece of which a message is refused gives none. After an
     /// `Err` the framer is as it was.
     pub fn feed(&mut self, piece: &[u8]) -> Result<Vec<Bytes>, FrameRefusal>
@@ -89,6 +101,19 @@ impl Framer {
         keep_left(self.alloc, &mut self.rest, &messages, left)?;
         Ok(messages)
     }
+}
+
+// Whether the first bytes of a stream are one message, all of them and as they are.
+fn is_one(framing: Framing, bytes: &[u8]) -> bool
+    ensures { result ≡ true → cut framing [] bytes.now ≡ one_message bytes.now }
+{
+    let skipped = framing.skipped();
+    if let End::Within(n) = end_of(framing, &[], bytes) {
+        if skipped == 0 && n == bytes.len() {
+            return true;
+        }
+    }
+    false
 }
 
 // Puts the messages that a piece makes whole behind a rest into an empty vector, and gives the bytes that are left.

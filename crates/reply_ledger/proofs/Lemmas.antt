@@ -5,4 +5,4 @@ pub use Rattle.reply_ledger.proofs.TallyLemmas.{all_retallied-more, all_retallie
 pub use Rattle.reply_ledger.proofs.ConnectionLemmas.{closed-falls, connections_of-all_hidden, connections_of-hidden, connections_of-push, connections_of-retallied, earlier_at-changed, earlier_at-of, earlier_at-push, gone-falls, is_open-of, keys-changed, keys-of, known-of, number_at-all, number_at-push, number_at-same, passed_end-of, stamped_to-changed, stamped_to-of, trimmed-none, unknown-of}
 pub use Rattle.reply_ledger.proofs.PositionLemmas.{position-append, position-here, position-le, position-next}
 pub use Rattle.reply_ledger.proofs.EntryLemmas.{length-sends_of, oldest-fits, oldest-gone, oldest-laid, rewound, sends_of-append, sends_of-drop, sends_of-one, sends_of-take, trimmed-more}
-pub use Rattle.reply_ledger.proofs.StandsLemmas.{adopt-room, agree-front, agrees-sent, all-each, begun-agrees, covers-says, cursor-marked, cursor-passed, each_tally, next-found, next-late, next-none, own-none, rest-found, rest-none, rests, rests-before, rests-bytes, rests-more, rests-part, sent_ends-set, settled-is, shared-none, stands-adopted, stands-change, stands-none, stands-opened, stands-passed, stands-sent, stands-trimmed, stream-is, trial-ends, trial-same, trial-sent, tries-begun, tries-none, tries_any-change, tries_any-sent, until-front, until-none}
+pub use Rattle.reply_ledger.proofs.StandsLemmas.{adopt-room, agree-front, agrees-sent, all-each, begun-agrees, covers-says, cursor-marked, cursor-passed, cursor-sent, each_tally, next-found, next-late, next-none, own-none, rest-found, rest-none, rests, rests-before, rests-bytes, rests-more, rests-part, sent_ends-set, settled-is, shared-none, stands-adopted, stands-change, stands-none, stands-opened, stands-passed, stands-sent, stands-trimmed, stream-is, trial-ends, trial-same, trial-sent, tries-begun, tries-none, tries_any-change, tries_any-sent, until-front, until-none}

@@ -1,4 +1,5 @@
 pub mod Terms
+pub mod QueueLemmas
 pub mod RunLemmas
 pub mod StreamLemmas
 pub mod AgreeLemmas

@@ -1,5 +1,5 @@
 -- What the calls make of a ledger beside all that was sent and passed.
-use Rattle.reply_ledger.proofs.Terms.{Bool, List, None, Option, Some, [], ap, append-nil, append_assoc, arith, cond, drop, false, if◌then◌else◌, is_some, length, length-append, length-drop, refl, subst, suc, sym, take, true, zero, ℕ, ◌++◌, ◌+◌, ◌<◌, ◌∙◌, ◌∷◌, ◌≡◌, ◌≤◌, drop-append_seam, take-add, take-append_seam, eqb-true, leb-false, lt-leb, true≢false, drop-append-le, drop-drop, drop_all, length-take-le, take-append-drop, take-append-le, flat_map-append, AllByRecursion, flat_map, IsSome, nat_le, ◌==◌, Prefix, Send, sent_to, Connection, IsInOrder, Ledger, Passed, bytes_of, connection_of, new_connection, passed_connection, passed_to, stamped, stamped_to, stamps_of, with_change, with_connection, with_passed, with_send, Covers, CoversBefore, adopted, trial_sends, until, trimmed_connections, without, earlier_at}
+use Rattle.reply_ledger.proofs.Terms.{Bool, List, None, Option, Some, [], ap, append-nil, append_assoc, arith, cond, drop, false, if◌then◌else◌, is_some, length, length-append, length-drop, refl, subst, suc, sym, take, true, zero, ℕ, ◌++◌, ◌+◌, ◌<◌, ◌∙◌, ◌∷◌, ◌≡◌, ◌≤◌, drop-append_seam, take-add, take-append_seam, eqb-true, leb-false, lt-leb, true≢false, drop-append-le, drop-drop, drop_all, length-take-le, take-append-drop, take-append-le, flat_map-append, AllByRecursion, IsSome, nat_le, ◌==◌, Prefix, Send, sent_to, Connection, IsInOrder, Ledger, Passed, bytes_of, connection_of, new_connection, passed_connection, passed_to, stamped, stamped_to, stamps_of, with_change, with_connection, with_passed, with_send, Covers, CoversBefore, adopted, trial_sends, until, trimmed_connections, without, earlier_at}
 use Rattle.reply_ledger.specs.Shows.{Shows, stamped_of, pieces_until}
 use Rattle.reply_ledger.proofs.RunLemmas.{bytes_of-append, bytes_of-stamped, until-stamped, until-append}
 use Rattle.reply_ledger.proofs.StandsLemmas.{until-front, bytes_of-drop, prefix-drop}

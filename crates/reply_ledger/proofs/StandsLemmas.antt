@@ -3,7 +3,7 @@ use Rattle.std.specs.Prelude.{min}
 use Rattle.reply_ledger.proofs.Terms.{Bool, List, None, Option, Some, [], ap, append-nil, append_assoc, arith, cond, drop, false, get_or, if◌then◌else◌, inl, inr, length, length-append, length-drop, map, not, refl, subst, suc, sym, take, true, zero, ℕ, ◌&&◌, ◌++◌, ◌+◌, ◌-◌, ◌<◌, ◌∙◌, ◌∷◌, ◌≡◌, ◌≤◌, drop-append_seam, and_from, and_left, and_parts, and_right, cases_lt, eq-eqb, eqb-true, le-leb, leb-false, leb-true, lt-leb, lt-ltb, ltb-true, true≢false, drop_all, get_or_default, nil_from_length, take-append-drop, All-from_recursion, All-get_or, fails_before_first, AllByRecursion, IsDistinct, list_all, position_or_len, keys_of, lookup, values_of, option_map, option_map_or, IsSome, find, nat_eq, nat_le, nat_lt, unwrap_or, ◌==◌, ◌⊎◌, Prefix, Send, sent_to, Entry, Connection, IsInOrder, NotBefore, Passed, bytes_of, changed, connection_of, is_open, new_connection, passed_connection, stamped, stamped_to, stamps_of, times_of, parts_behind, waits, agree, until, trimmed_connections, Tally, connections_of, number_at, retallied, rest_of, send_of, sends_of, stream_behind, Laid, Stands, Tries, TriesIfAny, earlier_at, part_of, trial_of, tried_ends, waits_in}
 use Rattle.reply_ledger.proofs.TallyLemmas.{number_at-some, passed_at-some, passed_at-none}
 use Rattle.reply_ledger.proofs.ConnectionLemmas.{number_at-set, earlier_at-of, stamped_to-of, keys-of, keys-changed, stamped_to-changed, earlier_at-changed, is_open-changed, is_open-marked, stamped_to-passed, stamped_to-push, earlier_at-push, is_open-push, stamped_to-trimmed, earlier_at-trimmed, is_open-trimmed, keys-trimmed}
-use Rattle.reply_ledger.proofs.PositionLemmas.{tested, not-empty, position-map, position-at, find-none, find-at, find-map, position-le, position-same, position-later, position-drop}
+use Rattle.reply_ledger.proofs.PositionLemmas.{tested, not-empty, position-map, position-at, find-none, find-at, find-map, position-le, position-same, position-later, position-push, position-drop}
 use Rattle.reply_ledger.proofs.EntryLemmas.{later-at, laid-same, laid-none, laid-push, laid-take, laid-drop, parts-laid, stream-laid, stream-from, no_bytes, of_parts, sends_of-append, sends_of-one, sent_to-append, order-behind, length_parts}
 use Rattle.reply_ledger.proofs.RunLemmas.{length-bytes_of, bytes_of-append, bytes_of-stamped, stamps_of-append}
 
@@ -301,6 +301,25 @@ agree-prefix (x ∷ xs) (y ∷ ys) h le =
 
 pub prefix-le : (xs ys : List ℕ) → Prefix xs ys → length xs ≤ length ys
 prefix-le xs ys p = let l = ap length p.1 in omega (arith, l, length-append xs p.0)
+
+-- one more send of the survivor may be passed where its connection is open
+waits-new : {C : List Connection} {s : ℕ → ℕ} {E : List Entry} {n : ℕ} (e : Entry) → Stands C s E n → e.start ≡ s e.conn → 0 < length e.bytes → waits_in C e ≡ is_open C e.conn
+unfolding waits
+waits-new {C = C} {E = E} e h start some =
+    let le = prefix-le (bytes_of (stamped_to C e.conn)) (sent_to e.conn (sends_of E)) (h.passed e.conn) in
+    let whole : length (rest_of (earlier_at C e.conn + length (stamped_to C e.conn)) e) ≡ length e.bytes =
+    omega (arith, le, start, h.laid.ends e.conn, length-bytes_of (stamped_to C e.conn), length-drop (earlier_at C e.conn + length (stamped_to C e.conn) - e.start) e.bytes) in
+    ap (λ (b : Bool). is_open C e.conn && b) (ap (nat_lt 0) whole ∙ lt-ltb 0 (length e.bytes) some) ∙ by (is_open C e.conn)
+  where
+    by : (b : Bool) → (b && true) ≡ b
+    by true = refl
+    by false = refl
+
+pub cursor-sent : {C C' : List Connection} {s : ℕ → ℕ} {E : List Entry} {n n' : ℕ} (e : Entry) (opened : Bool) (count : ℕ) → C' ≡ C → e.start ≡ s e.conn → 0 < length e.bytes → opened ≡ is_open C e.conn → count ≡ length E + 1
+    → n' ≡ (if opened then n else if nat_lt (n + 1) count then n else n + 1) → Stands C s E n → n' ≡ position_or_len (waits_in C') (E ++ e ∷ [])
+cursor-sent {C = C} {E = E} {n = n} e opened count same start some is long place h =
+    place ∙ ap (λ (b : Bool). if b then n else if nat_lt (n + 1) count then n else n + 1) (is ∙ sym (waits-new e h start some))
+    ∙ sym (position-push (waits_in C) E e n count h.cursor long) ∙ ap (λ (l : List Connection). position_or_len (waits_in l) (E ++ e ∷ [])) (sym same)
 
 -- a front of what agrees agrees
 pub agree-front : (xs ys zs : List ℕ) → agree xs (ys ++ zs) ≡ true → agree xs ys ≡ true

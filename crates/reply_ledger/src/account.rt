@@ -1,5 +1,5 @@
 // What is kept of one connection.
-ghost use Rattle.std.specs.Prelude.{◌≡◌, ℕ, ◌+◌, ◌-◌, ◌<◌, ◌≤◌, ◌&&◌, not, true, false, List, [], ◌++◌, length, take, drop, nat_le, OnOk, OnErr};
+ghost use Rattle.std.specs.Prelude.{◌≡◌, ℕ, ◌+◌, ◌-◌, ◌<◌, ◌≤◌, ◌&&◌, not, true, false, List, [], ◌++◌, length, take, drop, nat_le, OnOk, OnErr, IfSome, IfNone, OnSome, if◌then◌else◌};
 ghost use Rattle.reply_ledger.specs.Ledger.{Passed, bytes_of, stamped, stamps_of, IsInOrder};
 ghost use Rattle.reply_ledger.specs.Trials.{agree, until};
 ghost use Rattle.std.specs.List.{AllWithin};
@@ -8,6 +8,7 @@ ghost use Rattle.std.specs.VecDeque.{deque_len};
 ghost use Rattle.reply_ledger.specs.Tallies.{new_tally, runs_past, Notes};
 ghost use Rattle.reply_ledger.specs.Entries.{stream_behind};
 
+use crate::byte_queue::ByteQueue;
 use crate::entry::{Entry, gather};
 use std::alloc::{AllocError, Global};
 use std::collections::VecDeque;
@@ -26,7 +27,7 @@ pub struct Account {
     closed: bool,
     gone: bool,
     earlier: u64,
-    bytes: VecDeque<u8>,
+    bytes: ByteQueue,
     runs: VecDeque<Run>,
     sent: u64,
     tried: u64,
@@ -38,9 +39,9 @@ impl Model for Account {
 
     ghost Value = { Tally };
 
-    ghost view = { λ a. record { closed = a.closed; gone = a.gone; earlier = a.earlier; passed = passed_in a.earlier a.bytes.items a.runs.items; sent = a.sent; tried = a.tried } };
+    ghost view = { λ a. record { closed = a.closed; gone = a.gone; earlier = a.earlier; passed = passed_in a.earlier a.bytes a.runs.items; sent = a.sent; tried = a.tried } };
 
-    ghost invariant = { λ a. RunsFrom a.earlier (a.earlier + length a.bytes.items) a.runs.items × (a.earlier + length a.bytes.items ≤ a.sent) × (a.sent < 2 ^ 64) };
+    ghost invariant = { λ a. RunsFrom a.earlier (a.earlier + length a.bytes) a.runs.items × (a.earlier + length a.bytes ≤ a.sent) × (a.sent < 2 ^ 64) };
 }
 
 impl Account {
@@ -53,7 +54,7 @@ impl Account {
             closed: false,
             gone: false,
             earlier: 0,
-            bytes: VecDeque::new(alloc),
+            bytes: ByteQueue::new(alloc),
             runs: VecDeque::new(alloc),
             sent: 0,
             tried: 0,
@@ -100,7 +101,8 @@ impl Account {
         ensures { result ≡ agree bytes.now (drop (self.now.tried - self.now.earlier) (bytes_of self.now.passed)) }
     {
         let behind = self.tried.saturating_sub(self.earlier);
-        behind >= self.bytes.len() as u64 || agree_from(bytes, &self.bytes, behind as usize)
+        behind >= self.bytes.len() as u64
+            || agree_from(bytes, self.bytes.as_slice(), behind as usize)
     }
 
     /// Where the bytes end that were passed.
@@ -123,12 +125,18 @@ impl Account {
         }
     }
 
-    /// Moves the end of the survivor's stream.
-    pub fn send(&mut self, end: u64)
-        requires { self.old.sent ≤ end }
-        ensures { self.new ≡ record self.old { sent = end } }
+    /// Moves the end of the survivor's stream by so many bytes, and answers where it was: nothing, where it would pass 2^64 - 1.
+    pub fn send(&mut self, count: u64) -> Option<u64>
+        ensures start { IfSome result (λ start. start ≡ self.old.sent) }
+        ensures moved { OnSome result (self.new ≡ record self.old { sent = self.old.sent + count }) }
+        ensures full { IfNone result (self.new ≡ self.old) }
     {
+        let start = self.sent;
+        let Some(end) = start.checked_add(count) else {
+            return None;
+        };
         self.sent = end;
+        Some(start)
     }
 
     /// Moves the end of the trial's stream.
@@ -192,17 +200,24 @@ impl Account {
         ensures { self.new ≡ record self.old { earlier = self.old.earlier + count; passed = drop count self.old.passed } }
     {
         self.earlier += count;
-        drop_bytes(&mut self.bytes, count);
+        self.bytes.give_up(count);
         drop_runs(&mut self.runs, self.earlier);
-        give_room_back(&mut self.bytes);
         give_room_back(&mut self.runs);
     }
 }
 
+/// A place before which no send has anything of a connection that wasn't passed: that of the first send that may still be passed, where the
+/// connection is open.
+pub fn first_left(opened: bool, next: usize) -> usize
+    ensures { result ≡ (if opened then next else 0) }
+{
+    if opened { next } else { 0 }
+}
+
 // Whether bytes differ at no place from others, from a place of these on.
-fn agree_from(bytes: &[u8], passed: &VecDeque<u8>, from: usize) -> bool
-    requires { from < length passed.now.items }
-    ensures { result ≡ agree bytes.now (drop from passed.now.items) }
+fn agree_from(bytes: &[u8], passed: &[u8], from: usize) -> bool
+    requires { from < length passed.now }
+    ensures { result ≡ agree bytes.now (drop from passed.now) }
 {
     let mut at = from;
     for byte in bytes {
@@ -254,17 +269,6 @@ fn note(runs: &mut VecDeque<Run>, at: u64, end: u64, stamp: u64) -> Result<(), A
     }
     runs.push_back(Run { end, stamp })?;
     Ok(())
-}
-
-// Drops the oldest bytes.
-fn drop_bytes(bytes: &mut VecDeque<u8>, count: u64)
-    ensures { bytes.new.items ≡ drop count bytes.old.items }
-{
-    for _ in 0..count {
-        if bytes.pop_front().is_none() {
-            return;
-        }
-    }
 }
 
 // Drops the runs that end at or before a place of the stream.

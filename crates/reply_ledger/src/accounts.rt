@@ -1,5 +1,5 @@
 // What is kept of all connections, in the order in which they were opened.
-ghost use Rattle.std.specs.Prelude.{◌≡◌, ℕ, ◌+◌, ◌-◌, ◌≤◌, Bool, false, None, List, [], ◌∷◌, ◌++◌, length, take, drop, nat_eq, nat_le, nat_lt, ◌&&◌, true, All, OnOk, OnErr};
+ghost use Rattle.std.specs.Prelude.{◌≡◌, ℕ, ◌+◌, ◌-◌, ◌≤◌, Bool, false, None, List, [], ◌∷◌, ◌++◌, length, take, drop, nat_eq, nat_le, nat_lt, ◌&&◌, true, All, OnOk, OnErr, IfSome, IfNone, OnSome, if◌then◌else◌};
 ghost use Rattle.std.specs.Map.{lookup, keys_of, values_of};
 ghost use Rattle.std.specs.List.{list_all, IsDistinct};
 ghost use Rattle.reply_ledger.specs.Ledger.{bytes_of, stamped, stamps_of, IsInOrder};
@@ -7,7 +7,7 @@ ghost use Rattle.reply_ledger.specs.Trials.{agree, until};
 ghost use Rattle.reply_ledger.specs.Tallies.{new_tally, number_at, passed_at, passed_end, is_open_in, is_known, retallied, all_retallied, closed_tally, gone_tally, sent_tally, tried_tally, begun_tally, adopted_tally, passed_tally, given_up_tally, passed_until, tries_all, tries_until};
 ghost use Rattle.reply_ledger.specs.Entries.{stream_behind};
 
-use crate::account::Account;
+use crate::account::{Account, first_left};
 use crate::entry::Entry;
 use indexmap::IndexMap;
 use std::alloc::{AllocError, Global};
@@ -66,17 +66,6 @@ pub fn passed(accounts: &Accounts, conn: u16) -> u64
     }
 }
 
-/// Where the survivor's stream on a connection ends.
-#[tactic(auto, unfolding(crate::specs::Tallies::number_at))]
-pub fn sent(accounts: &Accounts, conn: u16) -> u64
-    ensures { result ≡ number_at (λ t. t.sent) accounts.now.entries conn }
-{
-    match accounts.get(&conn) {
-        Some(account) => account.sent(),
-        None => 0,
-    }
-}
-
 /// Where the trial's stream on a connection ends.
 #[tactic(auto, unfolding(crate::specs::Tallies::number_at))]
 pub fn tried(accounts: &Accounts, conn: u16) -> u64
@@ -88,13 +77,23 @@ pub fn tried(accounts: &Accounts, conn: u16) -> u64
     }
 }
 
-/// Moves the end of the survivor's stream on a connection.
-pub fn send(accounts: &mut Accounts, conn: u16, end: u64)
-    requires { number_at (λ t. t.sent) accounts.old.entries conn ≤ end }
-    ensures { accounts.new.entries ≡ retallied conn (sent_tally end) accounts.old.entries }
+/// Moves the end of the survivor's stream on a connection by so many bytes, and answers where it was, and whether the connection is open:
+/// nothing, where the end would pass 2^64 - 1, or where it wasn't opened.
+pub fn send(accounts: &mut Accounts, conn: u16, count: u64) -> Option<(u64, bool)>
+    ensures start { IfSome result (λ at. at.0 ≡ number_at (λ t. t.sent) accounts.old.entries conn) }
+    ensures opened { IfSome result (λ at. at.1 ≡ is_open_in accounts.old.entries conn) }
+    ensures moved { OnSome result (accounts.new.entries ≡ retallied conn (sent_tally (number_at (λ t. t.sent) accounts.old.entries conn + count)) accounts.old.entries) }
+    ensures full { IfNone result (accounts.new.entries ≡ accounts.old.entries) }
 {
-    if let Some(account) = accounts.get_mut(&conn) {
-        account.send(end);
+    match accounts.get_mut(&conn) {
+        Some(account) => {
+            let opened = account.is_open();
+            match account.send(count) {
+                Some(start) => Some((start, opened)),
+                None => None,
+            }
+        }
+        None => None,
     }
 }
 
@@ -117,22 +116,25 @@ pub fn agrees(accounts: &Accounts, conn: u16, bytes: &[u8]) -> bool
     }
 }
 
-/// Passes the next bytes of a connection's stream at a stamp. The sends before `from` have none of them.
+/// Passes the next bytes of a connection's stream at a stamp. The sends before `next` have none of them, where the connection is open.
 pub fn pass(
     accounts: &mut Accounts,
     sends: &VecDeque<Entry>,
-    from: usize,
+    next: usize,
     conn: u16,
     count: usize,
     stamp: u64,
 ) -> Result<(), AllocError>
     requires { number_at passed_end accounts.old.entries conn + count ≤ number_at (λ t. t.sent) accounts.old.entries conn }
     ensures ok { OnOk result (let at = number_at passed_end accounts.old.entries conn in
-        accounts.new.entries ≡ retallied conn (passed_tally (stamped stamp (take count (stream_behind conn at (drop from sends.now.items))))) accounts.old.entries) }
+        accounts.new.entries ≡ retallied conn (passed_tally (stamped stamp (take count (stream_behind conn at (drop (if is_open_in accounts.old.entries conn then next else 0) sends.now.items))))) accounts.old.entries) }
     ensures err { OnErr result (accounts.new.entries ≡ accounts.old.entries) }
 {
     match accounts.get_mut(&conn) {
-        Some(account) => account.pass(sends, from, conn, count, stamp),
+        Some(account) => {
+            let from = first_left(account.is_open(), next);
+            account.pass(sends, from, conn, count, stamp)
+        }
         None => Ok(()),
     }
 }

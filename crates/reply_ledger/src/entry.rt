@@ -3,6 +3,7 @@ ghost use Rattle.std.specs.Prelude.{◌≡◌, ℕ, ◌+◌, ◌-◌, List, [], 
 ghost use Rattle.rx_io.specs.Prefix.{Prefix};
 ghost use Rattle.reply_ledger.specs.Entries.{rest_of, stream_behind};
 
+use crate::byte_queue::ByteQueue;
 use rx_io::Bytes;
 use std::alloc::AllocError;
 use std::collections::VecDeque;
@@ -40,17 +41,6 @@ pub fn part_of(entry: &Entry, conn: u16, at: u64) -> &[u8]
     }
 }
 
-// Puts bytes behind others.
-fn append(queue: &mut VecDeque<u8>, bytes: &[u8]) -> Result<(), AllocError>
-    ensures ok { OnOk result (queue.new.items ≡ queue.old.items ++ bytes.now) }
-    ensures front { Prefix queue.old.items queue.new.items }
-{
-    for byte in bytes {
-        queue.push_back(*byte)?;
-    }
-    Ok(())
-}
-
 /// Puts the next bytes of a connection's stream from a place on behind others. The sends before `from` have none of them.
 pub fn gather(
     sends: &VecDeque<Entry>,
@@ -58,10 +48,10 @@ pub fn gather(
     conn: u16,
     at: u64,
     count: usize,
-    queue: &mut VecDeque<u8>,
+    queue: &mut ByteQueue,
 ) -> Result<(), AllocError>
-    ensures ok { OnOk result (queue.new.items ≡ queue.old.items ++ take count (stream_behind conn at (drop from sends.now.items))) }
-    ensures front { Prefix queue.old.items queue.new.items }
+    ensures ok { OnOk result (queue.new ≡ queue.old ++ take count (stream_behind conn at (drop from sends.now.items))) }
+    ensures front { Prefix queue.old queue.new }
 {
     let mut left = count;
     for i in from..sends.len() {
@@ -70,7 +60,7 @@ pub fn gather(
         }
         let part = part_of(&sends[i], conn, at);
         let length = left.min(part.len());
-        append(queue, &part[..length])?;
+        queue.append(&part[..length])?;
         left -= length;
     }
     Ok(())

@@ -9,6 +9,7 @@
 
 mod account;
 mod accounts;
+mod byte_queue;
 mod entry;
 mod replies;
 mod sends;

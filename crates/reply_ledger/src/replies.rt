@@ -11,7 +11,7 @@ use crate::account::give_room_back;
 use crate::accounts;
 use crate::accounts::Accounts;
 use crate::entry::{Entry, part_of, rest_of};
-use crate::sends::{drop_oldest, first_waiting, first_with_rest, reserve, rewind};
+use crate::sends::{drop_oldest, first_of_more, first_waiting, first_with_rest, reserve, rewind};
 use indexmap::IndexMap;
 use rx_io::Bytes;
 use std::alloc::{AllocError, Global};
@@ -114,18 +114,18 @@ impl Replies {
         ensures ok { OnOk result (self.new ≡ with_send self.old (record { conn = conn; bytes = bytes; taken = taken })) }
         ensures err { OnErr result (self.new ≡ self.old) }
     {
-        let start = accounts::sent(&self.accounts, conn);
-        let Some(end) = start.checked_add(bytes.as_slice().len() as u64) else {
+        reserve(&mut self.sends, 1)?;
+        let count = bytes.as_slice().len() as u64;
+        let Some(place) = accounts::send(&mut self.accounts, conn, count) else {
             return Err(AllocError);
         };
-        self.sends.push_back(Entry {
+        self.sends.push_back_reserved(Entry {
             conn,
             bytes,
             taken,
-            start,
-        })?;
-        accounts::send(&mut self.accounts, conn, end);
-        self.next = first_waiting(&self.sends, &self.accounts, self.next);
+            start: place.0,
+        });
+        self.next = first_of_more(self.next, self.sends.len(), place.1);
         Ok(())
     }
 
@@ -256,8 +256,14 @@ impl Replies {
         ensures ok { OnOk result (self.new ≡ with_passed self.old conn count stamp) }
         ensures err { OnErr result (self.new ≡ self.old) }
     {
-        let from = first_with_rest(&self.accounts, conn, self.next);
-        accounts::pass(&mut self.accounts, &self.sends, from, conn, count, stamp)?;
+        accounts::pass(
+            &mut self.accounts,
+            &self.sends,
+            self.next,
+            conn,
+            count,
+            stamp,
+        )?;
         self.next = first_waiting(&self.sends, &self.accounts, self.next);
         Ok(())
     }

@@ -1,5 +1,5 @@
 // The survivor's sends beside what is kept of their connections.
-ghost use Rattle.std.specs.Prelude.{◌≡◌, ℕ, ◌+◌, ◌-◌, ◌<◌, ◌≤◌, List, length, take, drop, if◌then◌else◌, OnOk, OnErr};
+ghost use Rattle.std.specs.Prelude.{◌≡◌, ℕ, ◌+◌, ◌-◌, ◌<◌, ◌≤◌, List, length, take, drop, if◌then◌else◌, nat_lt, OnOk, OnErr};
 ghost use Rattle.std.specs.List.{position_or_len};
 ghost use Rattle.std.specs.Map.{keys_of};
 ghost use Rattle.std.specs.VecDeque.{deque_capacity, deque_len};
@@ -10,6 +10,7 @@ ghost use Rattle.reply_ledger.specs.Tallies.{connections_of};
 ghost use Rattle.reply_ledger.specs.Entries.{sends_of};
 ghost use Rattle.reply_ledger.specs.Inside.{Laid, earlier_at, sent_ends, tried_ends, waits_in};
 
+use crate::account::first_left;
 use crate::accounts;
 use crate::accounts::Accounts;
 use crate::entry::{Entry, rest_of};
@@ -39,16 +40,24 @@ pub fn first_waiting(sends: &VecDeque<Entry>, accounts: &Accounts, from: usize) 
     sends.len()
 }
 
+/// The place of the first send that may still be passed, once one more stands last among so many. It has bytes, and none of them was passed.
+pub fn first_of_more(next: usize, count: usize, opened: bool) -> usize
+    requires { next < count }
+    ensures { result ≡ (if opened then next else if nat_lt (next + 1) count then next else next + 1) }
+{
+    if opened || next + 1 < count {
+        next
+    } else {
+        next + 1
+    }
+}
+
 /// A place before which no send has anything of a connection that wasn't passed: the place of the first that may still be passed, where the
 /// connection is open.
 pub fn first_with_rest(accounts: &Accounts, conn: u16, next: usize) -> usize
     ensures { result ≡ (if is_open (connections_of accounts.now.entries) conn then next else 0) }
 {
-    if accounts::is_open(accounts, conn) {
-        next
-    } else {
-        0
-    }
+    first_left(accounts::is_open(accounts, conn), next)
 }
 
 /// A trial's streams begin as the survivor's first so many sends.

@@ -1,23 +1,25 @@
 use Rattle.reply_ledger.proofs.Lemmas.{agree-apart, agree-done, agree-past, agree-same}
-use Rattle.reply_ledger.proofs.Terms.{arith, length, sym, ◌<◌, ◌∙◌, ◌≤◌}
+use Rattle.reply_ledger.proofs.Terms.{arith, get_or, length, sym, ◌<◌, ◌∙◌, ◌≤◌, get_or_default}
 use Rattle.reply_ledger.proofs.account.agree_from.Goals as goal
 
-pub returns-then-at-len : goal.returns-then-at-len
-returns-then-at-len c =
-    let past : length c.args.passed.now.items ≤ c.loop-byte.at = omega (arith, c.if-at-len.true, c.len.ensures, c.args.passed.now.ok) in
-    sym (c.loop-byte.invariant.rest ∙ agree-past _ c.args.passed.now.items c.loop-byte.at past)
+pub returns-then-at-passed : goal.returns-then-at-passed
+returns-then-at-passed c =
+    let past : length c.args.passed.now ≤ c.loop-byte.at = omega (arith, c.if-at-passed.true) in
+    sym (c.loop-byte.invariant.rest ∙ agree-past _ c.args.passed.now c.loop-byte.at past)
 
-pub returns-then-index-byte : goal.returns-then-index-byte
-returns-then-index-byte c =
-    let within : c.loop-byte.at < length c.args.passed.now.items = omega (arith, c.if-at-len.false, c.len.ensures, c.args.passed.now.ok) in
-    sym (c.loop-byte.invariant.rest ∙ agree-apart c.args.bytes.now c.args.passed.now.items c.loop-byte.byte-index c.loop-byte.at c.index.result.now c.loop-byte-test.true within c.index.ensures c.if-index-byte.true)
+pub returns-then-passed-at : goal.returns-then-passed-at
+returns-then-passed-at c =
+    let within : c.loop-byte.at < length c.args.passed.now = omega (arith, c.if-at-passed.false) in
+    sym (c.loop-byte.invariant.rest ∙ agree-apart c.args.bytes.now c.args.passed.now c.loop-byte.byte-index c.loop-byte.at (get_or c.args.passed.now c.loop-byte.at 0) c.loop-byte-test.true within
+    (get_or_default c.args.passed.now c.loop-byte.at 0 _ within) c.if-passed-at.true)
 
 pub loop-byte-preserved : goal.loop-byte-preserved
 loop-byte-preserved c =
-    let within : c.loop-byte.at < length c.args.passed.now.items = omega (arith, c.if-at-len.false, c.len.ensures, c.args.passed.now.ok) in
+    let within : c.loop-byte.at < length c.args.passed.now = omega (arith, c.if-at-passed.false) in
     record {
       place = omega (arith, c.loop-byte.invariant.place);
-      rest = c.loop-byte.invariant.rest ∙ agree-same c.args.bytes.now c.args.passed.now.items c.loop-byte.byte-index c.loop-byte.at c.index.result.now c.loop-byte-test.true within c.index.ensures c.if-index-byte.false;
+      rest = c.loop-byte.invariant.rest ∙ agree-same c.args.bytes.now c.args.passed.now c.loop-byte.byte-index c.loop-byte.at (get_or c.args.passed.now c.loop-byte.at 0) c.loop-byte-test.true within
+          (get_or_default c.args.passed.now c.loop-byte.at 0 _ within) c.if-passed-at.false;
     }
 
 pub returns : goal.returns

@@ -4,6 +4,6 @@ use Rattle.reply_ledger.proofs.entry.gather.Given as goal
 abbrev pub invariant-loop-i : goal.invariant-loop-i
 invariant-loop-i l = record {
   done : List ℕ;
-  put : l.queue.items ≡ l.initial.queue.items ++ done;
+  put : l.queue ≡ l.initial.queue ++ done;
   rest : done ++ take l.left (stream_behind l.conn l.at (drop l.i l.sends.items)) ≡ take l.count (stream_behind l.conn l.at (drop l.from l.sends.items));
 }

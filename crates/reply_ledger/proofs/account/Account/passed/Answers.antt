@@ -7,5 +7,5 @@ overflow_add-result c = omega (arith, c.self.invariant.1, c.self.invariant.2, c.
 
 pub returns : goal.returns
 returns c =
-    let long = length-passed_in c.self.inside.runs.items c.self.inside.earlier _ c.self.inside.bytes.items c.self.invariant.0 refl in
+    let long = length-passed_in c.self.inside.runs.items c.self.inside.earlier _ c.self.inside.bytes c.self.invariant.0 refl in
     rw (← c.self.view_is) (omega (arith, long, c.len.ensures))
