@@ -6,6 +6,7 @@ pub mod SameLemmas
 pub mod ReplayLemmas
 pub mod JournalLemmas
 pub mod OpenLemmas
+pub mod DifferLemmas
 pub mod ChooseLemmas
 pub mod GivingLemmas
 pub mod HearLemmas

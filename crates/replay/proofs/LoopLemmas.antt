@@ -1,6 +1,6 @@
 -- What the loops of a replay keep.
 use Rattle.rx_io.proofs.Composing.{rose_later}
-use Rattle.replay.proofs.Terms.{arith, sym, true, ℕ, ◌+◌, ◌∙◌, ◌≡◌, ◌≤◌, IsSome, Ok, Result, Counts, Told, Seen, Image, Answer, Recorded, Player, HasCause, IsBetween, IsWaiting, LinkHears, LinkTurns, stage_of}
+use Rattle.replay.proofs.Terms.{None, arith, sym, true, ℕ, ◌+◌, ◌∙◌, ◌≡◌, ◌≤◌, IsSome, Ok, Result, Counts, Told, Seen, Image, Answer, Recorded, Player, HasCause, IsBetween, IsWaiting, LinkHears, LinkTurns, stage_of}
 use Rattle.replay.proofs.LeavingLemmas.{leaves_after}
 
 -- no call of a link has failed so far
@@ -16,6 +16,7 @@ pub record HasGoneOn (before now : Seen) : Type 0 where
 pub record HasAwaited (Went : Type 0) (before now : Seen) (old new : Player) : Type 0 where
   pub hears : (image : Image) (recording : Recorded) (began : Told) → IsWaiting image recording began before (stage_of old) → IsWaiting image recording began now (stage_of new)
   pub cpu : new.cpu ≡ old.cpu
+  pub same : new.difference ≡ old.difference
   pub link : HasGoneOn before now
   pub went : Went
 
@@ -24,6 +25,7 @@ pub record HasTurned (Went : Type 0) (image : Image) (recording : Recorded) (bef
   pub between : IsBetween image recording before.told now (stage_of player)
   pub link : HasGoneOn before now
   pub steps : later ≡ counter + player.cpu.slots.live.steps
+  pub none : player.difference ≡ None
   pub went : Went
 
 pub gone_nowhere : {seen : Seen} → seen.takes ≡ true → seen.gives ≡ true → HasGoneOn seen seen

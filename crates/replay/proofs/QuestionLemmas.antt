@@ -1,9 +1,10 @@
 -- Where a replay stands behind each question of its guest.
 use Rattle.run_history.specs.declared.answer.Answer.TheVariants as answer
 use Rattle.guest_cpu.specs.declared.event.Question.TheVariants as question
-use Rattle.replay.proofs.Terms.{Bool, List, None, ap, arith, cond, drop, false, length, refl, subst, sym, true, ℕ, ◌<◌, ◌∙◌, ◌≡◌, both_ways, eqb-false, eqb-true, Err, IfOk, IsSome, Ok, Result, is_some, ◌==◌, Send, Entry, Told, pieces_in, Seen, Ask, Image, Answer, Cause, Question, recorded, RunsBy, Live, Standing, items_in, Recorded, Ended, EndsBy, Failed, Untaken, Unused, bounds_of, AreOpen, AreOpenThen, GoesOnBy, IsBase, IsBetween, IsEnd, IsPlaying, IsSending, IsWaiting, IsWanting, IsWholeEnd, Stage, TurnsBy, has, replay_of}
+use Rattle.replay.proofs.Terms.{Bool, List, None, Some, ap, arith, cond, drop, false, length, refl, subst, sym, true, ℕ, ◌<◌, ◌∙◌, ◌≡◌, ◌≤◌, both_ways, eqb-false, eqb-true, ltb-false, ltb-true, Err, IfOk, IsSome, Ok, Result, is_some, nat_lt, ◌==◌, Send, Entry, Told, pieces_in, Seen, Ask, Image, Answer, Cause, Question, recorded, RunsBy, Live, Standing, items_in, Recorded, Ended, EndsBy, Failed, Untaken, Unused, bounds_of, AreOpen, AreOpenThen, GoesOnBy, IsBase, IsBetween, IsEnd, IsPlaying, IsSending, IsWaiting, IsWanting, IsWholeEnd, Stage, TurnsBy, has, replay_of}
 use Rattle.replay.specs.Giving as giving
-use Rattle.replay.specs.Judging.{judged}
+use Rattle.replay.specs.declared.difference.Difference.TheVariants as difference
+use Rattle.replay.specs.Judging.{ended_apart, judged, left_over}
 use Rattle.replay.proofs.RunLemmas.{Ran, same_sends, with_send, ComesTo, comes_by}
 use Rattle.replay.proofs.ReplayLemmas.{replay_ran}
 use Rattle.replay.proofs.LineLemmas.{few_lines}
@@ -44,32 +45,47 @@ module _ {image : Image} {recording : Recorded} {began : Told} {seen : Seen} {st
   ended_by : seen.takes ≡ true → (playing : IsPlaying image recording began seen stage) (end : Answer) → EndsBy image recording playing.entries seen.coming (replay_of stage.choices playing.sends stage.live) end → IsWholeEnd image recording began seen stage end
   ended_by still playing end ends = record { entries = playing.entries; sends = playing.sends; tells = playing.base.tells; asked = playing.base.asked; is = playing.base.is; ends = ends; failed = λ no. absurd (both_ways seen.takes no still); given = playing.given }
 
-  ends_judged : (playing : IsPlaying image recording began seen stage) → (stage.live.steps < recording.steps → IsSome stage.live.ended) → (all used taken : Bool) → (stage.live.steps == recording.steps) ≡ all
+  -- what stands behind the answer at the record's end, by two tests
+  ends_left : (playing : IsPlaying image recording began seen stage) → stage.live.steps ≡ recording.steps → (used taken : Bool)
       → (stage.live.guest.machine.allocations == length recording.lines) ≡ used → (stage.live.guest.machine.taken == recording.taken) ≡ taken
-      → EndsBy image recording playing.entries seen.coming (replay_of stage.choices playing.sends stage.live) (cond all (cond used (cond taken answer.Finished (answer.Mismatch stage.live.steps)) (answer.Mismatch stage.live.steps)) (answer.Mismatch stage.live.steps))
-  ends_judged playing stopped true true true a u t = (eqb-true stage.live.steps recording.steps a, sym playing.base.is.ran.used ∙ eqb-true stage.live.guest.machine.allocations (length recording.lines) u, eqb-true stage.live.guest.machine.taken recording.taken t, playing.given)
-  ends_judged playing stopped true true false a u t = (refl, Untaken (eqb-true stage.live.steps recording.steps a) (eqb-false stage.live.guest.machine.taken recording.taken t), playing.given, λ ended. absurd (playing.base.goes_on ended))
-  ends_judged playing stopped true false taken a u t =
+      → EndsBy image recording playing.entries seen.coming (replay_of stage.choices playing.sends stage.live)
+      (judged (cond used (cond taken None (Some (difference.ItemsApart stage.live.guest.machine.taken recording.taken))) (Some (difference.LinesLeft stage.live.guest.machine.allocations (length recording.lines)))) stage.live.steps)
+  ends_left playing at_end true true u t = (at_end, sym playing.base.is.ran.used ∙ eqb-true stage.live.guest.machine.allocations (length recording.lines) u, eqb-true stage.live.guest.machine.taken recording.taken t, playing.given)
+  ends_left playing at_end true false u t = (refl, Untaken at_end (eqb-false stage.live.guest.machine.taken recording.taken t), playing.given, λ ended. absurd (playing.base.goes_on ended))
+  ends_left playing at_end false taken u t =
       let apart = eqb-false stage.live.guest.machine.allocations (length recording.lines) u in
-      (refl, Unused (eqb-true stage.live.steps recording.steps a) (omega (arith, apart, playing.base.is.ran.used, few_lines recording.lines stage.choices playing.base.is.lines)), playing.given, λ ended. absurd (playing.base.goes_on ended))
-  ends_judged playing stopped false used taken a u t =
-      let low : stage.live.steps < recording.steps = omega (arith, eqb-false stage.live.steps recording.steps a, playing.base.is.steps) in
-      (refl, Ended low (stopped low), playing.given, λ ended. absurd (playing.base.goes_on ended))
+      (refl, Unused at_end (omega (arith, apart, playing.base.is.ran.used, few_lines recording.lines stage.choices playing.base.is.lines)), playing.given, λ ended. absurd (playing.base.goes_on ended))
 
-  -- the guest has come to its end, or to the record's
-  pub judged_end : seen.takes ≡ true → IsPlaying image recording began seen stage → (stage.live.steps < recording.steps → IsSome stage.live.ended) → IsWholeEnd image recording began seen stage (judged recording stage.live)
-  judged_end still playing stopped =
-      ended_by still playing (judged recording stage.live)
-      (ends_judged playing stopped (stage.live.steps == recording.steps) (stage.live.guest.machine.allocations == length recording.lines) (stage.live.guest.machine.taken == recording.taken) refl refl refl)
+  -- the guest has come to the record's end
+  left_end : seen.takes ≡ true → IsPlaying image recording began seen stage → stage.live.steps ≡ recording.steps → IsWholeEnd image recording began seen stage (judged (left_over recording stage.live) stage.live.steps)
+  left_end still playing at_end =
+      ended_by still playing (judged (left_over recording stage.live) stage.live.steps)
+      (ends_left playing at_end (stage.live.guest.machine.allocations == length recording.lines) (stage.live.guest.machine.taken == recording.taken) refl refl)
+
+  -- it has ended itself, there or before
+  ended_end : seen.takes ≡ true → IsPlaying image recording began seen stage → (code : ℕ) → stage.live.ended ≡ Some code → IsWholeEnd image recording began seen stage (judged (ended_apart recording code stage.live) stage.live.steps)
+  ended_end still playing code is = by (nat_lt stage.live.steps recording.steps) refl
+    where
+      by : (early : Bool) → nat_lt stage.live.steps recording.steps ≡ early → IsWholeEnd image recording began seen stage (judged (cond early (Some (difference.Ended code)) (left_over recording stage.live)) stage.live.steps)
+      by true early = ended_by still playing (answer.Mismatch stage.live.steps) (refl, Ended (ltb-true stage.live.steps recording.steps early) (ap is_some is), playing.given, λ ended. absurd (playing.base.goes_on ended))
+      by false early = left_end still playing (omega (arith, ltb-false stage.live.steps recording.steps early, playing.base.is.steps))
 
 module _ {image : Image} {recording : Recorded} {began : Told} {seen : Seen} {stage : Stage} {later : Standing} (between : IsBetween image recording began seen stage) where
-  pub reached_end : seen.takes ≡ true → ComesTo recording.steps stage.live question.Reached later → IsWholeEnd image recording began seen (record stage { live = later }) (judged recording later)
-  reached_end still comes =
-      judged_end still (playing_ran comes.0 between.playing) (λ low. absurd (let no : ⊥ = omega (arith, low, comes.1) in no))
+  -- where the guest has come to the record's end
+  pub comes_at_end : ComesTo recording.steps stage.live question.Reached later → later.steps ≡ recording.steps
+  comes_at_end comes = let within : later.steps ≤ recording.steps = comes.0.within between.playing.base.is.steps in omega (arith, within, comes.1)
 
-  pub exits_end : seen.takes ≡ true → (code : ℕ) → ComesTo recording.steps stage.live (question.Exits code) later → IsWholeEnd image recording began seen (record stage { live = later }) (judged recording later)
-  exits_end still code comes =
-      judged_end still (playing_ran comes.0 between.playing) (λ low. ap is_some comes.1)
+  -- no more of the record's lines are used there than it has
+  pub few_used : Ran recording.steps stage.live later same_sends same_sends → later.guest.machine.allocations ≤ length recording.lines
+  few_used ran =
+      let is = between.playing.base.is in
+      omega (arith, ran.allocations, is.ran.used, few_lines recording.lines stage.choices is.lines)
+
+  pub reached_end : seen.takes ≡ true → ComesTo recording.steps stage.live question.Reached later → IsWholeEnd image recording began seen (record stage { live = later }) (judged (left_over recording later) later.steps)
+  reached_end still comes = left_end still (playing_ran comes.0 between.playing) (comes_at_end comes)
+
+  pub exits_end : seen.takes ≡ true → (code : ℕ) → ComesTo recording.steps stage.live (question.Exits code) later → IsWholeEnd image recording began seen (record stage { live = later }) (judged (ended_apart recording code later) later.steps)
+  exits_end still code comes = ended_end still (playing_ran comes.0 between.playing) code comes.1
 
   pub failed_end : seen.takes ≡ true → (cause : Cause) → ComesTo recording.steps stage.live (question.Failed cause) later → IsWholeEnd image recording began seen (record stage { live = later }) (answer.Mismatch later.steps)
   failed_end still cause comes =

@@ -1,9 +1,10 @@
 -- A replay at its start, and at its end.
 use Rattle.item_log.specs.Log as logs
 use Rattle.run_history.specs.declared.answer.Answer.TheVariants as answer
-use Rattle.replay.proofs.Terms.{List, [], ap, arith, drop, false, length, refl, subst, sym, true, ℕ, ◌+◌, ◌^◌, ◌≡◌, both_ways, length-replicate, Err, Send, tells_nothing, IsFresh, Phases, Seen, Choice, items_from, items_of, Log, Image, Answer, no_connections_may, no_connections, start_machine, start_standing, Standing, MayBegin, Bounds, heeded, heeded_behind, items_in, Recorded, Player, BreaksOff, IsLastSend, HasFilledBy, HasReplayedBy, LinkAnswers, bounds_of, AreOpen, AreOpenThen, IsBetween, IsEnd, LinkTurns, Stage, has, replay_of, stage_of}
+use Rattle.replay.proofs.Terms.{List, None, Option, [], ap, arith, drop, false, length, refl, subst, sym, true, ℕ, ◌+◌, ◌^◌, ◌≡◌, both_ways, length-replicate, Err, Send, tells_nothing, IsFresh, Phases, Seen, Choice, items_from, items_of, Log, Image, Answer, no_connections_may, no_connections, start_machine, start_standing, Standing, MayBegin, Bounds, heeded, heeded_behind, items_in, Recorded, Player, Difference, DiffersBy, HasFound, BreaksOff, IsLastSend, HasFilledBy, HasReplayedBy, LinkAnswers, bounds_of, AreOpen, AreOpenThen, IsBetween, IsEnd, LinkTurns, Stage, has, replay_of, stage_of}
 use Rattle.replay.specs.Giving as giving
 use Rattle.replay.specs.Making.{IsMade}
+use Rattle.replay.proofs.DifferLemmas.{differs_after, tells_found}
 use Rattle.replay.proofs.ReplayLemmas.{replay_start}
 use Rattle.replay.proofs.JournalLemmas.{asked_none}
 
@@ -82,8 +83,8 @@ replayed_none {image = image} {seen = seen} Last may = record {
   last = λ no. absurd (both_ways seen.gives no may.gives);
 }
 
-pub filled_none : {image : Image} {recording : Recorded} {seen : Seen} {choices : List Choice} (Last : List Send → Type 0) {steps : ℕ} → MayBegin seen → choices ≡ [] → HasFilledBy image recording seen seen Last answer.Memory choices steps steps
-filled_none Last may none = record { by = replayed_none Last may; choices_are = none }
+pub filled_none : {image : Image} {recording : Recorded} {seen : Seen} {choices : List Choice} (Last : List Send → Type 0) {steps : ℕ} → MayBegin seen → choices ≡ [] → HasFilledBy image recording seen seen Last answer.Memory None choices steps steps
+filled_none Last may none = record { by = replayed_none Last may; differs = refl; choices_are = none }
 
 -- A replay has ended. Where giving broke off it was in one call, behind which the link had gone on so far.
 abbrev replayed_by : {K : Type 0} (seen : K → Seen) (Went : K → K → Type 0) (Gave : K → K → ℕ → List ℕ → Type 0) (began mid later : K) {image : Image} {recording : Recorded} {stage : Stage} {end : Answer} {before after : ℕ}
@@ -106,8 +107,14 @@ replayed_by seen Went Gave began mid later {stage = stage} went still counted is
 
 pub filled_by : {K : Type 0} (seen : K → Seen) (Went : K → K → Type 0) (Gave : K → K → ℕ → List ℕ → Type 0) (began mid later : K) {image : Image} {recording : Recorded} {stage : Stage} {end : Answer} {choices : List Choice} {before after : ℕ}
     → Went began mid → (seen mid).gives ≡ true → after ≡ before + stage.live.steps → IsEnd image recording (seen began).told (seen later) (IsLastSend (seen began).told (seen mid).told (Gave mid later)) stage end → choices ≡ stage.choices
-    → HasFilledBy image recording (seen began) (seen later) (BreaksOff seen Went Gave began later) end choices before after
-filled_by seen Went Gave began mid later went still counted is all = record { by = replayed_by seen Went Gave began mid later went still counted is; choices_are = all }
+    → (was found : Option Difference) → was ≡ None → DiffersBy (HasFound recording stage.live) was found (Err end)
+    → HasFilledBy image recording (seen began) (seen later) (BreaksOff seen Went Gave began later) end found choices before after
+filled_by seen Went Gave began mid later {image = image} {recording = recording} {stage = stage} {end = end} went still counted is all was found none differs = record {
+  by = replayed_by seen Went Gave began mid later went still counted is;
+  differs = tells_found image recording is.entries (seen later).coming stage.choices is.sends stage.live found end is.is.ran.used is.ends
+      (differs_after (HasFound recording stage.live) found (Err end) none differs);
+  choices_are = all;
+}
 
 -- what the link shows then, by the turn that ended it
 pub answers_link : {before now : Seen} {end : Answer} → LinkTurns before now (Err end) → LinkAnswers before now end

@@ -1,7 +1,7 @@
 -- The words and lemmas that this crate's proofs are written in: those of crates below, and its own words.
 pub use Rattle.std.proofs.Common.{Bool, List, None, Option, Some, [], add-one, ap, append-nil, append_assoc, arith, below_more, cond, drop, eqb, false, filter, inl, inr, leb, length, length-append, length-set, map, not, refl, rules, set, subst, suc, sym, take, true, true≢false, vec_len, zero, ℕ, ◌++◌, ◌+◌, ◌-◌, ◌<◌, ◌^◌, ◌∙◌, ◌∷◌, ◌≡◌, ◌≢◌, ◌≤◌, ◌⊎◌}
 pub use Rattle.std.proofs.Math.Seq.{drop-append_seam, drop-cons, take-append_seam}
-pub use Rattle.std.proofs.lemmas.Bool.{and_parts, both_ways, cond_both, eq-eqb, eqb-false, eqb-true, leb-false, leb-true, ltb-false, ne_eqb}
+pub use Rattle.std.proofs.lemmas.Bool.{and_parts, both_ways, cond_both, eq-eqb, eqb-false, eqb-true, leb-false, leb-true, ltb-false, ltb-true, ne_eqb}
 pub use Rattle.std.proofs.lemmas.List.{get_or-set_other, get_or-set_same, length-map, length-replicate, nil_from_length, take-append-drop}
 pub use Rattle.std.proofs.lemmas.Option.{get_or_from_slice_get, none-some, option_and_then_some, same_Some, slice_get_past, slice_get_within, unwrap_or-slice_get}
 pub use Rattle.std.specs.Prelude.{Err, IfOk, IsSome, Ok, Result, if◌then◌else◌, is_some, nat_lt, option_to_list, slice_get, slice_set, unwrap_or, ◌&&◌, ◌==◌, ◌||◌}
@@ -18,7 +18,9 @@ pub use Rattle.replay.specs.Terms.{Allocate, Answer, Ask, Block, Bounds, Cause, 
 unfoldable pub use Rattle.replay.specs.Terms.{allocated, does, grant, heeded_behind, instruction_at, is_allowed, is_block, items_from, next, no_connections, quiet_next, recorded, start, start_machine}
 pub use Rattle.replay.specs.declared.player.Player.{Player}
 pub use Rattle.replay.specs.Giving.{AreGiven, AreGivenInPart, BreaksOff, IsLastSend, found_gone, piece_of}
-pub use Rattle.replay.specs.Replaying.{AreAsked, AreOfLines, Differs, Ended, EndsBy, Failed, HasAsk, HasFilledBy, HasReplayed, HasReplayedBy, IsAsking, IsOfLine, IsReplay, IsUnusable, LeavesLink, LinkAnswers, Replay, Starved, Unanswered, Untaken, Unused, WaitsForItem, WasAsked, bounds_of, choice_by}
+pub use Rattle.replay.specs.Replaying.{AreAsked, AreOfLines, Differs, Ended, EndsBy, Failed, HasAsk, HasReplayed, HasReplayedBy, IsAsking, IsOfLine, IsReplay, IsUnusable, LeavesLink, LinkAnswers, Replay, Starved, Unanswered, Untaken, Unused, WaitsForItem, WasAsked, bounds_of, choice_by}
+pub use Rattle.replay.specs.declared.difference.Difference.{Difference}
+pub use Rattle.replay.specs.Differing.{DiffersBy, HasDifference, HasFilledBy, HasFound, HasOtherAsk, HasUnusable, IsApart, IsDifference, IsInputEnd, Never, TellsDifference, WouldDo}
 pub use Rattle.replay.specs.Playing.{AreOpen, AreOpenThen, GoesOnBy, HasCause, HasNoFault, IsBase, IsBetween, IsEnd, IsPlaying, IsSending, IsWaiting, IsWanting, IsWholeEnd, LeavesBy, LinkHears, LinkTurns, Stage, StayOpen, TurnsBy, WaitsBy, has, replay_of, stage_of, state_of}
 pub use Rattle.replay.specs.Hearing.{HeedsEvent, LogsEvent, answer_of}
 pub use Rattle.replay.specs.Laws.{AreLinesOf, BringsFirst, HadOneStream, HasRoom, HasSession, IsNoMismatch, IsRecordOf, bare_line}

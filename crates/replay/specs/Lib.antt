@@ -1,6 +1,7 @@
 pub mod Terms
 pub mod Giving
 pub mod Replaying
+pub mod Differing
 pub mod Playing
 pub mod Making
 pub mod Hearing

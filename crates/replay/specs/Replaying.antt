@@ -123,11 +123,6 @@ pub record HasReplayedBy (image : Image) (recorded : Recorded) (began now : Seen
   pub given : now.gives ≡ true → AreGiven replayed.replay.state.sends (pieces_in replayed.entries)
   pub last : now.gives ≡ false → Last replayed.replay.state.sends
 
--- The same, and these are the answers of the allocator that its run used.
-pub record HasFilledBy (image : Image) (recorded : Recorded) (began now : Seen) (Last : List Send → Type 0) (end : Answer) (choices : List Choice) (before after : ℕ) : Type 0 where
-  pub by : HasReplayedBy image recorded began now Last end before after
-  pub choices_are : choices ≡ by.replayed.replay.choices
-
 -- Which calls of its link have failed where a replay has ended: none, but at a refusal and at a fault of reading the last take, at a fault of
 -- writing the last give, and at want of memory one of both at most. A link that told what its grammar has next tells its refusal too.
 abbrev pub LeavesLink : Seen → Seen → Answer → Type 0

@@ -3,6 +3,7 @@ ghost use Rattle.std.specs.Prelude.{◌≡◌};
 ghost use Rattle.links.specs.Links.{Told};
 ghost use Rattle.elf_image.specs.declared.image.Image.{Image};
 ghost use Rattle.schedule_file.specs.declared.recorded.Recorded.{Recorded};
+ghost use Rattle.replay.specs.Differing.{DiffersBy, Never};
 ghost use Rattle.replay.specs.Giving.{IsLastSend};
 ghost use Rattle.replay.specs.Playing.{stage_of, IsSending, StandsSending, TurnsBy, LinkTurns};
 
@@ -26,6 +27,7 @@ impl Player {
         ensures sends { (image : Image) (recorded : Recorded) (began : Told) → IsSending image recorded began (K.seen link.old) conn bytes.now (stage_of self.old)
             → TurnsBy image recorded began (K.seen link.new) (IsLastSend began (K.seen link.old).told (G.Gave link.old link.new)) (stage_of self.new) result }
         ensures cpu { self.new.cpu ≡ self.old.cpu }
+        ensures differs { DiffersBy Never self.old.difference self.new.difference result }
         ensures takes { (K.seen link.new).takes ≡ (K.seen link.old).takes }
         ensures link { LinkTurns (K.seen link.old) (K.seen link.new) result }
         ensures went { K.Went link.old link.new }

@@ -5,9 +5,11 @@ ghost use Rattle.elf_image.specs.declared.image.Image.{Image};
 ghost use Rattle.schedule_file.specs.declared.recorded.Recorded.{Recorded};
 ghost use Rattle.item_log.specs.Connections.{in_order};
 ghost use Rattle.item_log.specs.Log.{received};
+ghost use Rattle.replay.specs.Differing.{DiffersBy, IsInputEnd, Never};
 ghost use Rattle.replay.specs.Hearing.{answer_of, refusal_answer, LogsEvent, HeedsEvent};
 ghost use Rattle.replay.specs.Playing.{stage_of, IsWaiting, StandsWaiting, WaitsBy, LinkHears, CountsEvent};
 
+use crate::difference::Difference;
 use crate::player::Player;
 use item_log::ItemRefusal;
 use links::{Link, LinkEvent, LinkFault};
@@ -47,6 +49,7 @@ impl Player {
             → WaitsBy image recorded began (K.seen link.new) (stage_of self.new) result }
         ensures there { IfOk result (λ _. self.new.cpu.slots.live.guest.machine.taken < received self.new.log) }
         ensures cpu { self.new.cpu ≡ self.old.cpu }
+        ensures differs { DiffersBy IsInputEnd self.old.difference self.new.difference result }
         ensures link { LinkHears (K.seen link.old) (K.seen link.new) result }
         ensures went { K.Went link.old link.new }
     {
@@ -65,6 +68,7 @@ impl Player {
         ensures hears { (image : Image) (recorded : Recorded) (began : Told) → IsWaiting image recorded began (K.seen link.old) (stage_of self.old)
             → WaitsBy image recorded began (K.seen link.new) (stage_of self.new) result }
         ensures counts { CountsEvent self.old self.new result }
+        ensures differs { DiffersBy IsInputEnd self.old.difference self.new.difference result }
         ensures link { LinkHears (K.seen link.old) (K.seen link.new) result }
         ensures went { K.Went link.old link.new }
     {
@@ -79,9 +83,13 @@ impl Player {
         requires in_order { IsTrue (in_order self.old.log.rests event.now) }
         ensures heeds { HeedsEvent event.now (stage_of self.old) (stage_of self.new) result }
         ensures cpu { self.new.cpu ≡ self.old.cpu }
+        ensures differs { DiffersBy IsInputEnd self.old.difference self.new.difference result }
     {
         match event {
-            LinkEvent::Ends => Err(self.mismatch()),
+            LinkEvent::Ends => {
+                self.difference = Some(Difference::InputEnded);
+                Err(self.mismatch())
+            }
             _ => self.note(event),
         }
     }
@@ -92,6 +100,7 @@ impl Player {
         requires counted { event.now ≢ LinkEvent.Ends }
         ensures logs { LogsEvent event.now (stage_of self.old) (stage_of self.new) result }
         ensures cpu { self.new.cpu ≡ self.old.cpu }
+        ensures differs { DiffersBy Never self.old.difference self.new.difference result }
     {
         if self.events >= MAX_EVENTS {
             return Err(Answer::LimitEvents);

@@ -5,9 +5,11 @@
 //! An event is taken only where the run asks for an item, so a replay takes no more than it needs.
 //! A record that was changed may be answered Finished: it then tells of a run of that program over these events.
 //! A record whose last instruction is an exit is answered Finished, never Exited.
+//! Beside Mismatch stands what differs: what the record has there, and what the run does.
 //! The laws say of a session's own record, over the same events, that no Mismatch comes.
 #![tactic(auto)]
 
+mod difference;
 mod giver;
 mod giving;
 mod hearing;
@@ -16,5 +18,6 @@ mod player;
 mod playing;
 mod replaying;
 
-pub use giver::Giver;
+pub use difference::Difference;
+pub use giver::{AnyGiver, Giver};
 pub use replaying::{Filled, fill_by, replay, replay_by};

@@ -3,6 +3,7 @@ ghost use Rattle.std.specs.Prelude.{◌≡◌, IfOk};
 ghost use Rattle.run_history.specs.declared.answer.Answer.TheVariants as answer;
 ghost use Rattle.replay.specs.Making.{IsMade};
 
+use crate::difference::Difference;
 use block_book::{Choice, Choices};
 use call_gate::ConnSet;
 use elf_image::Image;
@@ -18,8 +19,8 @@ const PAGE: u32 = 4096;
 // The most items that a session may receive.
 const MAX_ITEMS: u64 = 1 << 20;
 
-/// Who replays a record: the guest, the items received, how many events came, the connections that were found gone, and the answers of
-/// the allocator that were used.
+/// Who replays a record: the guest, the items received, how many events came, the connections that were found gone, the answers of
+/// the allocator that were used, and what differs from the record.
 #[derive(Drop)]
 pub struct Player {
     pub alloc: Global,
@@ -28,6 +29,7 @@ pub struct Player {
     pub events: u64,
     pub gone: ConnSet,
     pub choices: Vec<Choice>,
+    pub difference: Option<Difference>,
 }
 
 impl Player {
@@ -43,6 +45,7 @@ impl Player {
             events: 0,
             gone: ConnSet::make(alloc)?,
             choices: Vec::new(alloc),
+            difference: None,
         })
     }
 
@@ -66,6 +69,7 @@ impl Player {
             events: _,
             gone: _,
             choices,
+            difference: _,
         } = self;
         Choices::from_vec(choices)
     }

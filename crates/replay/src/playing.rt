@@ -6,11 +6,13 @@ ghost use Rattle.block_book.specs.Heap.{is_bare};
 ghost use Rattle.run_history.specs.Machine.{Chooses};
 ghost use Rattle.run_history.specs.Run.{does};
 ghost use Rattle.elf_image.specs.declared.image.Image.{Image};
+ghost use Rattle.replay.specs.Differing.{DiffersBy, HasFound};
 ghost use Rattle.replay.specs.Giving.{IsLastSend};
 ghost use Rattle.replay.specs.Replaying.{choice_by};
 ghost use Rattle.replay.specs.Playing.{stage_of, IsBetween, IsWaiting, IsWanting, StandsBetween, StandsWaiting, TurnsBy, GoesOnBy, HasNoFault, LinkTurns, LinkHears, CountsSteps};
-ghost use Rattle.replay.specs.Judging.{judged};
+ghost use Rattle.replay.specs.Judging.{ended_apart, judged, left_over, unusable_apart};
 
+use crate::difference::Difference;
 use crate::giver::Giver;
 use crate::player::Player;
 use block_book::{Ask, Choice};
@@ -39,6 +41,26 @@ fn choice_by(ask: Ask, line: Line) -> Choice
     }
 }
 
+// What differs where the answer to an ask can't be used.
+fn unusable_apart(number: u64, asked: Ask, choice: Choice) -> Difference
+    ensures { result ≡ unusable_apart number asked choice }
+{
+    if choice.ask.is(asked) {
+        Difference::Unusable {
+            number,
+            asked,
+            at: choice.at,
+            zeroed: choice.zeroed,
+        }
+    } else {
+        Difference::OtherAsk {
+            number,
+            asked,
+            told: choice.ask,
+        }
+    }
+}
+
 impl Player {
     // Runs the guest to its next question, and does what it asks for.
     pub(crate) fn turn<K: Link, G: Giver<K>, L: Ledger>(
@@ -50,19 +72,30 @@ impl Player {
     ) -> Result<(), Answer>
         requires stands { StandsBetween recorded.now (K.seen link.old) (stage_of self.old) }
         requires short { recorded.now.steps < 2 ^ 63 }
+        requires none { self.old.difference ≡ None }
         ensures turns { (image : Image) (began : Told) → IsBetween image recorded.now began (K.seen link.old) (stage_of self.old)
             → TurnsBy image recorded.now began (K.seen link.new) (IsLastSend began (K.seen link.old).told (G.Gave link.old link.new)) (stage_of self.new) result }
+        ensures differs { DiffersBy (HasFound recorded.now self.new.cpu.slots.live) self.old.difference self.new.difference result }
         ensures steps { CountsSteps steps.old steps.new self.old.cpu.slots.live.steps self.new.cpu.slots.live.steps result }
         ensures link { LinkTurns (K.seen link.old) (K.seen link.new) result }
         ensures went { K.Went link.old link.new }
     {
         match self.cpu.run_recorded(self.alloc, recorded.steps, steps) {
-            Ok(Question::Reached) => Err(self.judge(recorded)),
+            Ok(Question::Reached) => {
+                self.difference = self.left_over(recorded);
+                Err(self.judge())
+            }
             Ok(Question::Asks) => self.ask(recorded, link, steps),
             Ok(Question::Emits(conn, bytes)) => self.send(giver, link, conn, &bytes),
             Ok(Question::Wants(ask)) => self.choose(recorded, ask, steps),
-            Ok(Question::Exits(_)) => Err(self.judge(recorded)),
-            Ok(Question::Failed(_)) => Err(self.mismatch()),
+            Ok(Question::Exits(code)) => {
+                self.difference = self.ended_apart(recorded, code);
+                Err(self.judge())
+            }
+            Ok(Question::Failed(cause)) => {
+                self.difference = Some(Difference::Failed { cause });
+                Err(self.mismatch())
+            }
             Err(_) => Err(Answer::Memory),
         }
     }
@@ -78,6 +111,7 @@ impl Player {
         requires short { recorded.now.steps < 2 ^ 63 }
         ensures turns { (image : Image) (began : Told) → IsWaiting image recorded.now began (K.seen link.old) (stage_of self.old)
             → GoesOnBy image recorded.now began (K.seen link.new) (stage_of self.new) result }
+        ensures differs { DiffersBy (HasFound recorded.now self.new.cpu.slots.live) self.old.difference self.new.difference result }
         ensures steps { CountsSteps steps.old steps.new self.old.cpu.slots.live.steps self.new.cpu.slots.live.steps result }
         ensures link { LinkHears (K.seen link.old) (K.seen link.new) result }
         ensures went { K.Went link.old link.new }
@@ -99,15 +133,19 @@ impl Player {
     ) -> Result<(), Answer>
         requires wants { does None None self.old.cpu.slots.live.guest.machine ≡ Chooses ask }
         requires bare { is_bare self.old.cpu.slots.live.guest.heap ≡ true }
+        requires shorter { self.old.cpu.slots.live.steps < recorded.now.steps }
+        requires lives { self.old.cpu.slots.live.ended ≡ None }
         requires room { self.old.cpu.slots.live.steps < 2 ^ 64 - 1 }
         ensures turns { (image : Image) (began : Told) (seen : Seen) → seen.takes ≡ true → IsWanting image recorded.now began seen ask (stage_of self.old)
             → GoesOnBy image recorded.now began seen (stage_of self.new) result }
+        ensures differs { DiffersBy (HasFound recorded.now self.new.cpu.slots.live) self.old.difference self.new.difference result }
         ensures steps { CountsSteps steps.old steps.new self.old.cpu.slots.live.steps self.new.cpu.slots.live.steps result }
         ensures no_fault { HasNoFault result }
     {
         self.cpu.sound();
         let number = self.cpu.marks().choices;
         let Some(line) = line_at(recorded, number) else {
+            self.difference = Some(Difference::NoLine { number, asked: ask });
             return Err(self.mismatch());
         };
         let choice = choice_by(ask, line);
@@ -116,20 +154,50 @@ impl Player {
         }
         if !self.cpu.use_choice(ask, choice, steps) {
             let _ = self.choices.pop();
+            self.difference = Some(unusable_apart(number, ask, choice));
             return Err(self.mismatch());
         }
         Ok(())
     }
 
-    // The guest has come to its end, or to the record's: all was as recorded, or it wasn't.
-    fn judge(&self, recorded: &Recorded) -> Answer
-        ensures { result ≡ judged recorded.now self.now.cpu.slots.live }
+    // What differs at the record's end.
+    fn left_over(&self, recorded: &Recorded) -> Option<Difference>
+        ensures { result ≡ left_over recorded.now self.now.cpu.slots.live }
     {
         let marks = self.cpu.marks();
-        let used = recorded.lines.as_slice().len() as u64;
-        if marks.steps != recorded.steps || marks.choices != used || marks.taken != recorded.taken {
-            return self.mismatch();
+        let lines = recorded.lines.as_slice().len() as u64;
+        if marks.choices != lines {
+            return Some(Difference::LinesLeft {
+                used: marks.choices,
+                lines,
+            });
         }
-        Answer::Finished
+        if marks.taken != recorded.taken {
+            return Some(Difference::ItemsApart {
+                taken: marks.taken,
+                told: recorded.taken,
+            });
+        }
+        None
+    }
+
+    // What differs where the guest has ended itself with a code.
+    fn ended_apart(&self, recorded: &Recorded, code: u32) -> Option<Difference>
+        ensures { result ≡ ended_apart recorded.now code self.now.cpu.slots.live }
+    {
+        if self.cpu.marks().steps < recorded.steps {
+            return Some(Difference::Ended { code });
+        }
+        self.left_over(recorded)
+    }
+
+    // The guest has come to its end, or to the record's: all was as recorded, or it wasn't.
+    fn judge(&self) -> Answer
+        ensures { result ≡ judged self.now.difference self.now.cpu.slots.live.steps }
+    {
+        match self.difference {
+            None => Answer::Finished,
+            Some(_) => self.mismatch(),
+        }
     }
 }

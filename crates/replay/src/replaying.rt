@@ -2,8 +2,10 @@
 ghost use Rattle.std.specs.Prelude.{◌≡◌, ◌*◌, ◌<◌, ◌^◌};
 ghost use Rattle.replay.specs.Giving.{BreaksOff, WasHanded};
 ghost use Rattle.session_history.specs.Answering.{MayBegin};
-ghost use Rattle.replay.specs.Replaying.{HasFilledBy, HasReplayedBy, LinkAnswers};
+ghost use Rattle.replay.specs.Differing.{HasFilledBy};
+ghost use Rattle.replay.specs.Replaying.{HasReplayedBy, LinkAnswers};
 
+use crate::difference::Difference;
 use crate::giver::{AnyGiver, Giver};
 use crate::player::Player;
 use block_book::Choices;
@@ -60,15 +62,17 @@ pub fn replay_by<K: Link, G: Giver<K>, L: Ledger>(
     fill_by(alloc, image, recorded, giver, link, steps).answer
 }
 
-/// What a replay comes to: its answer, and the answers of the allocator that its run used, each with what was asked.
+/// What a replay comes to: its answer, at Mismatch what differs, and the answers of the allocator that its run used, each with what
+/// was asked.
 #[derive(Debug, Drop)]
 pub struct Filled {
     pub answer: Answer,
+    pub difference: Option<Difference>,
     pub choices: Choices,
 }
 
-/// The same, and the answers of the allocator that the run used. So what a record doesn't say of them is filled in: what was asked.
-/// They take room of their own.
+/// The same, what differs at Mismatch, and the answers of the allocator that the run used. So what a record doesn't say of them is
+/// filled in: what was asked. They take room of their own.
 pub fn fill_by<K: Link, G: Giver<K>, L: Ledger>(
     alloc: Global,
     image: &Image,
@@ -80,7 +84,7 @@ pub fn fill_by<K: Link, G: Giver<K>, L: Ledger>(
     requires window { image.now.window ≡ recorded.now.window * 1048576 }
     requires short { recorded.now.steps < 2 ^ 63 }
     requires link { MayBegin (K.seen link.old) }
-    ensures filled { HasFilledBy image.now recorded.now (K.seen link.old) (K.seen link.new) (BreaksOff K.seen K.Went G.Gave link.old link.new) result.answer result.choices steps.old steps.new }
+    ensures filled { HasFilledBy image.now recorded.now (K.seen link.old) (K.seen link.new) (BreaksOff K.seen K.Went G.Gave link.old link.new) result.answer result.difference result.choices steps.old steps.new }
     ensures link { LinkAnswers (K.seen link.old) (K.seen link.new) result.answer }
     ensures went { K.Went link.old link.new }
 {
@@ -89,6 +93,7 @@ pub fn fill_by<K: Link, G: Giver<K>, L: Ledger>(
         Err(AllocError) => {
             return Filled {
                 answer: Answer::Memory,
+                difference: None,
                 choices: Choices::from_vec(Vec::new(alloc)),
             };
         }
@@ -97,6 +102,7 @@ pub fn fill_by<K: Link, G: Giver<K>, L: Ledger>(
         if let Err(answer) = player.turn(recorded, giver, link, steps) {
             return Filled {
                 answer,
+                difference: player.difference,
                 choices: player.into_choices(),
             };
         }

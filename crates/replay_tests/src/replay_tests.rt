@@ -1,8 +1,9 @@
 // What replays give, and how they end. The counts of instructions and the journals are worked by hand from the texts of the programs.
-use crate::replayed::{Played, Told, assembled, expect_replay};
+use crate::replayed::{Played, Told, assembled, expect_difference, expect_replay};
 use block_book::Ask;
 use example_guests::source_of;
-use run_history::Answer;
+use replay::Difference;
+use run_history::{Answer, Cause};
 use std::alloc::Global;
 use std::process::Abort;
 use std::test::Fail;
@@ -325,4 +326,138 @@ fn a_run_that_fails_is_no_recorded_one(rt: HostRuntime) -> Result<(), Fail> {
         expect_replay(&rt, rt.alloc(), &image, &HI, &told, answer, "")?;
     }
     Ok(())
+}
+
+const SEVENTEEN: Ask = Ask::Malloc { size: 17 };
+
+// A run that isn't the recorded one: what its record says, and what differs.
+type Apart<'a> = (Told<'a>, Difference);
+
+// Replays each run of a program, and compares what differs.
+fn expect_apart(
+    rt: &impl Abort,
+    alloc: Global,
+    program: &str,
+    cases: &[Apart<'_>],
+) -> Result<(), Fail> {
+    let image = assembled(alloc, program)?;
+    for (told, difference) in cases {
+        expect_difference(rt, alloc, &image, &HI, told, *difference)?;
+    }
+    Ok(())
+}
+
+// A record of version 1.
+fn bare(choices: &[(u32, bool)], steps: u64, taken: u64) -> Told<'_> {
+    Told {
+        choices,
+        asks: &[],
+        steps,
+        taken,
+    }
+}
+
+#[test]
+fn differs_by_the_end_of_the_input_and_by_items(rt: HostRuntime) -> Result<(), Fail> {
+    let cases = [
+        (bare(&[], 22, 3), Difference::InputEnded),
+        (
+            bare(&[], 21, 1),
+            Difference::ItemsApart { taken: 2, told: 1 },
+        ),
+        (
+            bare(&[], 21, 3),
+            Difference::ItemsApart { taken: 2, told: 3 },
+        ),
+    ];
+    expect_apart(&rt, rt.alloc(), ECHO, cases.as_slice())
+}
+
+#[test]
+fn differs_by_lines_and_by_an_early_end(rt: HostRuntime) -> Result<(), Fail> {
+    let one: &[(u32, bool)] = &[(0, false)];
+    let cases = [
+        (
+            bare(&[], 6, 0),
+            Difference::NoLine {
+                number: 0,
+                asked: SEVENTEEN,
+            },
+        ),
+        // A line that isn't reached stands before an item that wasn't taken.
+        (bare(one, 2, 1), Difference::LinesLeft { used: 0, lines: 1 }),
+        (
+            bare(&[(0, false), (0, false)], 6, 0),
+            Difference::LinesLeft { used: 1, lines: 2 },
+        ),
+        (bare(one, 7, 0), Difference::Ended { code: 5 }),
+    ];
+    expect_apart(&rt, rt.alloc(), ASKS_ONCE, cases.as_slice())
+}
+
+#[test]
+fn differs_by_an_answer_that_cannot_be(rt: HostRuntime) -> Result<(), Fail> {
+    let unusable = |at: u32, zeroed: bool| Difference::Unusable {
+        number: 0,
+        asked: SEVENTEEN,
+        at,
+        zeroed,
+    };
+    let cases = [
+        (bare(&[(0, true)], 6, 0), unusable(0, true)),
+        (bare(&[(8, false)], 6, 0), unusable(8, false)),
+    ];
+    expect_apart(&rt, rt.alloc(), ASKS_ONCE, cases.as_slice())
+}
+
+#[test]
+fn differs_by_what_is_asked(rt: HostRuntime) -> Result<(), Fail> {
+    let elements = Ask::Calloc { count: 3, size: 8 };
+    let turned = Ask::Calloc { count: 8, size: 3 };
+    let again = Ask::Realloc {
+        old: 0x12000,
+        size: 40,
+    };
+    let longer = Ask::Realloc {
+        old: 0x12000,
+        size: 41,
+    };
+    let choices: &[(u32, bool)] = &[(0x12000, true), (0x12020, false)];
+    let first: &[Ask] = &[turned, again];
+    let second: &[Ask] = &[elements, longer];
+    let cases = [
+        (
+            Told {
+                asks: first,
+                ..bare(choices, 9, 0)
+            },
+            Difference::OtherAsk {
+                number: 0,
+                asked: elements,
+                told: turned,
+            },
+        ),
+        (
+            Told {
+                asks: second,
+                ..bare(choices, 9, 0)
+            },
+            Difference::OtherAsk {
+                number: 1,
+                asked: again,
+                told: longer,
+            },
+        ),
+    ];
+    expect_apart(&rt, rt.alloc(), ASKS_AGAIN, cases.as_slice())
+}
+
+#[test]
+fn differs_by_a_failure(rt: HostRuntime) -> Result<(), Fail> {
+    let failed = Difference::Failed {
+        cause: Cause::AssertFailed(0),
+    };
+    let cases = [(bare(&[], 2, 0), failed)];
+    let program = "    addi a0, zero, 1\n    ebreak\n";
+    expect_apart(&rt, rt.alloc(), program, cases.as_slice())
 }

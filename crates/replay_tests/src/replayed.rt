@@ -7,7 +7,7 @@ use block_book::Ask;
 use elf_image::Image;
 use links::MemoryLink;
 use msg_frame::Framing;
-use replay::replay;
+use replay::{AnyGiver, Difference, Filled, fill_by};
 use run_history::Answer;
 use rv_asm::assemble;
 use rx_io::Steps;
@@ -73,7 +73,7 @@ fn replay_counted<L: Ledger>(
     recorded: &Recorded,
     link: &mut MemoryLink,
     blank: Blank,
-) -> Answer
+) -> Filled
     requires name { blank.name ≡ L.name }
     requires parts { blank.parts ≡ L.parts }
     requires some { 0 < blank.parts }
@@ -82,10 +82,28 @@ fn replay_counted<L: Ledger>(
     requires may { MayBegin (seen_in link.old) }
 {
     let mut steps = Steps::<L>::start(blank);
-    replay(alloc, image, recorded, link, &mut steps)
+    fill_by(alloc, image, recorded, &AnyGiver, link, &mut steps)
 }
 
-// Replays, and compares the answer and the journal.
+// Replays a record over a link with a counter of its own.
+fn replay_told(
+    rt: &impl Abort,
+    alloc: Global,
+    image: &Image,
+    told: &Told<'_>,
+    link: &mut MemoryLink,
+) -> Result<Filled, Fail>
+    requires may { MayBegin (seen_in link.old) }
+{
+    let recorded = recorded_of(alloc, told)?;
+    let steps = recorded.steps;
+    assert!(rt; image.window == recorded.window.wrapping_mul(1 << 20));
+    assert!(rt; recorded.window == 1);
+    assert!(rt; steps < 1 << 63);
+    Ok(replay_counted::<Brand>(alloc, image, &recorded, link, Blank::new(1)))
+}
+
+// Replays, and compares the answer and the journal. What differs is there exactly at Mismatch.
 pub fn expect_replay(
     rt: &impl Abort,
     alloc: Global,
@@ -95,15 +113,29 @@ pub fn expect_replay(
     answer: Answer,
     journal: &str,
 ) -> Result<(), Fail> {
-    let recorded = recorded_of(alloc, told)?;
+    let steps = told.steps;
     let mut link = link_of(alloc, played.events, played.fails, played.gones)?;
-    let steps = recorded.steps;
-    assert!(rt; image.window == recorded.window.wrapping_mul(1 << 20));
-    assert!(rt; recorded.window == 1);
-    assert!(rt; steps < 1 << 63);
-    let found = replay_counted::<Brand>(alloc, image, &recorded, &mut link, Blank::new(1));
+    let found = replay_told(rt, alloc, image, told, &mut link)?;
     let line = line_of(alloc, link.journal())?;
+    let differs = matches!(answer, Answer::Mismatch { .. });
     assert_eq!(rt; line.as_slice(), journal.as_bytes(), "at {steps}");
-    assert_eq!(rt; found, answer, "at {steps}");
+    assert_eq!(rt; found.answer, answer, "at {steps}");
+    assert_eq!(rt; found.difference.is_some(), differs, "at {steps}");
+    Ok(())
+}
+
+// Replays, and compares what differs.
+pub fn expect_difference(
+    rt: &impl Abort,
+    alloc: Global,
+    image: &Image,
+    played: &Played<'_>,
+    told: &Told<'_>,
+    difference: Difference,
+) -> Result<(), Fail> {
+    let steps = told.steps;
+    let mut link = link_of(alloc, played.events, played.fails, played.gones)?;
+    let found = replay_told(rt, alloc, image, told, &mut link)?;
+    assert_eq!(rt; found.difference, Some(difference), "at {steps}");
     Ok(())
 }

@@ -9,6 +9,7 @@ turns-init g c =
       between = starts_between c.requires.link.fresh c.in-Ok.ensures;
       link = gone_nowhere c.requires.link.takes c.requires.link.gives;
       steps = omega (arith, starts_at c.args.image.now c.in-Ok.player c.in-Ok.ensures.live);
+      none = c.in-Ok.ensures.difference;
       went = g.met.K.Link.went_same c.args.link.now;
     }
 
@@ -30,6 +31,7 @@ returns-in-Err-turn-clause-filled g c =
     let counted = c.in-Err-turn.ensures.steps.counted in
     filled_by g.K.Link.seen g.K.Link.Went g.G.Giver.Gave c.args.link.now c.turns.link c.turn.new.link
     c.turns.invariant.went c.turns.invariant.link.gives (omega (arith, c.turns.invariant.steps, counted)) (c.in-Err-turn.ensures.turns c.args.image.now (g.K.Link.seen c.args.link.now).told c.turns.invariant.between) c.into_choices.ensures
+    c.turns.player.difference c.turn.new.self.difference c.turns.invariant.none c.in-Err-turn.ensures.differs
 
 pub returns-in-Err-turn-clause-link : goal.returns-in-Err-turn-clause-link
 returns-in-Err-turn-clause-link g c =
@@ -41,5 +43,6 @@ turns-preserved g c =
       between = c.in_default.ensures.turns c.args.image.now (g.K.Link.seen c.args.link.now).told c.turns.invariant.between;
       link = gone_turning c.turns.invariant.link c.in_default.ensures.link;
       steps = omega (arith, c.turns.invariant.steps, c.in_default.ensures.steps.counted);
+      none = c.in_default.ensures.differs ∙ c.turns.invariant.none;
       went = g.met.K.Link.went_on c.args.link.now c.turns.link c.turn.new.link c.turns.invariant.went c.in_default.ensures.went;
     }

@@ -1,5 +1,7 @@
 use Rattle.run_history.specs.declared.answer.Answer.TheVariants.{Memory, Mismatch}
-use Rattle.replay.proofs.Terms.{List, None, Option, Some, ap, arith, subst, sym, vec_len, ◌<◌, ◌∙◌, ◌≡◌, slice_get, Choice, Answer, Marks, CpuState, chosen_standing, Live, Standing, Line, IsUnusable, IsBetween, IsWholeEnd, stage_of}
+use Rattle.replay.proofs.Terms.{List, None, Option, Some, ap, arith, subst, sym, vec_len, ℕ, ◌<◌, ◌∙◌, ◌≡◌, Err, slice_get, Choice, Answer, Marks, CpuState, chosen_standing, Live, Standing, Line, DiffersBy, HasFound, IsUnusable, IsBetween, IsWholeEnd, stage_of}
+use Rattle.replay.specs.declared.difference.Difference.TheVariants as difference
+use Rattle.replay.proofs.DifferLemmas.{unusable_differs}
 use Rattle.replay.proofs.ChooseLemmas.{dropped, no_choice, no_room, with_choice, unusable}
 use Rattle.replay.proofs.player.Player.choose.Goals as goal
 
@@ -38,3 +40,22 @@ returns-clause-turns g c image began seen still wanting =
     let live : c.use_choice.new.self.slots.live ≡ chosen_standing c.choice_by-choice.result c.args.self.now.cpu.slots.live = ap (λ (live : Live). live.standing) c.if-not-use_choice.ensures.live in
     subst (λ (choices : List Choice). IsBetween image c.args.recorded.now began seen (record (stage_of c.args.self.now) { live = c.use_choice.new.self.slots.live; choices = choices })) (sym c.in_default-push.ensures.items)
     (with_choice wanting c.sound.ensures.laid_out found c.choice_by-choice.ensures usable live c.use_choice.ensures.bare)
+
+pub returns-in_default-clause-differs : goal.returns-in_default-clause-differs
+returns-in_default-clause-differs g c =
+    let live = c.args.self.now.cpu.slots.live in
+    let number : c.marks-number.result.choices ≡ live.guest.machine.allocations = ap (λ (marks : Marks). marks.choices) c.marks-number.ensures in
+    let none : slice_get c.args.recorded.now.lines live.guest.machine.allocations ≡ None = sym (c.in_default.ensures ∙ ap (λ (n : ℕ). slice_get c.args.recorded.now.lines n) number) in
+    subst (λ (end : Answer). DiffersBy (HasFound c.args.recorded.now live) c.args.self.now.difference (Some (difference.NoLine c.marks-number.result.choices c.args.ask)) (Err end)) (sym c.mismatch.ensures)
+    ((c.requires.shorter, c.requires.lives, c.requires.wants), number, none)
+
+pub returns-then-not-use_choice-clause-differs : goal.returns-then-not-use_choice-clause-differs
+returns-then-not-use_choice-clause-differs g c =
+    let live = c.args.self.now.cpu.slots.live in
+    let number : c.marks-number.result.choices ≡ live.guest.machine.allocations = ap (λ (marks : Marks). marks.choices) c.marks-number.ensures in
+    let found : slice_get c.args.recorded.now.lines live.guest.machine.allocations ≡ Some c.in-Some.line = sym (c.in-Some.ensures ∙ ap (λ (n : ℕ). slice_get c.args.recorded.now.lines n) number) in
+    let same : c.use_choice.new.self.slots.live ≡ live = ap (λ (cpu : CpuState _). cpu.slots.live) c.if-not-use_choice.ensures.live in
+    unusable_differs c.args.recorded.now c.args.self.now.difference live c.use_choice.new.self.slots.live c.mismatch-then-not-use_choice.result c.marks-number.result.choices c.args.ask c.choice_by-choice.result c.in-Some.line
+    c.unusable_apart.result same c.unusable_apart.ensures number c.choice_by-choice.ensures c.mismatch-then-not-use_choice.ensures
+    (c.requires.shorter, c.requires.lives, c.requires.wants) found
+    (unusable live c.args.ask c.in-Some.line c.choice_by-choice.result c.sound.ensures.laid_out c.requires.bare c.choice_by-choice.ensures (sym c.if-not-use_choice.ensures.usable))

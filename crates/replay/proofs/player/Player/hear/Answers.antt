@@ -1,5 +1,6 @@
-use Rattle.replay.proofs.Terms.{rules, subst, sym, ◌∙◌, events_in, Answer, in_order_shown, LeavesLink, IsWholeEnd, stage_of}
+use Rattle.replay.proofs.Terms.{rules, subst, sym, ◌∙◌, Err, events_in, Answer, in_order_shown, DiffersBy, IsInputEnd, LeavesLink, IsWholeEnd, stage_of}
 use Rattle.replay.proofs.HearLemmas.{heeds_event, takes_none}
+use Rattle.replay.proofs.DifferLemmas.{fault_never}
 use Rattle.replay.proofs.LeavingLemmas.{heeds_none, leaves_both, leaves_untaken, taken_known}
 use Rattle.replay.proofs.player.Player.hear.Goals as goal
 
@@ -38,3 +39,8 @@ returns-in-Err-clause-link g c =
       cause = search rules;
       gives = shows.gives;
     }
+
+pub returns-in-Err-clause-differs : goal.returns-in-Err-clause-differs
+returns-in-Err-clause-differs g c =
+    subst (λ (end : Answer). DiffersBy IsInputEnd c.args.self.now.difference c.args.self.now.difference (Err end)) (sym c.answer_to.ensures)
+    (fault_never IsInputEnd c.args.self.now.difference c.in-Err.fault)

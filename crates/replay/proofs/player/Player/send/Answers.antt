@@ -1,6 +1,7 @@
 use Rattle.links.specs.declared.journal.Given.{Given}
 use Rattle.links.specs.declared.journal.Given.TheVariants.{All, Gone}
-use Rattle.replay.proofs.Terms.{Bool, List, ap, subst, sym, true, ℕ, ◌∙◌, Err, Ok, slice_set, Send, Gives, Seen, Answer, IsLastSend, IsBetween, IsEnd, has, stage_of}
+use Rattle.replay.proofs.Terms.{Bool, List, ap, subst, sym, true, ℕ, ◌∙◌, Err, Ok, slice_set, Send, Gives, Seen, Answer, DiffersBy, Never, IsLastSend, IsBetween, IsEnd, has, stage_of}
+use Rattle.replay.proofs.DifferLemmas.{fault_never}
 use Rattle.replay.proofs.GivingLemmas.{sends_none, sends_whole, sends_cut, sends_broken}
 use Rattle.replay.proofs.player.Player.send.Goals as goal
 
@@ -36,3 +37,8 @@ returns-in-Err-clause-sends g c image recording began sending =
     (ap (has c.args.self.now.gone) (sym c.from.ensures) ∙ sym c.has.ensures.value ∙ c.if-has.false)
     (subst (λ (bytes : List ℕ). Gives (g.K.Link.seen c.args.link.now).told (g.K.Link.seen c.give.new.link).told c.args.conn bytes (Err c.in-Err.fault)) c.as_slice.ensures shows.told)
     (subst (λ (bytes : List ℕ). g.G.Giver.Gave c.args.link.now c.give.new.link c.args.conn bytes) c.as_slice.ensures c.in-Err.ensures.gave))
+
+pub returns-in-Err-clause-differs : goal.returns-in-Err-clause-differs
+returns-in-Err-clause-differs g c =
+    subst (λ (end : Answer). DiffersBy Never c.args.self.now.difference c.args.self.now.difference (Err end)) (sym c.answer_to.ensures)
+    (fault_never Never c.args.self.now.difference c.in-Err.fault)
