@@ -1,7 +1,7 @@
 -- A trial that was made, and one that is adopted.
 use Rattle.reply_ledger.specs.Trials as ledgers
 use Rattle.session_notes.specs.declared.episode.Tried.TheVariants as tried
-use Rattle.recovery.proofs.Terms.{List, None, Option, Some, [], ap, arith, drop, false, length, refl, subst, sym, take, true, ℕ, ◌++◌, ◌+◌, ◌-◌, ◌∙◌, ◌∷◌, ◌≡◌, ◌≤◌, MatchBool-at_true, and_parts, length-map, take-append-le, none-some, same_Some, slice_get-map, slice_get_within, IsSome, IsSomeAnd, is_some, option_map, slice_get, Send, sent_to, Choice, Env, Checkpoint, checkpoint_of, checkpoints_of, from_newest, Saved, Log, shown_passed, shows-adopted, agree-append, Ledger, connection_of, Shows, adopted, agree, trial_sends, sent_to-append, Path, CpuState, standing_of, Standing, served_grows, received, KeepsReplies, Tried, Try, survives, steps_later, Trial, chance_at, plan_of_trial, Adopted, FailedAt, Failure, items_of, pieces_of, taken_in, HasTried, IsAdopted, KeepsLedger, KeepsSaved, StandsOn, adopted_of, IsMade}
+use Rattle.recovery.proofs.Terms.{List, None, Option, Some, [], ap, arith, drop, false, length, refl, subst, sym, take, true, ℕ, ◌++◌, ◌+◌, ◌-◌, ◌∙◌, ◌∷◌, ◌≡◌, ◌≤◌, MatchBool-at_true, and_parts, length-map, take-append-le, none-some, same_Some, slice_get-map, slice_get_within, IsSome, IsSomeAnd, is_some, option_map, slice_get, Send, sent_to, Choice, Env, Checkpoint, checkpoint_of, checkpoints_of, from_newest, Saved, Log, shown_passed, shows-adopted, agree-append, Ledger, connection_of, Shows, adopted, agree, trial_sends, sent_to-append, Path, CpuState, standing_of, Standing, served_grows, received, KeepsReplies, Tried, Try, survives, steps_later, Trial, chance_at, plan_of_trial, Adopted, FailedAt, Failure, items_of, pieces_of, taken_in, Served, HasTried, IsAdopted, KeepsLedger, KeepsSaved, StandsOn, adopted_of, steps_of, HasBegun, IsMade}
 use Rattle.recovery.proofs.Joining.{Beside, now_is, now_covers}
 use Rattle.recovery.proofs.Starting.{from_at, failed_still, same_front}
 use Rattle.trials.proofs.Recovered.{survives_so}
@@ -93,6 +93,21 @@ module _ {R : Type 0} where
         right = h.trial;
         tries_are = pushed ∙ ap (λ n. noted ++ record { checkpoint = n; env = env; tried = result } ∷ []) (taken_in_ring old.slots.saved index checkpoint same here at);
         counted = counted_by (from_newest old.slots.saved index) checkpoint h.path before here counted h.stands (steps_later failure.rules.limits (items_of failure) (plan_of_trial failure.plan checkpoint.state.machine.taken env point) checkpoint h.path h.trial.from);
+      }
+
+  -- it was begun, and had come here
+  pub begun_one : {failure : Failure} {point : ℕ} {checkpoint : Path} {env : Env} {old : CpuState R} {log : Log} {ledger : Ledger} (cpu : CpuState R) (index : ℕ) {before after : ℕ} → FailedAt point failure old log ledger → slice_get failure.ring index ≡ Some checkpoint
+      → IsSomeAnd (from_newest old.slots.saved index) (λ one. after + one.state.steps ≡ before + cpu.slots.live.steps) → (path : Path)
+      → Served failure.rules.limits (items_of failure) (plan_of_trial failure.plan checkpoint.state.machine.taken env point) checkpoint path → cpu.slots.live ≡ standing_of path
+      → HasBegun failure point (record { checkpoint = checkpoint; env = env } ∷ []) before after
+  begun_one {failure = failure} {point = point} {checkpoint = checkpoint} {env = env} {old = old} cpu index {before = before} failed found counted path from stands =
+      let here : option_map (λ one. one.state) (from_newest old.slots.saved index) ≡ Some (standing_of checkpoint) = failed.has.saved index (slice_get_within failure.ring index checkpoint found) ∙ ap (λ (o : Option Path). option_map standing_of o) found in
+      let counts = counted_by (from_newest old.slots.saved index) checkpoint path before here counted stands
+      (steps_later failure.rules.limits (items_of failure) (plan_of_trial failure.plan checkpoint.state.machine.taken env point) checkpoint path from) in
+      record {
+        unfinished = record { trials = []; last = Some (record { chance = record { checkpoint = checkpoint; env = env }; path = path }) };
+        begins = record { others = []; first = refl; from = from };
+        counted = let none : steps_of [] ≡ 0 = refl in omega (arith, none, counts);
       }
 
   -- the ledger beside a trial that survived

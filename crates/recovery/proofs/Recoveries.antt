@@ -1,5 +1,5 @@
 -- What a recovery makes of a failure, from what its walk left.
-use Rattle.recovery.proofs.Terms.{List, Option, Some, [], ap, arith, drop, length, refl, subst, sym, take, ℕ, ◌++◌, ◌+◌, ◌-◌, ◌<◌, ◌∙◌, ◌≡◌, ◌≤◌, slice_get_within, Choice, Checkpoints, without_newer, Saved, Slots, Log, Ledger, AsksFor, Path, Served, CpuState, standing_of, Standing, Episode, Try, chained_at, steps_later, IsRecovery, episode_of, Trial, WalksOver, table, plan_of_trial, Adopted, FailureSite, Failure, items_of, pieces_of, HasWalked, KeepsSaved, StandsOn, HasSameBytes, IsEpisode, IsInForce, Adopts, HasAdoptedRun, HasToRecover, KeepsSlots, recovery_of, keeping_by}
+use Rattle.recovery.proofs.Terms.{List, Option, Some, [], ap, arith, drop, length, refl, subst, sym, take, ℕ, ◌++◌, ◌+◌, ◌-◌, ◌<◌, ◌∙◌, ◌≡◌, ◌≤◌, slice_get_within, Choice, Checkpoints, without_newer, Saved, Slots, Log, Ledger, AsksFor, Path, Served, CpuState, standing_of, Standing, Episode, Try, chained_at, steps_later, IsRecovery, episode_of, Trial, WalksOver, table, plan_of_trial, Adopted, FailureSite, Failure, items_of, pieces_of, HasWalked, KeepsSaved, StandsOn, HasBegun, HasSameBytes, IsEpisode, IsInForce, Adopts, HasAdoptedRun, HasToRecover, KeepsSlots, recovery_of, keeping_by}
 use Rattle.recovery.proofs.RingLemmas.{as_many_stand, ring_beside, ring_adopts}
 use Rattle.recovery.proofs.Forces.{in_force_from}
 use Rattle.recovery.proofs.Survived.{HasSurvived, adopted_asks, OwnAnswers, own_answers}
@@ -21,6 +21,10 @@ module _ {R : Type 0} {site : FailureSite} {failure : Failure} {old : CpuState R
     checkpoints = has.failed.has.checkpoints;
     walks = subst (λ n. WalksOver failure.rules.limits (items_of failure) failure.plan (pieces_of failure) n (table failure.ring) w.trials) (sym has.failed.point_is) w.walks;
   }
+
+  -- memory broke the walk off, at as many items as the survivor had taken
+  pub begun_at : {before after : ℕ} → HasBegun failure site.point (table failure.ring) before after → HasBegun failure failure.failed.state.machine.taken (table failure.ring) before after
+  begun_at {before = before} {after = after} b = subst (λ n. HasBegun failure n (table failure.ring) before after) (sym has.failed.point_is) b
 
   -- the episode tells of it
   pub episode_tells : (begun : Path) (episode : Episode) {cpu : CpuState R} {own : List Choice} {later : Ledger} {before after : ℕ} {adopted : Option Adopted} → IsEpisode site episode

@@ -2,7 +2,7 @@
 use Rattle.reply_ledger.specs.Trials as ledgers
 use Rattle.guest_cpu.specs.declared.event.Event.TheVariants as event
 use Rattle.session_notes.specs.declared.episode.Tried.TheVariants as tried
-use Rattle.recovery.proofs.Terms.{AllocError, Bool, List, None, Option, Some, [], ap, append_assoc, arith, length, refl, subst, sym, ℕ, ◌++◌, ◌<◌, ◌∙◌, ◌∷◌, ◌≡◌, ◌≤◌, Err, IsSome, Ok, Result, Send, Choice, Heap, Env, Log, IsOpened, Ledger, NotBefore, times_of, discarded, trial_sends, Cause, AsksFor, FailsBy, Path, Event, CpuState, live_of, Standing, IsSilent, Tried, everywhere, Failure, IsUnder, items_of, HasCome, IsAsking, IsJudged, IsLater, IsLaterIf, IsTrying, SendsBy, TurnsBy, KeepsLedger, KeepsSaved}
+use Rattle.recovery.proofs.Terms.{AllocError, Bool, List, None, Option, Some, [], ap, append_assoc, arith, length, refl, subst, sym, ℕ, ◌++◌, ◌<◌, ◌∙◌, ◌∷◌, ◌≡◌, ◌≤◌, Err, IsSome, Ok, Result, Send, Choice, Heap, Env, Log, IsOpened, Ledger, NotBefore, times_of, discarded, trial_sends, Cause, AsksFor, FailsBy, Path, Event, CpuState, live_of, standing_of, Standing, GoesOn, IsSilent, served_on, Tried, trial_serves, everywhere, Failure, IsUnder, items_of, HasCome, HasStopped, IsAsking, IsJudged, IsLater, IsLaterIf, IsTrying, SendsBy, TurnsBy, KeepsLedger, KeepsSaved}
 use Rattle.recovery.proofs.Running.{Ran, ran_on, goes_silently, SendsOn, ran_sends}
 use Rattle.recovery.proofs.Coming.{fails_here, exits_past}
 use Rattle.recovery.proofs.Sending.{sends_opened, sends_later, sends_same, sends_other}
@@ -30,6 +30,23 @@ module _ {R : Type 0} where
       let runs = (ran_on failure point checkpoint env old new choices log ledger budget permits result under t ran).ran in
       let from : old.slots.live.steps ≡ t.path.steps = ap (λ (s : Standing). s.steps) t.stands in
       omega (arith, from, ap (λ (s : Standing). s.steps) runs.stands, runs.goes.later)
+
+  -- it goes on no more from where it has come
+  stops_there : (failure : Failure) (point : ℕ) (checkpoint : Path) (env : Env) (old new : CpuState R) (choices : List Choice) (log : Log) (ledger : Ledger) (t : IsTrying failure point checkpoint env old choices log ledger) (now : Path)
+      → GoesOn failure.rules.limits (items_of failure) (everywhere env point) t.path now → standing_of now ≡ new.slots.live → HasStopped failure point checkpoint env new
+  stops_there failure point checkpoint env old new choices log ledger t now goes stands = record {
+    path = now;
+    from = trial_serves failure.rules.limits (items_of failure) failure.image failure.plan env point checkpoint now t.from (omega (arith, goes.taken, t.unharmed.early))
+        (served_on failure.rules.limits (items_of failure) (everywhere env point) checkpoint t.path now t.served goes.served);
+    stands = sym stands;
+  }
+
+  -- memory ran out behind what the guest ran to
+  pub ran_stops : (failure : Failure) (point : ℕ) (checkpoint : Path) (env : Env) (old new : CpuState R) (choices : List Choice) (log : Log) (ledger : Ledger) (budget : ℕ) (permits : Heap → ℕ → ℕ → Bool) → IsUnder failure budget permits
+      → (result : Result Event AllocError) → IsTrying failure point checkpoint env old choices log ledger → Ran budget permits env old new result → HasStopped failure point checkpoint env new
+  ran_stops failure point checkpoint env old new choices log ledger budget permits under result t ran =
+      let runs = (ran_on failure point checkpoint env old new choices log ledger budget permits result under t ran).ran in
+      stops_there failure point checkpoint env old new choices log ledger t runs.now runs.goes runs.stands
 
   module _ (failure : Failure) (point : ℕ) (checkpoint : Path) (env : Env) (old new : CpuState R) (choices : List Choice) (log : Log) (ledger : Ledger) (budget : ℕ) (permits : Heap → ℕ → ℕ → Bool) (under : IsUnder failure budget permits) (found : Event) where
     -- the guest ran to this event
@@ -108,7 +125,7 @@ module _ {R : Type 0} where
         of t s now (Ok None) h = sends_same failure point checkpoint env old new choices log ledger after conn bytes taken t s saved now h.0 h.1 (h.2 t.agrees)
         of t s now (Ok (Some result)) h =
             subst (HasCome failure point checkpoint env new choices after) (sym h.2) (sends_other failure point checkpoint env old new choices log ledger after conn bytes taken t s saved h.1)
-        of t s now (Err fault) h = tt
+        of t s now (Err fault) h = stops_there failure point checkpoint env old new choices log ledger t s.now s.goes s.stands
 
     pub emits_later : (conn : ℕ) (bytes : List ℕ) → found ≡ event.Emits conn bytes → IsTrying failure point checkpoint env old choices log ledger → Ranto found → old.slots.live.steps < new.slots.live.steps
     emits_later conn bytes is t ran =

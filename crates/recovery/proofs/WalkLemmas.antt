@@ -1,6 +1,6 @@
 -- A walk goes on from chance to chance.
 use Rattle.std.proofs.lemmas.List.Sums.{sum_by-append}
-use Rattle.recovery.proofs.Terms.{Bool, List, None, Some, [], ap, append-nil, append_assoc, arith, cond, false, length, refl, subst, suc, sym, take, true, zero, ℕ, ◌++◌, ◌+◌, ◌-◌, ◌∙◌, ◌∷◌, ◌≡◌, ◌≤◌, map-append, take_all, none-some, same_Some, MatchBool, map, slice_get, sum, Choice, Heap, Env, Log, Ledger, discarded, Path, CpuState, Try, survives, Chance, IsRight, Trial, WalksOver, chances_at, environments, survivor_in, table, try_of, Adopted, CanTry, FailedAt, Failure, IsUnder, items_of, pieces_of, HasWalked, KeepsLedger, KeepsSaved, steps_of, AdoptedLast, AdoptedOne, AreTried, FailedOne, FailedSome, HasSameBytes}
+use Rattle.recovery.proofs.Terms.{Bool, List, None, Some, [], Option, MatchBool-at_false, MatchBool-at_true, ap, append-nil, append_assoc, arith, cond, false, length, refl, subst, suc, sym, take, true, zero, ℕ, ◌++◌, ◌+◌, ◌-◌, ◌∙◌, ◌∷◌, ◌≡◌, ◌≤◌, map-append, take_all, none-some, same_Some, MatchBool, map, slice_get, sum, Choice, Heap, Env, Log, Ledger, discarded, Path, CpuState, Try, survives, Chance, IsRight, Trial, WalksOver, chances_at, environments, survivor_in, table, try_of, Adopted, CanTry, FailedAt, Failure, IsUnder, items_of, pieces_of, HasWalked, KeepsLedger, KeepsSaved, steps_of, Attempt, BeginsOver, AdoptedLast, AdoptedOne, AreTried, FailedOne, FailedSome, HasBegun, HasSameBytes}
 use Rattle.recovery.proofs.Starting.{failed_still}
 use Rattle.recovery.proofs.Adopting.{adopted_survives}
 use Rattle.session_history.proofs.Connected.{take_one}
@@ -66,6 +66,79 @@ tried_then failure point [] (trial ∷ trials) are survived = absurd are
 tried_then failure point (chance ∷ chances) [] are survived = absurd are
 tried_then failure point (chance ∷ chances) (trial ∷ trials) {last = last} are survived =
     ap (λ (b : Bool). cond b (Some trial) (survivor_in (trials ++ last ∷ []))) are.2 ∙ tried_then failure point chances trials are.3 survived
+
+abbrev Begins : Failure → ℕ → List Chance → List Trial → Option Attempt → Type 0
+Begins failure point chances trials last = BeginsOver failure.rules.limits (items_of failure) failure.plan (pieces_of failure) point chances trials last
+
+-- of more chances the first were tried so
+begins_more : (failure : Failure) (point : ℕ) (chances more : List Chance) (trials : List Trial) (last : Option Attempt) → Begins failure point chances trials last → Begins failure point (chances ++ more) trials last
+begins_more failure point chances more [] None begins = tt
+begins_more failure point chances more [] (Some attempt) begins = record { others = begins.others ++ more; first = ap (λ (l : List Chance). l ++ more) begins.first; from = begins.from }
+begins_more failure point [] more (trial ∷ trials) last begins = absurd begins
+begins_more failure point (chance ∷ chances) more (trial ∷ trials) last begins = (begins.0, begins.1, begins.2, begins_more failure point chances more trials last begins.3)
+
+-- and so it is behind some that were tried
+begins_behind : (failure : Failure) (point : ℕ) (front chances : List Chance) (tried trials : List Trial) (last : Option Attempt) → AreTried failure point front tried → Begins failure point chances trials last → Begins failure point (front ++ chances) (tried ++ trials) last
+begins_behind failure point [] chances [] trials last are begins = begins
+begins_behind failure point [] chances (trial ∷ tried) trials last are begins = absurd are
+begins_behind failure point (chance ∷ front) chances [] trials last are begins = absurd are
+begins_behind failure point (chance ∷ front) chances (trial ∷ tried) trials last are begins = (are.0, are.1, are.2, begins_behind failure point front chances tried trials last are.3 begins)
+
+steps_of-both : (xs ys : List Trial) → steps_of (xs ++ ys) ≡ steps_of xs + steps_of ys
+steps_of-both xs ys =
+    let f : Trial → ℕ = λ (t : Trial). t.path.steps - t.chance.checkpoint.steps in
+    ap sum (map-append f xs ys) ∙ sum_by-append (λ x. x) (map f xs) (map f ys)
+
+-- memory broke off a walk behind some chances that were tried, and before others
+begun_within : {failure : Failure} {point : ℕ} (front : List Chance) {chances : List Chance} (more : List Chance) {noted mid : List Try} {before between after : ℕ} → FailedSome failure point front noted mid before between
+    → HasBegun failure point chances between after → HasBegun failure point (front ++ (chances ++ more)) before after
+begun_within {failure = failure} {point = point} front {chances = chances} more some one = record {
+  unfinished = record { trials = some.trials ++ one.unfinished.trials; last = one.unfinished.last };
+  begins = begins_behind failure point front (chances ++ more) some.trials one.unfinished.trials one.unfinished.last some.tried
+      (begins_more failure point chances more one.unfinished.trials one.unfinished.last one.begins);
+  counted = let both = steps_of-both some.trials one.unfinished.trials in omega (arith, both, some.counted, one.counted);
+}
+
+-- so it is within the chances of a checkpoint
+pub begun_env : {failure : Failure} {point : ℕ} {checkpoint : Path} (place : ℕ) {env : Env} {noted mid : List Try} {before between after : ℕ} → slice_get environments place ≡ Some env
+    → FailedSome failure point (chances_at checkpoint (take place environments)) noted mid before between → HasBegun failure point (record { checkpoint = checkpoint; env = env } ∷ []) between after
+    → HasBegun failure point (chances_at checkpoint environments) before after
+begun_env {failure = failure} {point = point} {checkpoint = checkpoint} place {env = env} {before = before} {after = after} is some one =
+    let envs = around environments place env is in
+    subst (λ (all : List Chance). HasBegun failure point all before after)
+    (sym (ap (chances_at checkpoint) envs.1 ∙ map-append (λ (e : Env). record { checkpoint = checkpoint; env = e }) (take place environments) (env ∷ envs.0)))
+    (begun_within (chances_at checkpoint (take place environments)) (chances_at checkpoint envs.0) some one)
+
+-- and within those of a ring
+pub begun_checkpoint : {failure : Failure} {point : ℕ} (index : ℕ) {checkpoint : Path} {noted mid : List Try} {before between after : ℕ} → slice_get failure.ring index ≡ Some checkpoint
+    → FailedSome failure point (table (take index failure.ring)) noted mid before between → HasBegun failure point (chances_at checkpoint environments) between after → HasBegun failure point (table failure.ring) before after
+begun_checkpoint {failure = failure} {point = point} index {checkpoint = checkpoint} {before = before} {after = after} is some one =
+    let ring = around failure.ring index checkpoint is in
+    subst (λ (all : List Chance). HasBegun failure point all before after)
+    (sym (ap table ring.1 ∙ table-append (take index failure.ring) (checkpoint ∷ ring.0)))
+    (begun_within (table (take index failure.ring)) (table ring.0) some one)
+
+-- a walk that ended with a trial that survived, but wasn't adopted
+begins_all : (failure : Failure) (point : ℕ) (chances : List Chance) (trials : List Trial) {trial : Trial} → Walks failure point chances trials → survivor_in trials ≡ Some trial
+    → (failing : List Trial) × (trials ≡ failing ++ trial ∷ []) × Begins failure point chances failing (Some (record { chance = trial.chance; path = trial.path }))
+begins_all failure point [] [] {trial = trial} walks found = absurd (none-some trial found)
+begins_all failure point [] (one ∷ trials) walks found = absurd walks
+begins_all failure point (chance ∷ chances) [] walks found = absurd walks
+begins_all failure point (chance ∷ chances) (one ∷ trials) {trial = trial} walks found = by (survives one.result) refl (begins_all failure point chances trials {trial = trial})
+  where
+    by : (b : Bool) → survives one.result ≡ b → (Walks failure point chances trials → survivor_in trials ≡ Some trial → (failing : List Trial) × (trials ≡ failing ++ trial ∷ []) × Begins failure point chances failing (Some (record { chance = trial.chance; path = trial.path })))
+        → (failing : List Trial) × (one ∷ trials ≡ failing ++ trial ∷ []) × Begins failure point (chance ∷ chances) failing (Some (record { chance = trial.chance; path = trial.path }))
+    by true is rest =
+        let none : trials ≡ [] = MatchBool-at_true (trials ≡ []) (Walks failure point chances trials) is walks.2 in
+        let same : one ≡ trial = same_Some one trial (sym (ap (λ (b : Bool). cond b (Some one) (survivor_in trials)) is) ∙ found) in (
+          [],
+          (λ i. same i ∷ none i),
+          subst (λ (t : Trial). Begins failure point (chance ∷ chances) [] (Some (record { chance = t.chance; path = t.path }))) same
+              (record { others = chances; first = ap (λ (c : Chance). c ∷ chances) (sym walks.0); from = walks.1.from }),
+        )
+    by false is rest =
+        let later = rest (MatchBool-at_false (trials ≡ []) (Walks failure point chances trials) is walks.2) (sym (ap (λ (b : Bool). cond b (Some one) (survivor_in trials)) is) ∙ found) in
+        (one ∷ later.0, ap (λ (l : List Trial). one ∷ l) later.1, (walks.0, walks.1, is, later.2))
 
 -- none were tried yet, and one more was
 pub failed_none : {failure : Failure} {point : ℕ} {noted : List Try} {before : ℕ} → FailedSome failure point [] noted noted before before
@@ -138,6 +211,18 @@ module _ {R : Type 0} where
     leaves = (tried_none failure point (table failure.ring) some.trials some.tried, is);
     counted = some.counted;
   }
+
+module _ {R : Type 0} where
+  -- memory ran out before the trial that survived was adopted
+  pub walked_unfinished : {failure : Failure} {point : ℕ} {trial : Trial} {cpu : CpuState R} {choices : List Choice} {old new : Ledger} {before after : ℕ} {tries : List Try} {adopted : Option Adopted} (w : HasWalked failure point cpu choices old new before after tries adopted)
+      → survivor_in w.trials ≡ Some trial → HasBegun failure point (table failure.ring) before after
+  walked_unfinished {failure = failure} {point = point} {trial = trial} w found =
+      let all = begins_all failure point (table failure.ring) w.trials {trial = trial} w.walks found in
+      record {
+        unfinished = record { trials = all.0; last = Some (record { chance = trial.chance; path = trial.path }) };
+        begins = all.2;
+        counted = let more = steps_of-more all.0 trial in let same = ap steps_of all.1 in omega (arith, same, more, w.counted);
+      }
 
 module _ {R : Type 0} where
   -- a walk up to a trial that was adopted

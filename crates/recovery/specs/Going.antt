@@ -76,16 +76,22 @@ module _ {R : Type 0} where
     pub goes : CanGoOn failure.rules failure.entries path
     pub sent : survives result ≡ true → ledger.trial ≡ Some (drop ledger.first path.state.sends)
 
+  -- Memory broke it off: its guest stands where it had come, by the plan that is in force if it is adopted.
+  pub record HasStopped (failure : Failure) (point : ℕ) (checkpoint : Path) (env : Env) (cpu : CpuState R) : Type 0 where
+    pub path : Path
+    pub from : Served failure.rules.limits (items_of failure) (plan_of_trial failure.plan checkpoint.state.machine.taken env point) checkpoint path
+    pub stands : cpu.slots.live ≡ standing_of path
+
   -- it goes on, or has come to a result
   abbrev pub ComesIf : Failure → ℕ → Path → Env → CpuState R → List Choice → Log → Ledger → Option Tried → Type 0
   ComesIf failure point checkpoint env cpu choices log ledger None = IsTrying failure point checkpoint env cpu choices log ledger
   ComesIf failure point checkpoint env cpu choices log ledger (Some result) = HasCome failure point checkpoint env cpu choices ledger result
 
-  -- by the answer of a turn, and of all turns; after want of memory nothing is known
+  -- by the answer of a turn, and of all turns
   abbrev pub TurnsBy : Failure → ℕ → Path → Env → CpuState R → List Choice → Log → Ledger → Result (Option Tried) AllocError → Type 0
   TurnsBy failure point checkpoint env cpu choices log ledger (Ok found) = ComesIf failure point checkpoint env cpu choices log ledger found
-  TurnsBy failure point checkpoint env cpu choices log ledger (Err fault) = Unit {0}
+  TurnsBy failure point checkpoint env cpu choices log ledger (Err fault) = HasStopped failure point checkpoint env cpu
 
   abbrev pub ComesBy : Failure → ℕ → Path → Env → CpuState R → List Choice → Ledger → Result Tried AllocError → Type 0
   ComesBy failure point checkpoint env cpu choices ledger (Ok result) = HasCome failure point checkpoint env cpu choices ledger result
-  ComesBy failure point checkpoint env cpu choices ledger (Err fault) = Unit {0}
+  ComesBy failure point checkpoint env cpu choices ledger (Err fault) = HasStopped failure point checkpoint env cpu

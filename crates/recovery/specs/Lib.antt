@@ -2,6 +2,7 @@ pub mod Terms
 pub mod Sessions
 pub mod Going
 pub mod Trying
+pub mod Unfinished
 pub mod Walking
 pub mod Watching
 pub mod Rings

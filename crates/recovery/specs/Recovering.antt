@@ -1,9 +1,9 @@
 -- What a recovery makes of a session whose program failed.
 use Rattle.std.specs.Prelude.{◌≡◌, ◌⊎◌, ℕ, ◌+◌, ◌-◌, ◌<◌, ◌≤◌, Bool, List, [], ◌++◌, length, take, drop, Option, None, Some, Result, Ok, Err, slice_get}
-use Rattle.recovery.specs.Terms.{AllocError, Choice, Heap, Checkpoints, checkpoints_of, without_newer, newest_slot, without_newer_slots, Log, Ledger, discarded, Cause, AsksFor, FailsBy, Path, CpuState, standing_of, KeepsReplies, Try, IsRecovery, Recovery, adopted_by, episode_of, Trial, survivor_in}
+use Rattle.recovery.specs.Terms.{AllocError, Choice, Heap, Checkpoints, checkpoints_of, without_newer, newest_slot, without_newer_slots, Log, Ledger, discarded, Cause, AsksFor, FailsBy, Path, CpuState, standing_of, KeepsReplies, Try, IsRecovery, Recovery, adopted_by, episode_of, Trial, survivor_in, table}
 use Rattle.recovery.specs.Sessions.{CanGoOn, Failure, IsUnder, FailedAt, taken_in}
 use Rattle.recovery.specs.Trying.{steps_of}
-use Rattle.recovery.specs.Walking.{HasSameBytes}
+use Rattle.recovery.specs.Walking.{HasSameBytes, HasBegun}
 use Rattle.recovery.specs.Watching.{TellsTable}
 use Rattle.recovery.specs.declared.walking.Adopted.{Adopted}
 use Rattle.recovery.specs.declared.walking.FailureSite.{FailureSite}
@@ -61,10 +61,10 @@ module _ {R : Type 0} where
     pub counted : after ≡ before + steps_of trials
     pub leaves : LeavesRun failure (recovery_of failure begun cause trials) cpu ring_before ring_after recorded chose choices log old new recovered.adopted
 
-  -- by the answer: after want of memory nothing is said here
+  -- by the answer; after want of memory a walk over the checkpoints was begun, or ended with a trial that wasn't adopted
   abbrev pub RecoversBy : Failure → Path → Cause → CpuState R → Checkpoints → Checkpoints → ℕ → List Choice → List Choice → Log → Ledger → Ledger → ℕ → ℕ → Result Recovered AllocError → Type 0
   RecoversBy failure begun cause cpu ring_before ring_after recorded chose choices log old new before after (Ok recovered) = HasRecovery failure begun cause recovered cpu ring_before ring_after recorded chose choices log old new before after
-  RecoversBy failure begun cause cpu ring_before ring_after recorded chose choices log old new before after (Err fault) = Unit {0}
+  RecoversBy failure begun cause cpu ring_before ring_after recorded chose choices log old new before after (Err fault) = HasBegun failure failure.failed.state.machine.taken (table failure.ring) before after
 
 module _ {R : Type 0} where
   -- the newer checkpoints were dropped, and the answers of the allocator are those of the guest behind the recorded ones: these are its last ones

@@ -3,6 +3,7 @@ use Rattle.std.specs.Prelude.{◌≡◌, ℕ, ◌+◌, ◌-◌, ◌≤◌, List,
 use Rattle.session_notes.specs.declared.episode.Tried.TheVariants as tried
 use Rattle.recovery.specs.Terms.{AllocError, Choice, Env, from_newest, Saved, slot_numbers, Ledger, discarded, Path, CpuState, standing_of, Standing, Writes, KeepsReplies, Tried, Try, survives, Trial, WalksOver, chance_at, survivor_in, table, try_of, IsTrial, plan_of_trial}
 use Rattle.recovery.specs.Sessions.{CanGoOn, Failure, items_of, pieces_of}
+use Rattle.recovery.specs.Going.{HasStopped}
 use Rattle.recovery.specs.declared.walking.Adopted.{Adopted}
 
 -- no call of a walk changes anything of a ledger but its trial
@@ -54,10 +55,10 @@ module _ {R : Type 0} where
     pub counted : IsSomeAnd saved (λ one. after + one.state.steps ≡ before + cpu.slots.live.steps)
     pub least : before ≤ after
 
-  -- by the answer: after want of memory only what stays is known
+  -- by the answer; after want of memory it had come this far
   abbrev pub TriesBy : Failure → ℕ → Path → Env → CpuState R → List Choice → Ledger → Result Tried AllocError → Type 0
   TriesBy failure point checkpoint env cpu choices ledger (Ok result) = HasTried failure point checkpoint env cpu choices ledger result
-  TriesBy failure point checkpoint env cpu choices ledger (Err fault) = Unit {0}
+  TriesBy failure point checkpoint env cpu choices ledger (Err fault) = HasStopped failure point checkpoint env cpu
 
   -- A trial is adopted, as the survivor: that of the chance at this index and in this environment, which ended itself with this code, if it did. The
   -- guest stands where it has come, on its checkpoint, with the pages marked that it wrote since then; these are its answers of the allocator since then; and

@@ -1,11 +1,12 @@
 -- A walk on its way over the table of trials.
 use Rattle.std.specs.Prelude.{◌≡◌, ℕ, ◌+◌, ◌-◌, List, [], ◌∷◌, ◌++◌, map, take, false, Option, None, Some, slice_get, Result, Ok, Err}
-use Rattle.recovery.specs.Terms.{AllocError, Choice, Env, Ledger, discarded, Path, CpuState, Episode, Try, survives, Chance, IsRight, Trial, chances_at, environments, try_of}
+use Rattle.recovery.specs.Terms.{AllocError, Choice, Env, Ledger, discarded, Path, CpuState, Episode, Try, survives, Chance, IsRight, Trial, chances_at, environments, table, try_of}
 use Rattle.recovery.specs.declared.walking.Adopted.{Adopted}
 use Rattle.recovery.specs.declared.walking.Walked.{Walked}
 use Rattle.recovery.specs.declared.walking.FailureSite.{FailureSite}
 use Rattle.recovery.specs.Sessions.{Failure, items_of, pieces_of}
 use Rattle.recovery.specs.Trying.{KeepsLedger, steps_of, IsAdopted, HasWalked}
+use Rattle.recovery.specs.Unfinished.{Unfinished, steps_unfinished, BeginsOver}
 
 -- a chance was tried, with this trial, and noted
 pub record IsMade (failure : Failure) (point : ℕ) (chance : Chance) (trial : Trial) (old new : List Try) (before after : ℕ) : Type 0 where
@@ -34,6 +35,13 @@ pub record FailedSome (failure : Failure) (point : ℕ) (chances : List Chance) 
   pub tried : AreTried failure point chances trials
   pub tries_are : new ≡ old ++ map try_of trials
   pub counted : after ≡ before + steps_of trials
+
+-- Memory broke off a walk over these chances: none of the trials so far survived, and so many instructions were counted as they did, and as the one did
+-- that was begun last.
+pub record HasBegun (failure : Failure) (point : ℕ) (chances : List Chance) (before after : ℕ) : Type 0 where
+  pub unfinished : Unfinished
+  pub begins : BeginsOver failure.rules.limits (items_of failure) failure.plan (pieces_of failure) point chances unfinished.trials unfinished.last
+  pub counted : after ≡ before + steps_unfinished unfinished
 
 -- a ledger without a trial, in which the passed bytes are as they were
 pub record HasSameBytes (old new : Ledger) : Type 0 where
@@ -73,7 +81,7 @@ module _ {R : Type 0} where
   abbrev pub OneBy : Failure → ℕ → Chance → CpuState R → List Choice → Ledger → List Try → List Try → ℕ → ℕ → Result (Option Adopted) AllocError → Type 0
   OneBy failure point chance cpu choices ledger old new before after (Ok (Some adopted)) = AdoptedOne failure point chance adopted cpu choices ledger old new before after
   OneBy failure point chance cpu choices ledger old new before after (Ok None) = FailedOne failure point chance old new before after
-  OneBy failure point chance cpu choices ledger old new before after (Err fault) = Unit {0}
+  OneBy failure point chance cpu choices ledger old new before after (Err fault) = HasBegun failure point (chance ∷ []) before after
 
   -- some were tried, and the last of them was adopted: that of this environment
   pub record AdoptedLast (failure : Failure) (point : ℕ) (checkpoint : Path) (adopted : Adopted) (cpu : CpuState R) (choices : List Choice) (ledger : Ledger) (old new : List Try) (before after : ℕ) : Type 0 where
@@ -92,9 +100,14 @@ module _ {R : Type 0} where
   abbrev pub AllBy : Failure → ℕ → Path → CpuState R → List Choice → Ledger → List Try → List Try → ℕ → ℕ → Result (Option Adopted) AllocError → Type 0
   AllBy failure point checkpoint cpu choices ledger old new before after (Ok (Some adopted)) = AdoptedLast failure point checkpoint adopted cpu choices ledger old new before after
   AllBy failure point checkpoint cpu choices ledger old new before after (Ok None) = FailedSome failure point (chances_at checkpoint environments) old new before after
-  AllBy failure point checkpoint cpu choices ledger old new before after (Err fault) = Unit {0}
+  AllBy failure point checkpoint cpu choices ledger old new before after (Err fault) = HasBegun failure point (chances_at checkpoint environments) before after
 
-  -- by the answer of a walk; after want of memory only what stays is known
+  -- by the answer of the loop over all checkpoints
+  abbrev pub RingBy : Failure → ℕ → CpuState R → List Choice → Ledger → Ledger → ℕ → ℕ → List Try → Result (Option Adopted) AllocError → Type 0
+  RingBy failure point cpu choices old new before after tries (Ok adopted) = HasWalked failure point cpu choices old new before after tries adopted
+  RingBy failure point cpu choices old new before after tries (Err fault) = HasBegun failure point (table failure.ring) before after
+
+  -- and by that of a walk
   abbrev pub WalksBy : Failure → ℕ → CpuState R → List Choice → Ledger → Ledger → ℕ → ℕ → Result Walked AllocError → Type 0
   WalksBy failure point cpu choices old new before after (Ok walked) = HasWalked failure point cpu choices old new before after walked.episode.tries walked.adopted
-  WalksBy failure point cpu choices old new before after (Err fault) = Unit {0}
+  WalksBy failure point cpu choices old new before after (Err fault) = HasBegun failure point (table failure.ring) before after

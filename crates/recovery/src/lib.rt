@@ -3,7 +3,7 @@
 //!
 //! What a trial is, and in which order trials are made, `trials` defines. This is the code that makes them.
 //! A walk changes no passed byte, and where no trial survives the ledger is as it was.
-//! After want of memory nothing is said of where the guest stands.
+//! After want of memory the trials so far are told, and how far the one had come that was under way. Where the guest stands isn't, but of one trial.
 //! A `Watch` may look at a failure before trials are made of it. The program's own is `NoWatch`.
 //! Its calls keep the ring right beside the guest, the log and the ledger of the session, and require that it is.
 //! `recover` asks the watch first, and then walks over the trials.

@@ -110,7 +110,8 @@ fn walk_watched<R: AccessRule, W: Watch, L: Ledger>(
 ///
 /// # Errors
 ///
-/// `AllocError` where memory runs out. The guest may then stand anywhere; `choices` and the checkpoints are as they were.
+/// `AllocError` where memory runs out. Then trials of the first chances were made, none of which was adopted, and one more may be begun. The guest
+/// may stand anywhere; `choices` and the checkpoints are as they were.
 pub fn recover<R: AccessRule, W: Watch, L: Ledger>(
     alloc: Global,
     cpu: &mut Cpu<R>,

@@ -67,7 +67,8 @@ fn settle(tried: Tried, replies: &mut Replies)
 ///
 /// # Errors
 ///
-/// `AllocError` where memory runs out. The guest may then stand anywhere, and a trial may be left in `replies`.
+/// `AllocError` where memory runs out. The guest then stands where the trial had come, and a trial may be left in `replies`. `steps` counts
+/// its instructions up to there.
 pub fn attempt<R: AccessRule, L: Ledger>(
     alloc: Global,
     cpu: &mut Cpu<R>,

@@ -4,8 +4,8 @@ ghost use Rattle.ckpt_ring.specs.Rings.{checkpoints_of};
 ghost use Rattle.run_history.specs.Served.{Path};
 ghost use Rattle.trials.specs.Tables.{environments};
 ghost use Rattle.recovery.specs.Sessions.{CanTry, Failure, FailedAt, IsUnder, taken_in};
-ghost use Rattle.recovery.specs.Trying.{KeepsSaved, HasWalked, adopted_of};
-ghost use Rattle.recovery.specs.Walking.{OneBy, AllBy, LedgerBy, StaysBy, IsEpisode, WalksBy};
+ghost use Rattle.recovery.specs.Trying.{KeepsSaved, adopted_of};
+ghost use Rattle.recovery.specs.Walking.{OneBy, AllBy, RingBy, LedgerBy, StaysBy, IsEpisode, WalksBy};
 
 use crate::trying::attempt;
 use alloc_env::Env;
@@ -187,7 +187,7 @@ fn try_ring<R: AccessRule, L: Ledger>(
     requires same { ring.now.standing ≡ checkpoints_of taken_in cpu.old.slots.saved }
     requires none { tries.old.items ≡ [] }
     ensures walks { (failure : Failure) → IsUnder failure budget (R.rule cpu.old.rule) → FailedAt point failure cpu.old items.now replies.old
-        → IfOk result (λ adopted. HasWalked failure point cpu.new choices.new.items replies.old replies.new steps.old steps.new tries.new.items adopted) }
+        → RingBy failure point cpu.new choices.new.items replies.old replies.new steps.old steps.new tries.new.items result }
     ensures saved { KeepsSaved cpu.old cpu.new }
     ensures ledger { StaysBy replies.old replies.new result }
     ensures least { steps.old ≤ steps.new }
@@ -216,7 +216,8 @@ fn try_ring<R: AccessRule, L: Ledger>(
 ///
 /// # Errors
 ///
-/// `AllocError` where memory runs out. The guest may then stand anywhere, and a trial may be left in `replies`.
+/// `AllocError` where memory runs out. Trials of the first chances were made then, none of which survived, and one more may be begun. The guest may
+/// stand anywhere, and a trial may be left in `replies`. `steps` counts the instructions of the trial that was begun, too.
 pub fn walk<R: AccessRule, L: Ledger>(
     alloc: Global,
     cpu: &mut Cpu<R>,

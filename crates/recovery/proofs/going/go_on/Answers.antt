@@ -36,3 +36,7 @@ pub returns-in-Ok-Some-clause-comes : goal.returns-in-Ok-Some-clause-comes
 returns-in-Ok-Some-clause-comes g c failure checkpoint under t =
     subst (λ found. ComesIf failure c.args.point checkpoint c.args.env c.turn.new.cpu c.turn.new.choices.items c.args.items.now c.turn.new.replies found) c.in-Ok-Some.field-0-is
     (c.in-Ok-Some.ensures.comes failure checkpoint (under_now g.R.AccessRule.rule c.args.budget c.args.cpu.now c.turns.cpu failure c.turns.invariant.base under) (c.turns.invariant.tries failure checkpoint under t))
+
+pub returns-in-Err-clause-comes : goal.returns-in-Err-clause-comes
+returns-in-Err-clause-comes g c failure checkpoint under t =
+    c.in-Err.ensures.comes failure checkpoint (under_now g.R.AccessRule.rule c.args.budget c.args.cpu.now c.turns.cpu failure c.turns.invariant.base under) (c.turns.invariant.tries failure checkpoint under t)

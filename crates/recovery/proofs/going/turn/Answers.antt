@@ -1,6 +1,6 @@
 use Rattle.recovery.proofs.Terms.{List, ap, arith, subst, sym, ◌∙◌, ◌≡◌, Choice, Limits, Marks, Standing, IsTrying}
 use Rattle.recovery.proofs.Running.{trying_room, live_base, base_on}
-use Rattle.recovery.proofs.Turning.{keeps_sent, later_if, later_sent, ran_later, ran_least, asks_now, chooses_now, chooses_later, exits_now, fails_now, emits_asks, emits_now, emits_later}
+use Rattle.recovery.proofs.Turning.{keeps_sent, later_if, later_sent, ran_later, ran_least, ran_stops, asks_now, chooses_now, chooses_later, exits_now, fails_now, emits_asks, emits_now, emits_later}
 use Rattle.recovery.proofs.going.turn.Goals as goal
 
 pub run_to_event-requires : goal.run_to_event-requires
@@ -71,6 +71,14 @@ pub returns-in-Ok-clause-later : goal.returns-in-Ok-clause-later
 returns-in-Ok-clause-later g c =
     let w = c.requires.tries in
     chooses_later w.failure c.args.point w.checkpoint c.args.env c.args.cpu.now c.run_to_event.new.self c.args.choices.now.items c.args.items.now c.args.replies.now c.args.budget (g.R.AccessRule.rule c.args.cpu.now.rule) w.under c.in-Ok-Chooses.field-0 c.in-Ok-Chooses.choice c.in-Ok-Chooses.field-0-is w.trying c.in-Ok-Chooses.ensures.event
+
+pub returns-in-Err-push-clause-comes : goal.returns-in-Err-push-clause-comes
+returns-in-Err-push-clause-comes g c failure checkpoint under t =
+    ran_stops failure c.args.point checkpoint c.args.env c.args.cpu.now c.run_to_event.new.self c.args.choices.now.items c.args.items.now c.args.replies.now c.args.budget (g.R.AccessRule.rule c.args.cpu.now.rule) under c.run_to_event.result t c.run_to_event.ensures.event
+
+pub returns-in-Err-clause-comes : goal.returns-in-Err-clause-comes
+returns-in-Err-clause-comes g c failure checkpoint under t =
+    ran_stops failure c.args.point checkpoint c.args.env c.args.cpu.now c.run_to_event.new.self c.args.choices.now.items c.args.items.now c.args.replies.now c.args.budget (g.R.AccessRule.rule c.args.cpu.now.rule) under c.run_to_event.result t c.run_to_event.ensures.event
 
 pub returns-in-Ok-Exits-clause-comes : goal.returns-in-Ok-Exits-clause-comes
 returns-in-Ok-Exits-clause-comes g c failure checkpoint under t =

@@ -1,6 +1,7 @@
 use Rattle.recovery.proofs.Terms.{List, length, refl, subst, sym, ◌+◌, ◌∙◌, ◌≤◌, Choice, Adopts, keeping_by}
 use Rattle.recovery.proofs.Survived.{has_survived, none_survived}
-use Rattle.recovery.proofs.Recoveries.{recovers, episode_tells, can_adopt, adopts_run, adopted_slots, walked_keeping}
+use Rattle.recovery.proofs.WalkLemmas.{walked_unfinished}
+use Rattle.recovery.proofs.Recoveries.{recovers, begun_at, episode_tells, can_adopt, adopts_run, adopted_slots, walked_keeping}
 use Rattle.recovery.proofs.recovering.recover.Goals as goal
 
 pub returns-in-None-clause-recovers : goal.returns-in-None-clause-recovers
@@ -72,3 +73,11 @@ returns-in-None-clause-keeping g c = λ every. walked_keeping every c.args.ring.
 pub returns-in-Ok-adopt-clause-keeping : goal.returns-in-Ok-adopt-clause-keeping
 returns-in-Ok-adopt-clause-keeping g c = λ every.
     (λ i. keeping_by (c.in-Ok-adopt.ensures.adopts.capacity i) every (c.in-Ok-adopt.ensures.adopts.slots i)) ∙ walked_keeping every c.args.ring.now.capacity c.args.cpu.now c.walk_watched.new.cpu c.in-Ok.ensures.saved
+
+pub returns-in-Ok-clause-recovers : goal.returns-in-Ok-clause-recovers
+returns-in-Ok-clause-recovers g c failure begun under has =
+    let w = c.in-Ok.ensures.walks failure under has.failed in
+    begun_at has (walked_unfinished w (has_survived w c.in-Some.is).survivor)
+
+pub returns-clause-recovers : goal.returns-clause-recovers
+returns-clause-recovers g c failure begun under has = begun_at has (c.in-Err.ensures.walks failure under has.failed)

@@ -25,3 +25,7 @@ returns-in-Ok-clause-tries g c failure checkpoint under failed found =
 
 pub returns-in-Ok-clause-ledger : goal.returns-in-Ok-clause-ledger
 returns-in-Ok-clause-ledger g c = settled_keeps (survives c.in-Ok.tried) c.args.replies.now c.go_on.new.replies c.settle.new.replies (c.in-Ok.ensures.ledger ∙ c.begin.ensures.ledger) c.settle.ensures
+
+pub returns-in-Err-clause-tries : goal.returns-in-Err-clause-tries
+returns-in-Err-clause-tries g c failure checkpoint under failed found =
+    c.in-Err.ensures.comes failure checkpoint (under_saved g.R.AccessRule.rule c.args.budget c.args.cpu.now c.begin.new.cpu failure c.begin.ensures.saved under) (c.begin.ensures.begins c.args.point c.args.items.now failure checkpoint c.args.env failed found)

@@ -2,7 +2,7 @@ use Rattle.recovery.proofs.Terms.{List, Option, arith, refl, subst, ◌∙◌, t
 use Rattle.recovery.proofs.Starting.{failed_still}
 use Rattle.recovery.proofs.Running.{saved_on}
 use Rattle.recovery.proofs.Ending.{under_saved}
-use Rattle.recovery.proofs.WalkLemmas.{failed_none, failed_env, adopted_env, can_still_try, same_saved}
+use Rattle.recovery.proofs.WalkLemmas.{failed_none, failed_env, begun_env, adopted_env, can_still_try, same_saved}
 use Rattle.recovery.proofs.walking.try_all.Goals as goal
 
 pub environments-init : goal.environments-init
@@ -46,3 +46,10 @@ returns-clause-tries g c failure checkpoint under failed found =
     let most = c.environments.auto.place-end in
     subst (λ (envs : List Env). FailedSome failure c.args.point (chances_at checkpoint envs) c.args.tries.now.items c.environments.tries.items c.args.steps.now c.environments.steps) (take_all c.environments.place environments (omega (arith, past, most)))
     (c.environments.invariant.tried failure checkpoint under failed found)
+
+pub returns-in-Err-clause-tries : goal.returns-in-Err-clause-tries
+returns-in-Err-clause-tries g c failure checkpoint under failed found =
+    let inv = c.environments.invariant in
+    begun_env c.environments.place c.environment-env.ensures (inv.tried failure checkpoint under failed found)
+    (c.in-Err.ensures.tries failure checkpoint (under_saved g.R.AccessRule.rule c.args.budget c.args.cpu.now c.environments.cpu failure inv.saved under)
+    (failed_still c.args.point failure c.args.cpu.now c.environments.cpu c.args.items.now c.args.replies.now c.environments.replies inv.saved inv.ledger failed) found)

@@ -1,6 +1,6 @@
 use Rattle.recovery.proofs.Terms.{sym}
 use Rattle.recovery.proofs.Ending.{checkpoint_there}
-use Rattle.recovery.proofs.Adopting.{trial_of, is_made, is_adopted, adopt_asks, adopted_survives, none_adopted}
+use Rattle.recovery.proofs.Adopting.{trial_of, is_made, begun_one, is_adopted, adopt_asks, adopted_survives, none_adopted}
 use Rattle.recovery.proofs.walking.try_one.Goals as goal
 
 pub returns-in-None-clause-tries : goal.returns-in-None-clause-tries
@@ -28,3 +28,13 @@ returns-in-Some-clause-tries g c failure checkpoint under failed found =
       made = is_made c.args.index c.taken_at-checkpoint.result failed found c.requires.same c.taken_at-checkpoint.ensures c.in-Ok.ensures.counts.counted c.in_default.ensures h;
       adopts = is_adopted c.args.index failed found c.in-Ok.ensures.saved c.in-Ok.ensures.ledger (sym c.in-Some.ensures) c.in-Ok.ensures.stands c.adopt.ensures h;
     }
+
+pub returns-in-Err-clause-tries : goal.returns-in-Err-clause-tries
+returns-in-Err-clause-tries g c failure checkpoint under failed found =
+    let h = c.in-Err.ensures.tries failure checkpoint under failed found in
+    begun_one c.attempt.new.cpu c.args.index failed found c.in-Err.ensures.counts.counted h.path h.from h.stands
+
+pub returns-in-Err-note-clause-tries : goal.returns-in-Err-note-clause-tries
+returns-in-Err-note-clause-tries g c failure checkpoint under failed found =
+    let h = c.in-Ok.ensures.tries failure checkpoint under failed found in
+    begun_one c.attempt.new.cpu c.args.index failed found c.in-Ok.ensures.counts.counted h.path h.trial.from h.stands

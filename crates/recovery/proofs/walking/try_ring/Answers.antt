@@ -2,7 +2,7 @@ use Rattle.recovery.proofs.Terms.{List, Option, [], arith, length, refl, subst, 
 use Rattle.recovery.proofs.Starting.{failed_still}
 use Rattle.recovery.proofs.Running.{saved_on}
 use Rattle.recovery.proofs.Ending.{under_saved, checkpoint_there, ring_length}
-use Rattle.recovery.proofs.WalkLemmas.{failed_none, failed_checkpoint, walked_none, walked_found, can_still_try, same_saved, same_bytes_on, same_bytes_discarded, failed_all}
+use Rattle.recovery.proofs.WalkLemmas.{failed_none, failed_checkpoint, begun_checkpoint, walked_none, walked_found, can_still_try, same_saved, same_bytes_on, same_bytes_discarded, failed_all}
 use Rattle.recovery.proofs.walking.try_ring.Goals as goal
 
 pub checkpoints-init : goal.checkpoints-init
@@ -57,3 +57,12 @@ returns-clause-walks g c failure under failed =
 
 pub returns-clause-ledger : goal.returns-clause-ledger
 returns-clause-ledger g c = same_bytes_discarded (c.discard.ensures ∙ c.checkpoints.invariant.ledger)
+
+pub returns-in-Err-clause-walks : goal.returns-in-Err-clause-walks
+returns-in-Err-clause-walks g c failure under failed =
+    let inv = c.checkpoints.invariant in
+    let less : c.checkpoints.index < length c.args.ring.now.standing = omega (arith, c.checkpoints-test.true, c.len-count.ensures) in
+    let f = checkpoint_there c.args.cpu.now.slots.saved c.args.ring.now.standing failure.ring c.checkpoints.index failed.has.as_many c.requires.same less in
+    begun_checkpoint c.checkpoints.index f.1 (inv.tried failure under failed)
+    (c.in-Err.ensures.tries failure f.0 (under_saved g.R.AccessRule.rule c.args.budget c.args.cpu.now c.checkpoints.cpu failure inv.saved under)
+    (failed_still c.args.point failure c.args.cpu.now c.checkpoints.cpu c.args.items.now c.args.replies.now c.checkpoints.replies inv.saved inv.ledger failed) f.1)
