@@ -98,7 +98,7 @@ class Pair:
         if self.form != "text" or self.rng.random() < 0.5:
             parts.append(["--form", self.form])
         if self.diagnoses:
-            parts.append(["--diagnosis", "d"])
+            parts += [["--diagnosis", "d"], ["--tell", "off"]]
         self.rng.shuffle(parts)
         return ["diagnose" if self.diagnoses else "run"] + [word for part in parts for word in part]
 

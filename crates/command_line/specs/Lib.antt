@@ -7,3 +7,4 @@ pub mod Commands
 pub mod Reading
 pub mod Ranges
 pub mod Help
+pub mod Telling

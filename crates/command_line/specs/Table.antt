@@ -87,6 +87,9 @@ frame_row = static_row table.FRAME
 unfoldable pub guard_row : Row
 guard_row = static_row table.GUARD
 
+unfoldable pub tell_row : Row
+tell_row = static_row table.TELL
+
 unfoldable pub diagnosis_row : Row
 diagnosis_row = static_row diagnose_table.DIAGNOSIS
 

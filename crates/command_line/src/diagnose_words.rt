@@ -13,7 +13,7 @@ use crate::matching::{out_of_memory, parser, value_in};
 use crate::options::{CommandName, CommandOf, CommandRow, OptionRow, RowOf, TakesOf};
 use crate::run_words::{
     BUDGET, EVERY, FORM, FRAME, FRAMES, GUARD, HOLD, PROGRAM, RECORD, REPORT, RING, RunCommand,
-    WINDOW, have_names, number_or_zero, recording, report, session_from,
+    TELL, WINDOW, have_names, number_or_zero, recording, report, session_from,
 };
 use clap::{ArgMatches, Error};
 use std::alloc::{AllocError, Global};
@@ -27,8 +27,8 @@ pub const DIAGNOSIS: OptionRow = RowOf {
 };
 
 /// The options of `diagnose`.
-pub const DIAGNOSE_OPTIONS: [OptionRow; 12] = [
-    RECORD, REPORT, DIAGNOSIS, FORM, FRAME, WINDOW, HOLD, RING, EVERY, FRAMES, BUDGET, GUARD,
+pub const DIAGNOSE_OPTIONS: [OptionRow; 13] = [
+    RECORD, REPORT, DIAGNOSIS, FORM, FRAME, WINDOW, HOLD, RING, EVERY, FRAMES, BUDGET, GUARD, TELL,
 ];
 
 /// Runs a program, and tries everything at each failure.

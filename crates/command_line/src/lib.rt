@@ -21,6 +21,7 @@ mod positionals;
 mod replay_words;
 mod run_words;
 mod serve_words;
+mod tell_words;
 mod texts;
 mod wording;
 
@@ -39,5 +40,6 @@ pub use positionals::POSITIONALS;
 pub use replay_words::{REPLAY, REPLAY_OPTIONS, ReplayCommand};
 pub use run_words::{Form, Guard, RUN, RUN_OPTIONS, RunCommand};
 pub use serve_words::{SERVE, SERVE_NUMBERS, SERVE_OPTIONS, ServeCommand};
+pub use tell_words::{Tell, asked_tell};
 pub use texts::{is_name, number};
 pub use wording::{complaint, range_of, usage};

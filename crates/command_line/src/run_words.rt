@@ -31,8 +31,12 @@ pub const LINE: &str = "line";
 pub const LENGTH: &str = "length";
 /// A message is a whole piece.
 pub const WHOLE: &str = "whole";
-/// No access is guarded.
+/// No access is guarded, or nothing is told.
 pub const OFF: &str = "off";
+/// Recoveries are told.
+pub const ON: &str = "on";
+/// Recoveries are told where somebody reads them.
+pub const AUTO: &str = "auto";
 /// An access of the heap lies in the extent of one standing block.
 pub const EXTENT: &str = "extent";
 /// An access of the heap lies in the reserved bytes of one live block.
@@ -116,9 +120,17 @@ pub const GUARD: OptionRow = RowOf {
     says: "Which accesses to the heap are refused, by its blocks.",
 };
 
+/// Whether a person is told of each recovery. It is no part of what a session is asked for.
+pub const TELL: OptionRow = RowOf {
+    name: "tell",
+    takes: TakesOf::OneOf(&[AUTO, ON, OFF]),
+    default: Some(AUTO),
+    says: "Whether each recovery is told on standard error as it happens.",
+};
+
 /// The options of `run`.
-pub const RUN_OPTIONS: [OptionRow; 11] = [
-    RECORD, REPORT, FORM, FRAME, WINDOW, HOLD, RING, EVERY, FRAMES, BUDGET, GUARD,
+pub const RUN_OPTIONS: [OptionRow; 12] = [
+    RECORD, REPORT, FORM, FRAME, WINDOW, HOLD, RING, EVERY, FRAMES, BUDGET, GUARD, TELL,
 ];
 
 /// Runs a program.

@@ -37,8 +37,8 @@ fn give_piece<C: Crowd>(crowd: &mut C, conn: u16, bytes: &[u8]) -> Result<Given,
     }
 }
 
-/// Gives a piece to a connection. One that was closed, since a give to it had failed, gets no more.
-pub fn give_present<C: Crowd>(
+// Gives a piece to a connection. One that was closed, since a give to it had failed, gets no more.
+pub(crate) fn give_present<C: Crowd>(
     crowd: &mut C,
     place: &mut Place,
     limits: Limits,

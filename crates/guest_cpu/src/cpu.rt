@@ -3,6 +3,7 @@ ghost use Rattle.std.specs.Prelude.{◌≡◌, ◌+◌, ◌-◌, ◌^◌, ◌<�
 ghost use Rattle.block_book.specs.Heap.{is_bare};
 ghost use Rattle.ckpt_ring.specs.Slots.{AreSound};
 ghost use Rattle.page_line.specs.Line.{count_true};
+ghost use Rattle.guest_space.specs.Space.{flat};
 ghost use Rattle.run_history.specs.Machine.{Wants, Chooses};
 ghost use Rattle.run_history.specs.Run.{does};
 ghost use Rattle.run_history.specs.Served.{IsLaidOut};
@@ -21,9 +22,10 @@ use crate::recorded::advance_as_recorded;
 use crate::turning::advance;
 use crate::{Event, Marks, Question};
 use alloc_env::Env;
-use block_book::{Ask, Choice};
+use block_book::{Ask, Book, Choice};
 use guest_space::{AccessRule, AllMapped, GuestSpace};
 use page_line::SlotLine;
+use run_history::Regs;
 use rx_io::{Item, Steps};
 use std::alloc::{AllocError, Global};
 use std::marker::Model;
@@ -82,6 +84,28 @@ impl<R: AccessRule> Cpu<R> {
         ensures { result ≡ self.now.slots.live.guest.machine.pc }
     {
         self.core.regs.pc
+    }
+
+    /// The program counter and the registers.
+    pub fn regs(&self) -> Regs
+        ensures pc { result.pc ≡ self.now.slots.live.guest.machine.pc }
+        ensures registers { result.x ≡ self.now.slots.live.guest.machine.registers }
+    {
+        self.core.regs
+    }
+
+    /// The blocks of its heap.
+    pub fn book(&self) -> &Book
+        ensures { result.now ≡ self.now.slots.live.guest.heap }
+    {
+        &self.core.book
+    }
+
+    /// Its memory.
+    pub fn memory(&self) -> &GuestSpace
+        ensures { flat result.now ≡ self.now.slots.live.guest.machine.memory }
+    {
+        &self.space
     }
 
     /// Runs to the next event in an environment, within a budget of instructions since the last item. At `Asks` the recv

@@ -15,23 +15,24 @@ use rx_io::Steps;
 use session_notes::Notes;
 use std::alloc::Global;
 use std::sync::ledger::Ledger;
+use telling::{Teller, serve_told};
 
 /// Serves so many connections of a crowd that was just bound as its limits say, several of them at the same time, with a session
 /// that was begun, and answers how it ended. No connection is accepted, and no byte taken, before the program waits for an item; a
 /// piece goes to the connection that it names, until that is closed. `notes` are told the answers of malloc and the recoveries. At
-/// each answer each recovery, and a walk at which it gave up, had the checkpoints that the requests before it left. `alloc` is for
-/// the pieces. Connections that are open at the end aren't closed.
-pub fn serve_crowd<R: AccessRule, C: Crowd, N: Notes, L: Ledger>(
+/// each answer each recovery, and a walk at which it gave up, had the checkpoints that the requests before it left. `teller` is told
+/// of them. `alloc` is for the pieces. Connections that are open at the end aren't closed.
+pub fn serve_crowd<R: AccessRule, C: Crowd, N: Notes, T: Teller, L: Ledger>(
     alloc: Global,
     session: &mut Session<R>,
     crowd: &mut C,
     limits: Limits,
     notes: &mut N,
+    teller: &T,
     steps: &mut Steps<L>,
 ) -> Answer
     requires begun { IsReadyToServe session.old }
-    requires some { 1 ≤ limits.at_once }
-    requires few { limits.conns ≤ 4096 }
+    requires limits { (1 ≤ limits.at_once) × (limits.conns ≤ 4096) }
     requires none { C.connections crowd.old ≡ [] }
     requires bound { IsJustBound (C.told crowd.old) }
     ensures served { HasServedCrowd limits (rules_by R.rule session.old) (C.told crowd.old) (C.told crowd.new) (N.shown notes.old) (N.shown notes.new) (steps.new - steps.old) session.old session.new result }
@@ -40,5 +41,5 @@ pub fn serve_crowd<R: AccessRule, C: Crowd, N: Notes, L: Ledger>(
     ensures counted_at_least { steps.old + session.new.steps ≤ steps.new }
 {
     let mut link = CrowdLink::make(alloc, &mut *crowd, limits);
-    session.serve(&mut link, notes, steps)
+    serve_told(session, &mut link, notes, teller, steps)
 }

@@ -13,17 +13,19 @@ use rx_io::{Listener, Steps};
 use session_notes::Notes;
 use std::alloc::Global;
 use std::sync::ledger::Ledger;
+use telling::{Teller, serve_told};
 
 /// Serves `conns` connections of a listener that was just bound, one after another, with a session that was begun, and answers how it
 /// ended. No connection is accepted, and no byte taken, before the program waits for an item; pieces go to the present connection
 /// alone. `notes` are told the answers of malloc and the recoveries. At each answer each recovery, and a walk at which it gave up, had the
-/// checkpoints that the requests before it left. `alloc` is for the pieces. A connection that is present at the end isn't closed.
-pub fn serve_port<R: AccessRule, E: Listener, N: Notes, L: Ledger>(
+/// checkpoints that the requests before it left. `teller` is told of them. `alloc` is for the pieces. A connection that is present at the end isn't closed.
+pub fn serve_port<R: AccessRule, E: Listener, N: Notes, T: Teller, L: Ledger>(
     alloc: Global,
     session: &mut Session<R>,
     listener: &mut E,
     conns: u16,
     notes: &mut N,
+    teller: &T,
     steps: &mut Steps<L>,
 ) -> Answer
     requires begun { IsReadyToServe session.old }
@@ -36,5 +38,5 @@ pub fn serve_port<R: AccessRule, E: Listener, N: Notes, L: Ledger>(
     ensures counted_at_least { steps.old + session.new.steps ≤ steps.new }
 {
     let mut link = PortLink::make(alloc, &mut *listener, conns);
-    session.serve(&mut link, notes, steps)
+    serve_told(session, &mut link, notes, teller, steps)
 }

@@ -12,20 +12,22 @@ use rx_io::{Sink, Source, Steps};
 use session_notes::Notes;
 use std::alloc::Global;
 use std::sync::ledger::Ledger;
+use telling::{Teller, serve_watched_told};
 use trunk_wire::TrunkLink;
 
 /// Serves a trunk of many connections over a source and a sink with a session that was begun, and answers how it ended. The frames
 /// of events are taken from `input`, none before the program waits for an item, and no byte behind one; pieces go to `output` as
 /// frames. `notes` are told the answers of malloc and the recoveries. At each answer each recovery, and a walk at which it gave up, had the
 /// checkpoints that the requests before it left. `watch` looks at each failure before trials are made; what it counts isn't the session's.
-/// `alloc` is for the payloads.
-pub fn serve_trunk<R: AccessRule, S: Source, K: Sink, N: Notes, W: Watch, L: Ledger>(
+/// `teller` is told of each recovery that was noted. `alloc` is for the payloads.
+pub fn serve_trunk<R: AccessRule, S: Source, K: Sink, N: Notes, W: Watch, T: Teller, L: Ledger>(
     alloc: Global,
     session: &mut Session<R>,
     input: &mut S,
     output: &mut K,
     notes: &mut N,
     watch: &mut W,
+    teller: &T,
     steps: &mut Steps<L>,
 ) -> Answer
     requires begun { IsReadyToServe session.old }
@@ -35,5 +37,5 @@ pub fn serve_trunk<R: AccessRule, S: Source, K: Sink, N: Notes, W: Watch, L: Led
     ensures counted_at_least { W.ran watch.new + steps.old + session.new.steps ≤ W.ran watch.old + steps.new }
 {
     let mut link = TrunkLink::make(alloc, &mut *input, &mut *output);
-    session.serve_watched(&mut link, notes, watch, steps)
+    serve_watched_told(session, &mut link, notes, watch, teller, steps)
 }

@@ -316,6 +316,7 @@ const RUN_USAGE: &str = "run PROGRAM and in any place, each once:
   --frames 2 to 16 (4)
   --budget 1 to 16777216 (1000000)
   --guard off or extent or block (off)
+  --tell auto or on or off (auto)
 ";
 
 const SERVE_USAGE: &str =
@@ -332,6 +333,7 @@ const SERVE_USAGE: &str =
   --guard off or extent or block (off)
   --patience 0 to 3600 (60)
   --at-once 1 to 256 (1)
+  --tell auto or on or off (auto)
 ";
 
 const DIAGNOSE_USAGE: &str = "diagnose PROGRAM and in any place, each once:
@@ -347,6 +349,7 @@ const DIAGNOSE_USAGE: &str = "diagnose PROGRAM and in any place, each once:
   --frames 2 to 16 (4)
   --budget 1 to 16777216 (1000000)
   --guard off or extent or block (off)
+  --tell auto or on or off (auto)
 drill SEED (0 to 4294967295) COUNT (1 to 100000)
 frame
 unframe
@@ -399,6 +402,7 @@ const SERVE_HELP: &str = "serve PROGRAM PORT CONNS --record NAME --report NAME [
   --guard off or extent or block (off): Which accesses to the heap are refused, by its blocks.
   --patience 0 to 3600 (60): For how many seconds a client is waited for. With 0 it is without limit.
   --at-once 1 to 256 (1): How many clients are served at the same time. With 1 it is one after another.
+  --tell auto or on or off (auto): Whether each recovery is told on standard error as it happens.
 ";
 
 #[test]

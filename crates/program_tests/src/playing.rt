@@ -31,6 +31,7 @@ use std::marker::Brand;
 use std::process::Abort;
 use std::sync::ledger::{Blank, Ledger};
 use std::test::Fail;
+use telling::NoTeller;
 
 /// The words of a command that runs the program `p`.
 pub const RUN: &str = "run p --record r --report t";
@@ -173,6 +174,7 @@ pub fn run_over<L: Ledger, F: Files, S: Source, K: Sink>(
         &mut listener,
         &mut crowd,
         &mut steps,
+        &NoTeller,
     ))
 }
 
@@ -338,6 +340,7 @@ fn run_counted<L: Ledger>(
         &mut outside.listener,
         &mut outside.crowd,
         &mut steps,
+        &NoTeller,
     )
 }
 

@@ -12,8 +12,9 @@ mod helping;
 mod message;
 mod outputs;
 mod readings;
-mod telling;
-mod text_telling;
+mod sentences;
+mod std_teller;
+mod text_sentences;
 
 use command_line::{Command, asked_help, read_command};
 use descriptors::hold_closed;
@@ -21,13 +22,14 @@ use helping::print_help;
 use outputs::{Objection, find_objection};
 use rx_io::{StdFiles, StdSink, StdSource, Steps};
 use rx_serve::{End, run_rx};
+use sentences::{tell, tell_diagnosed, tell_memory, tell_not_utf8, tell_objection};
 use std::alloc::AllocError;
 use std::env;
 use std::marker::Brand;
 use std::process::ExitCode;
 use std::sync::ledger::{Blank, Ledger};
+use std_teller::StdTeller;
 use tcp_edge::{TcpCrowdEdge, TcpListenerEdge};
-use telling::{tell, tell_diagnosed, tell_memory, tell_not_utf8, tell_objection};
 
 // The status where memory ran out, and where the words are those of no command.
 const NO_MEMORY: u8 = 10;
@@ -58,8 +60,15 @@ fn refused_outputs(rt: &HostRuntime, words: &[String]) -> Option<u8> {
     }
 }
 
-// Runs the command of these words over the real streams, files and ports, where a client is waited for so many seconds.
-fn run<L: Ledger>(rt: &HostRuntime, words: &[String], patience: u64, blank: Blank) -> End
+// Runs the command of these words over the real streams, files and ports, where a client is waited for so many seconds, and lets a teller know of
+// recoveries.
+fn run<L: Ledger>(
+    rt: &HostRuntime,
+    words: &[String],
+    patience: u64,
+    teller: &StdTeller<'_>,
+    blank: Blank,
+) -> End
     requires name { blank.name ≡ L.name }
     requires parts { blank.parts ≡ L.parts }
     requires some { 0 < blank.parts }
@@ -81,6 +90,7 @@ fn run<L: Ledger>(rt: &HostRuntime, words: &[String], patience: u64, blank: Blan
         &mut listener,
         &mut crowd,
         &mut steps,
+        teller,
     )
 }
 
@@ -112,7 +122,9 @@ fn main(rt: HostRuntime) -> ExitCode {
         tell_memory(&rt);
         return ExitCode::from(NO_MEMORY);
     };
-    let end = run::<Brand>(&rt, words.as_slice(), patience, Blank::new(1));
+    let teller = StdTeller::make(&rt, words.as_slice());
+    let end = run::<Brand>(&rt, words.as_slice(), patience, &teller, Blank::new(1));
+    teller.tell_end(&end);
     if end.status != 0 {
         tell(&rt, end.answer, words.as_slice());
     }

@@ -17,16 +17,18 @@ use crowd::Crowd;
 use rx_io::{Files, Listener, Steps};
 use std::alloc::Global;
 use std::sync::ledger::Ledger;
+use telling::Teller;
 
-/// Loads the program of a command and lets it serve the clients of a port, with a record and a report of it in two files: one after
-/// another, over a listener, or as many at the same time as the command asks for, over a crowd.
+// Loads the program of a command and lets it serve the clients of a port, with a record and a report of it in two files: one after
+// another, over a listener, or as many at the same time as the command asks for, over a crowd.
 #[tactic(auto, unfolding(crate::specs::Serving::heard_at))]
-pub fn serve_clients<F: Files, N: Listener, C: Crowd, L: Ledger>(
+pub(crate) fn serve_clients<F: Files, N: Listener, C: Crowd, T: Teller, L: Ledger>(
     alloc: Global,
     serve: &ServeCommand<'_>,
     files: &mut F,
     listener: &mut N,
     crowd: &mut C,
+    teller: &T,
     steps: &mut Steps<L>,
 ) -> End
     requires in_range { AreInRange (run_shown serve.now.session) }
@@ -42,8 +44,8 @@ pub fn serve_clients<F: Files, N: Listener, C: Crowd, L: Ledger>(
     ensures counted_at_least { steps.old + result.steps ≤ steps.new }
 {
     if serve.at_once == 1 {
-        serve_program(alloc, serve, files, listener, steps)
+        serve_program(alloc, serve, files, listener, teller, steps)
     } else {
-        serve_crowd_program(alloc, serve, files, crowd, steps)
+        serve_crowd_program(alloc, serve, files, crowd, teller, steps)
     }
 }

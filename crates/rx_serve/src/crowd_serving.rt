@@ -35,14 +35,16 @@ use rx_engine::Session;
 use rx_io::{Files, Steps};
 use std::alloc::Global;
 use std::sync::ledger::Ledger;
+use telling::Teller;
 
 // Serves the connections of a crowd that was just bound, and notes the answers of the allocator and the recoveries in both files.
-fn serve_crowd_noted<R: AccessRule, F: Files, C: Crowd, L: Ledger>(
+fn serve_crowd_noted<R: AccessRule, F: Files, C: Crowd, T: Teller, L: Ledger>(
     alloc: Global,
     serve: &ServeCommand<'_>,
     session: &mut Session<R>,
     files: &mut F,
     crowd: &mut C,
+    teller: &T,
     steps: &mut Steps<L>,
 ) -> Answer
     requires two { AreTwo (names_of (run_shown serve.now.session)) }
@@ -67,18 +69,19 @@ fn serve_crowd_noted<R: AccessRule, F: Files, C: Crowd, L: Ledger>(
         conns: serve.conns as u16,
         at_once: serve.at_once as u16,
     };
-    let answer = serve_crowd(alloc, session, crowd, limits, &mut notes, steps);
+    let answer = serve_crowd(alloc, session, crowd, limits, &mut notes, teller, steps);
     let _ = notes.is_whole();
     answer
 }
 
 // Loads the program of a command and lets it serve the connections of a crowd under an access rule, which is that of the command's guard.
-fn serve_crowd_under<R: AccessRule + Drop, F: Files, C: Crowd, L: Ledger>(
+fn serve_crowd_under<R: AccessRule + Drop, F: Files, C: Crowd, T: Teller, L: Ledger>(
     alloc: Global,
     serve: &ServeCommand<'_>,
     rule: R,
     files: &mut F,
     crowd: &mut C,
+    teller: &T,
     steps: &mut Steps<L>,
 ) -> End
     requires in_range { AreInRange (run_shown serve.now.session) }
@@ -98,7 +101,7 @@ fn serve_crowd_under<R: AccessRule + Drop, F: Files, C: Crowd, L: Ledger>(
     if let Err(fault) = crowd.bind(serve.port as u16) {
         return End::without_session(alloc, bind_answer(fault));
     }
-    let ended = serve_crowd_noted(alloc, serve, &mut session, files, crowd, steps);
+    let ended = serve_crowd_noted(alloc, serve, &mut session, files, crowd, teller, steps);
     let answer = end_notes(
         alloc,
         files,
@@ -112,11 +115,12 @@ fn serve_crowd_under<R: AccessRule + Drop, F: Files, C: Crowd, L: Ledger>(
 
 /// Loads the program of a command and lets it serve the connections of a port, several at the same time, with a record and a report of it
 /// in two files. The port is bound once these have their first lines. The access rule is chosen here, once, by the guard that the command asks for.
-pub fn serve_crowd_program<F: Files, C: Crowd, L: Ledger>(
+pub fn serve_crowd_program<F: Files, C: Crowd, T: Teller, L: Ledger>(
     alloc: Global,
     serve: &ServeCommand<'_>,
     files: &mut F,
     crowd: &mut C,
+    teller: &T,
     steps: &mut Steps<L>,
 ) -> End
     requires in_range { AreInRange (run_shown serve.now.session) }
@@ -129,14 +133,14 @@ pub fn serve_crowd_program<F: Files, C: Crowd, L: Ledger>(
     ensures counted_at_least { steps.old + result.steps ≤ steps.new }
 {
     match serve.session.guard {
-        Guard::Off => serve_crowd_under(alloc, serve, AllMapped, files, crowd, steps),
+        Guard::Off => serve_crowd_under(alloc, serve, AllMapped, files, crowd, teller, steps),
         Guard::Extent => {
             let rule = HeapGuard::over(GuardMode::Extent);
-            serve_crowd_under(alloc, serve, rule, files, crowd, steps)
+            serve_crowd_under(alloc, serve, rule, files, crowd, teller, steps)
         }
         Guard::Block => {
             let rule = HeapGuard::over(GuardMode::Block);
-            serve_crowd_under(alloc, serve, rule, files, crowd, steps)
+            serve_crowd_under(alloc, serve, rule, files, crowd, teller, steps)
         }
     }
 }

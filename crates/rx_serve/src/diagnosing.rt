@@ -3,6 +3,7 @@ ghost use Rattle.std.specs.Prelude.{◌≡◌, ◌⊎◌, ℕ, ◌+◌, ◌≤�
 ghost use Rattle.command_line.specs.Commands.{diagnose_shown, run_shown};
 ghost use Rattle.command_line.specs.Ranges.{AreInRange};
 ghost use Rattle.diagnosis.specs.Diagnosis.{rest_text};
+ghost use Rattle.diagnosis.specs.Examined.{ran_of, tables_of};
 ghost use Rattle.file_notes.specs.Beside.{IsThird};
 ghost use Rattle.file_notes.specs.Names.{AreTwo};
 ghost use Rattle.file_notes.specs.Calling.{CallsUpTo, starts_of};
@@ -33,6 +34,7 @@ use rx_io::{Files, IoFault, Sink, Source, Steps};
 use session_notes::{NoteList, Tries};
 use std::alloc::Global;
 use std::sync::ledger::Ledger;
+use telling::{Teller, TellingWatch};
 
 // Starts the diagnosis with its first line. Where memory runs out no call is made.
 fn start_diagnosis<F: Files>(
@@ -98,14 +100,23 @@ fn end_diagnosis<F: Files>(
     }
 }
 
+// An examiner that lets a teller know of each failure at which it looks.
+fn telling_examiner<'a, T: Teller>(alloc: Global, teller: &'a T) -> TellingWatch<'a, T, Examiner>
+    ensures tables { tables_of result.watch ≡ [] }
+    ensures ran { ran_of result.watch ≡ 0 }
+{
+    TellingWatch::make(teller, Examiner::make(alloc))
+}
+
 // Loads the program of a command and lets it serve under an access rule, which is that of the command's guard, with a diagnosis.
-fn diagnose_under<R: AccessRule + Drop, F: Files, S: Source, K: Sink, L: Ledger>(
+fn diagnose_under<R: AccessRule + Drop, F: Files, S: Source, K: Sink, T: Teller, L: Ledger>(
     alloc: Global,
     diagnose: &DiagnoseCommand<'_>,
     rule: R,
     files: &mut F,
     input: &mut S,
     output: &mut K,
+    teller: &T,
     steps: &mut Steps<L>,
 ) -> End
     requires in_range { AreInRange (run_shown diagnose.now.session) }
@@ -125,7 +136,7 @@ fn diagnose_under<R: AccessRule + Drop, F: Files, S: Source, K: Sink, L: Ledger>
     if let Err(fault) = start_diagnosis(alloc, files, diagnose) {
         return End::without_session(alloc, note_answer(fault));
     }
-    let mut watch = Examiner::make(alloc);
+    let mut watch = telling_examiner(alloc, teller);
     let kept = serve_kept(
         alloc,
         run,
@@ -134,6 +145,7 @@ fn diagnose_under<R: AccessRule + Drop, F: Files, S: Source, K: Sink, L: Ledger>
         input,
         output,
         &mut watch,
+        teller,
         steps,
     );
     let ended = end_notes(
@@ -151,7 +163,7 @@ fn diagnose_under<R: AccessRule + Drop, F: Files, S: Source, K: Sink, L: Ledger>
         files,
         diagnose,
         &kept.episodes,
-        watch.tables(),
+        watch.inner().tables(),
         ended,
     );
     End::of_session(answer, session.into_end())
@@ -159,12 +171,13 @@ fn diagnose_under<R: AccessRule + Drop, F: Files, S: Source, K: Sink, L: Ledger>
 
 /// Loads the program of a command and lets it serve as `run` does; at each failure everything is tried first, and discarded. What was tried goes to the
 /// diagnosis.
-pub fn diagnose_program<F: Files, S: Source, K: Sink, L: Ledger>(
+pub fn diagnose_program<F: Files, S: Source, K: Sink, T: Teller, L: Ledger>(
     alloc: Global,
     diagnose: &DiagnoseCommand<'_>,
     files: &mut F,
     input: &mut S,
     output: &mut K,
+    teller: &T,
     steps: &mut Steps<L>,
 ) -> End
     requires in_range { AreInRange (run_shown diagnose.now.session) }
@@ -176,14 +189,16 @@ pub fn diagnose_program<F: Files, S: Source, K: Sink, L: Ledger>(
     ensures counted_at_least { steps.old + result.steps ≤ steps.new }
 {
     match diagnose.session.guard {
-        Guard::Off => diagnose_under(alloc, diagnose, AllMapped, files, input, output, steps),
+        Guard::Off => diagnose_under(
+            alloc, diagnose, AllMapped, files, input, output, teller, steps,
+        ),
         Guard::Extent => {
             let rule = HeapGuard::over(GuardMode::Extent);
-            diagnose_under(alloc, diagnose, rule, files, input, output, steps)
+            diagnose_under(alloc, diagnose, rule, files, input, output, teller, steps)
         }
         Guard::Block => {
             let rule = HeapGuard::over(GuardMode::Block);
-            diagnose_under(alloc, diagnose, rule, files, input, output, steps)
+            diagnose_under(alloc, diagnose, rule, files, input, output, teller, steps)
         }
     }
 }

@@ -40,6 +40,7 @@ use rx_io::{Files, IoFault, Sink, Source, Steps};
 use session_notes::{NoteList, Notes};
 use std::alloc::Global;
 use std::sync::ledger::Ledger;
+use telling::Teller;
 
 // The form of a report, as a command names it.
 pub(crate) fn report_form(form: command_line::Form) -> Form
@@ -102,7 +103,15 @@ pub(crate) fn start_notes<F: Files>(
 }
 
 /// Serves a trunk, and notes the answers of the allocator and the recoveries in both files. What the watch counts isn't the session's.
-pub(crate) fn serve_noted<R: AccessRule, F: Files, S: Source, K: Sink, W: Watch, L: Ledger>(
+pub(crate) fn serve_noted<
+    R: AccessRule,
+    F: Files,
+    S: Source,
+    K: Sink,
+    W: Watch,
+    T: Teller,
+    L: Ledger,
+>(
     alloc: Global,
     run: &RunCommand<'_>,
     session: &mut Session<R>,
@@ -110,6 +119,7 @@ pub(crate) fn serve_noted<R: AccessRule, F: Files, S: Source, K: Sink, W: Watch,
     input: &mut S,
     output: &mut K,
     watch: &mut W,
+    teller: &T,
     steps: &mut Steps<L>,
 ) -> Answer
     requires two { AreTwo (names_of (run_shown run.now)) }
@@ -126,7 +136,9 @@ pub(crate) fn serve_noted<R: AccessRule, F: Files, S: Source, K: Sink, W: Watch,
         report: run.report,
     };
     let mut notes = FileNotes::make(alloc, &mut *files, names, report_form(run.form));
-    let answer = serve_trunk(alloc, session, input, output, &mut notes, watch, steps);
+    let answer = serve_trunk(
+        alloc, session, input, output, &mut notes, watch, teller, steps,
+    );
     let _ = notes.is_whole();
     answer
 }
@@ -139,7 +151,7 @@ pub(crate) struct Kept {
 }
 
 // Serves a trunk, and tells each episode to both notes; and whether each that was noted is kept in the list.
-fn serve_copied<R: AccessRule, S: Source, K: Sink, N: Notes, W: Watch, L: Ledger>(
+fn serve_copied<R: AccessRule, S: Source, K: Sink, N: Notes, W: Watch, T: Teller, L: Ledger>(
     alloc: Global,
     session: &mut Session<R>,
     input: &mut S,
@@ -147,6 +159,7 @@ fn serve_copied<R: AccessRule, S: Source, K: Sink, N: Notes, W: Watch, L: Ledger
     notes: &mut N,
     list: &mut NoteList,
     watch: &mut W,
+    teller: &T,
     steps: &mut Steps<L>,
 ) -> (Answer, bool)
     requires begun { IsReadyToServe session.old }
@@ -158,7 +171,9 @@ fn serve_copied<R: AccessRule, S: Source, K: Sink, N: Notes, W: Watch, L: Ledger
     ensures copied { result.1 ≡ true → IsCopy false (N.shown notes.new).told.episodes (Some (list_episodes list.new)) }
 {
     let mut both = KeepingNotes::make(&mut *notes, &mut *list);
-    let answer = serve_trunk(alloc, session, input, output, &mut both, watch, steps);
+    let answer = serve_trunk(
+        alloc, session, input, output, &mut both, watch, teller, steps,
+    );
     let copied = both.is_copied();
     (answer, copied)
 }
@@ -171,7 +186,15 @@ fn kept_if(copied: bool, list: NoteList) -> Option<NoteList>
 }
 
 /// The same, and keeps the episodes that were noted, unless memory runs out for that.
-pub(crate) fn serve_kept<R: AccessRule, F: Files, S: Source, K: Sink, W: Watch, L: Ledger>(
+pub(crate) fn serve_kept<
+    R: AccessRule,
+    F: Files,
+    S: Source,
+    K: Sink,
+    W: Watch,
+    T: Teller,
+    L: Ledger,
+>(
     alloc: Global,
     run: &RunCommand<'_>,
     session: &mut Session<R>,
@@ -179,6 +202,7 @@ pub(crate) fn serve_kept<R: AccessRule, F: Files, S: Source, K: Sink, W: Watch, 
     input: &mut S,
     output: &mut K,
     watch: &mut W,
+    teller: &T,
     steps: &mut Steps<L>,
 ) -> Kept
     requires two { AreTwo (names_of (run_shown run.now)) }
@@ -197,7 +221,7 @@ pub(crate) fn serve_kept<R: AccessRule, F: Files, S: Source, K: Sink, W: Watch, 
     let mut notes = FileNotes::make(alloc, &mut *files, names, report_form(run.form));
     let mut list = NoteList::make(alloc, Vec::new(alloc));
     let (answer, copied) = serve_copied(
-        alloc, session, input, output, &mut notes, &mut list, watch, steps,
+        alloc, session, input, output, &mut notes, &mut list, watch, teller, steps,
     );
     let _ = notes.is_whole();
     let episodes = kept_if(copied, list);

@@ -32,6 +32,7 @@ use rx_engine::Session;
 use rx_io::{Files, IoFault, Listener, Steps};
 use std::alloc::Global;
 use std::sync::ledger::Ledger;
+use telling::Teller;
 
 // A port that couldn't be bound, as its answer.
 pub(crate) fn bind_answer(fault: IoFault) -> Answer
@@ -44,12 +45,13 @@ pub(crate) fn bind_answer(fault: IoFault) -> Answer
 }
 
 // Serves the connections of a port that was just bound, and notes the answers of the allocator and the recoveries in both files.
-fn serve_port_noted<R: AccessRule, F: Files, E: Listener, L: Ledger>(
+fn serve_port_noted<R: AccessRule, F: Files, E: Listener, T: Teller, L: Ledger>(
     alloc: Global,
     serve: &ServeCommand<'_>,
     session: &mut Session<R>,
     files: &mut F,
     listener: &mut E,
+    teller: &T,
     steps: &mut Steps<L>,
 ) -> Answer
     requires two { AreTwo (names_of (run_shown serve.now.session)) }
@@ -70,18 +72,19 @@ fn serve_port_noted<R: AccessRule, F: Files, E: Listener, L: Ledger>(
     };
     let mut notes = FileNotes::make(alloc, &mut *files, names, report_form(serve.session.form));
     let conns = serve.conns as u16;
-    let answer = serve_port(alloc, session, listener, conns, &mut notes, steps);
+    let answer = serve_port(alloc, session, listener, conns, &mut notes, teller, steps);
     let _ = notes.is_whole();
     answer
 }
 
 // Loads the program of a command and lets it serve the connections of a port under an access rule, which is that of the command's guard.
-fn serve_under<R: AccessRule + Drop, F: Files, N: Listener, L: Ledger>(
+fn serve_under<R: AccessRule + Drop, F: Files, N: Listener, T: Teller, L: Ledger>(
     alloc: Global,
     serve: &ServeCommand<'_>,
     rule: R,
     files: &mut F,
     listener: &mut N,
+    teller: &T,
     steps: &mut Steps<L>,
 ) -> End
     requires in_range { AreInRange (run_shown serve.now.session) }
@@ -101,7 +104,7 @@ fn serve_under<R: AccessRule + Drop, F: Files, N: Listener, L: Ledger>(
     if let Err(fault) = listener.bind(serve.port as u16) {
         return End::without_session(alloc, bind_answer(fault));
     }
-    let ended = serve_port_noted(alloc, serve, &mut session, files, listener, steps);
+    let ended = serve_port_noted(alloc, serve, &mut session, files, listener, teller, steps);
     let answer = end_notes(
         alloc,
         files,
@@ -115,11 +118,12 @@ fn serve_under<R: AccessRule + Drop, F: Files, N: Listener, L: Ledger>(
 
 /// Loads the program of a command and lets it serve the connections of a port, one after another, with a record and a report of it
 /// in two files. The port is bound once these have their first lines. The access rule is chosen here, once, by the guard that the command asks for.
-pub fn serve_program<F: Files, N: Listener, L: Ledger>(
+pub fn serve_program<F: Files, N: Listener, T: Teller, L: Ledger>(
     alloc: Global,
     serve: &ServeCommand<'_>,
     files: &mut F,
     listener: &mut N,
+    teller: &T,
     steps: &mut Steps<L>,
 ) -> End
     requires in_range { AreInRange (run_shown serve.now.session) }
@@ -132,14 +136,14 @@ pub fn serve_program<F: Files, N: Listener, L: Ledger>(
     ensures counted_at_least { steps.old + result.steps ≤ steps.new }
 {
     match serve.session.guard {
-        Guard::Off => serve_under(alloc, serve, AllMapped, files, listener, steps),
+        Guard::Off => serve_under(alloc, serve, AllMapped, files, listener, teller, steps),
         Guard::Extent => {
             let rule = HeapGuard::over(GuardMode::Extent);
-            serve_under(alloc, serve, rule, files, listener, steps)
+            serve_under(alloc, serve, rule, files, listener, teller, steps)
         }
         Guard::Block => {
             let rule = HeapGuard::over(GuardMode::Block);
-            serve_under(alloc, serve, rule, files, listener, steps)
+            serve_under(alloc, serve, rule, files, listener, teller, steps)
         }
     }
 }

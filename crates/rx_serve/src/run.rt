@@ -22,6 +22,7 @@ use run_history::Answer;
 use rx_io::{Files, Listener, Sink, Source, Steps};
 use std::alloc::Global;
 use std::sync::ledger::Ledger;
+use telling::Teller;
 
 /// Runs a command over any outside: `words` are those behind the program's own name.
 ///
@@ -36,7 +37,9 @@ use std::sync::ledger::Ledger;
 /// `diagnose PROGRAM --record RECORD --report REPORT --diagnosis DIAGNOSIS` is a `run` that tries all environments at all checkpoints at each
 /// failure, and tells in a fourth file what came of it. `drill SEED COUNT` serves a generated session in memory, and writes five lines about it to
 /// `output`. `frame` writes the frame of each line of `input` to `output`, and `unframe` a line for each frame.
-pub fn run_rx<F: Files, S: Source, K: Sink, N: Listener, C: Crowd, L: Ledger>(
+///
+/// `teller` is told of the recoveries of a session while it goes. Nothing that it does is part of what is left.
+pub fn run_rx<F: Files, S: Source, K: Sink, N: Listener, C: Crowd, L: Ledger, T: Teller>(
     alloc: Global,
     words: &[String],
     files: &mut F,
@@ -45,6 +48,7 @@ pub fn run_rx<F: Files, S: Source, K: Sink, N: Listener, C: Crowd, L: Ledger>(
     listener: &mut N,
     crowd: &mut C,
     steps: &mut Steps<L>,
+    teller: &T,
 ) -> End
     // What is left, by cases on the command that the words ask for. `run`: the headline, with the account that it is true of; or no session began, by its
     // cause. `serve`: the same, over the calls on the listener or on the crowd. `diagnose`: what a `run` leaves, and beside it a file with each failure's
@@ -66,7 +70,9 @@ pub fn run_rx<F: Files, S: Source, K: Sink, N: Listener, C: Crowd, L: Ledger>(
     ensures counted_at_least { steps.old + result.steps ≤ steps.new }
 {
     match read_command(alloc, words) {
-        Ok(Some(Command::Run(run))) => run_program(alloc, &run, files, input, output, steps),
+        Ok(Some(Command::Run(run))) => {
+            run_program(alloc, &run, files, input, output, teller, steps)
+        }
         Ok(Some(Command::Asm(asm))) => {
             let answer = assemble_file(alloc, files, asm.source, asm.out);
             End::without_session(alloc, answer)
@@ -80,10 +86,10 @@ pub fn run_rx<F: Files, S: Source, K: Sink, N: Listener, C: Crowd, L: Ledger>(
             End::without_session(alloc, answer)
         }
         Ok(Some(Command::Serve(serve))) => serve_clients(
-            alloc, &serve, files, listener, crowd, steps,
+            alloc, &serve, files, listener, crowd, teller, steps,
         ),
         Ok(Some(Command::Diagnose(diagnose))) => {
-            diagnose_program(alloc, &diagnose, files, input, output, steps)
+            diagnose_program(alloc, &diagnose, files, input, output, teller, steps)
         }
         Ok(Some(Command::Drill(drill))) => drill_session(alloc, drill, output, steps),
         Ok(Some(Command::Frame)) => frame_input(alloc, input, output),

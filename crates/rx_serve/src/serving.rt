@@ -25,6 +25,7 @@ use rx_engine::Session;
 use rx_io::{Files, Sink, Source, Steps};
 use std::alloc::Global;
 use std::sync::ledger::Ledger;
+use telling::{Teller, TellingWatch};
 
 // Loads the program of a command, starts its record and its report, and begins its session under an access rule.
 pub(crate) fn begin_session<R: AccessRule + Drop, F: Files>(
@@ -56,13 +57,14 @@ pub(crate) fn begin_session<R: AccessRule + Drop, F: Files>(
 }
 
 // Loads the program of a command and lets it serve under an access rule, which is that of the command's guard.
-fn run_under<R: AccessRule + Drop, F: Files, S: Source, K: Sink, L: Ledger>(
+fn run_under<R: AccessRule + Drop, F: Files, S: Source, K: Sink, T: Teller, L: Ledger>(
     alloc: Global,
     run: &RunCommand<'_>,
     rule: R,
     files: &mut F,
     input: &mut S,
     output: &mut K,
+    teller: &T,
     steps: &mut Steps<L>,
 ) -> End
     requires in_range { AreInRange (run_shown run.now) }
@@ -77,7 +79,7 @@ fn run_under<R: AccessRule + Drop, F: Files, S: Source, K: Sink, L: Ledger>(
         Ok(session) => session,
         Err(answer) => return End::without_session(alloc, answer),
     };
-    let mut watch = NoWatch;
+    let mut watch = TellingWatch::make(teller, NoWatch);
     let ended = serve_noted(
         alloc,
         run,
@@ -86,6 +88,7 @@ fn run_under<R: AccessRule + Drop, F: Files, S: Source, K: Sink, L: Ledger>(
         input,
         output,
         &mut watch,
+        teller,
         steps,
     );
     let answer = end_notes(alloc, files, run, ended, session.taken(), session.steps());
@@ -94,12 +97,13 @@ fn run_under<R: AccessRule + Drop, F: Files, S: Source, K: Sink, L: Ledger>(
 
 /// Loads the program of a command and lets it serve, with a record and a report of it in two files. The access rule is chosen here, once, by the
 /// guard that the command asks for: without one nothing more is tested of an access.
-pub fn run_program<F: Files, S: Source, K: Sink, L: Ledger>(
+pub fn run_program<F: Files, S: Source, K: Sink, T: Teller, L: Ledger>(
     alloc: Global,
     run: &RunCommand<'_>,
     files: &mut F,
     input: &mut S,
     output: &mut K,
+    teller: &T,
     steps: &mut Steps<L>,
 ) -> End
     requires in_range { AreInRange (run_shown run.now) }
@@ -110,14 +114,14 @@ pub fn run_program<F: Files, S: Source, K: Sink, L: Ledger>(
     ensures counted_at_least { steps.old + result.steps ≤ steps.new }
 {
     match run.guard {
-        Guard::Off => run_under(alloc, run, AllMapped, files, input, output, steps),
+        Guard::Off => run_under(alloc, run, AllMapped, files, input, output, teller, steps),
         Guard::Extent => {
             let rule = HeapGuard::over(GuardMode::Extent);
-            run_under(alloc, run, rule, files, input, output, steps)
+            run_under(alloc, run, rule, files, input, output, teller, steps)
         }
         Guard::Block => {
             let rule = HeapGuard::over(GuardMode::Block);
-            run_under(alloc, run, rule, files, input, output, steps)
+            run_under(alloc, run, rule, files, input, output, teller, steps)
         }
     }
 }

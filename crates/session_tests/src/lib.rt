@@ -9,3 +9,5 @@ mod notes_tests;
 mod recovery_tests;
 #[cfg(test)]
 mod rx_engine_tests;
+#[cfg(test)]
+mod telling_tests;

@@ -9,8 +9,8 @@ use Rattle.over_port.proofs.serving.serve_port.Goals as goal
 pub returns-clause-served : goal.returns-clause-served
 returns-clause-served g c =
     let made = c.make-link.ensures in
-    let went = c.serve.ensures.outside.0 in
-    let has = c.serve.ensures.served in
+    let went = c.serve_told.ensures.outside.0 in
+    let has = c.serve_told.ensures.served in
     let ended = (has.served c.requires.begun.image c.requires.begun.begun).0.recovered.is.is.ended in record {
       why = has.why;
       is = search (rules, has.is);
@@ -20,12 +20,12 @@ returns-clause-served g c =
           search (
             rules,
             serves c.args.conns (rules_by g.R.AccessRule.rule c.args.session.now) (keeping_for c.args.session.now.options) image
-                (seen_of (λ s. g.E.Listener.told s.now) (λ s. g.E.Listener.faults s.now) c.make-link.result) (seen_of (λ s. g.E.Listener.told s.now) (λ s. g.E.Listener.faults s.now) c.serve.new.link)
+                (seen_of (λ s. g.E.Listener.told s.now) (λ s. g.E.Listener.faults s.now) c.make-link.result) (seen_of (λ s. g.E.Listener.told s.now) (λ s. g.E.Listener.faults s.now) c.serve_told.new.link)
                 (subst IsJustBound (λ i. g.E.Listener.told ((sym made.listener) i).now) c.requires.bound)
-                (search (rules, made.conns)) went.conns went.went (port_stands c.serve.new.link)
+                (search (rules, made.conns)) went.conns went.went (port_stands c.serve_told.new.link)
                 (made.told ∙ (λ i. told_nothing (g.E.Listener.told ((sym made.listener) i).now))) refl refl
                 recovered.0.recovered
-                (left_recorded (rules_by g.R.AccessRule.rule c.args.session.now) image recovered.0.recovered.telling c.serve.new.self has.why has.keeping recovered.1),
+                (left_recorded (rules_by g.R.AccessRule.rule c.args.session.now) image recovered.0.recovered.telling c.serve_told.new.session has.why has.keeping recovered.1),
           );
       notes = search (rules, has.notes);
       never_refused = λ kind offset is. no_refusal has.why kind offset ended (sym has.is ∙ is);
@@ -34,10 +34,10 @@ returns-clause-served g c =
 
 pub returns-clause-cause : goal.returns-clause-cause
 returns-clause-cause g c =
-    let cause : HasAnswerCause (port_counts (g.E.Listener.faults c.make-link.result.listener.now)) (port_counts (g.E.Listener.faults c.serve.new.link.listener.now)) c.serve.result =
-    subst (λ (a : Answer). HasAnswerCause (port_counts (g.E.Listener.faults c.make-link.result.listener.now)) (port_counts (g.E.Listener.faults c.serve.new.link.listener.now)) a)
-    (sym c.serve.ensures.served.is) (port_cause refl refl c.serve.ensures.served.link.cause) in
+    let cause : HasAnswerCause (port_counts (g.E.Listener.faults c.make-link.result.listener.now)) (port_counts (g.E.Listener.faults c.serve_told.new.link.listener.now)) c.serve_told.result =
+    subst (λ (a : Answer). HasAnswerCause (port_counts (g.E.Listener.faults c.make-link.result.listener.now)) (port_counts (g.E.Listener.faults c.serve_told.new.link.listener.now)) a)
+    (sym c.serve_told.ensures.served.is) (port_cause refl refl c.serve_told.ensures.served.link.cause) in
     search (rules, cause)
 
 pub returns-clause-counted_at_least : goal.returns-clause-counted_at_least
-returns-clause-counted_at_least g c = c.serve.ensures.counted_at_least
+returns-clause-counted_at_least g c = c.serve_told.ensures.counted_at_least

@@ -8,7 +8,7 @@ use crate::blame::{Blame, find_blame};
 use crate::message::{write_outside, write_refused};
 use crate::outputs::Objection;
 use crate::readings::tell_readings;
-use crate::text_telling::{tell_drill, tell_frame, tell_unframe};
+use crate::text_sentences::{tell_drill, tell_frame, tell_unframe};
 use command_line::{
     AsmCommand, Command, ConvertCommand, DiagnoseCommand, ReplayCommand, RunCommand, ServeCommand,
     complaint, read_command, usage,

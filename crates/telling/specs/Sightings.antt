@@ -1,0 +1,57 @@
+-- What is seen of a guest that failed.
+use Rattle.std.specs.Prelude.{◌≡◌, ℕ, ◌-◌, true, false, ◌&&◌, List, length, Option, Some, None, option_map, Result, Ok, Err, nat_le, nat_lt, if◌then◌else◌}
+use Rattle.rx_io.specs.declared.bytes.Item.{Item}
+use Rattle.block_book.specs.Heap.{Heap}
+use Rattle.elf_image.specs.Memory.{Area}
+use Rattle.item_log.specs.Log.{Log, item_at, received}
+use Rattle.rv_isa.specs.declared.instr.Instr.{Instr}
+use Rattle.rv_isa.specs.declared.instr.Instr.TheVariants.{Load, Store}
+use Rattle.rv_isa.specs.Meaning.{displaced, load_size, store_size}
+use Rattle.run_history.specs.declared.answer.Cause.{Cause}
+use Rattle.run_history.specs.declared.regs.Regs.{Regs}
+use Rattle.rv_exec.specs.Execution.{fetched}
+use Rattle.rv_exec.specs.Stepping.{value_of}
+use Rattle.guest_cpu.specs.Standing.{Standing}
+use Rattle.telling.specs.Places.{IsPlace}
+use Rattle.telling.specs.declared.sighting.Access.{Access}
+use Rattle.telling.specs.declared.sighting.SeenItem.{SeenItem}
+use Rattle.telling.specs.declared.sighting.Sighting.{Sighting}
+use Rattle.telling.specs.declared.sighting.Touch.{Touch}
+
+-- what is told of an item
+abbrev pub seen_item : Item → SeenItem
+seen_item item = record { kind = item.kind; conn = item.conn; len = length item.bytes }
+
+-- the item that was taken last, where so many were taken: it was received, and isn't given up
+abbrev pub last_taken : Log → ℕ → Option Item
+last_taken log point = if nat_lt 0 point && (nat_le log.first (point - 1) && nat_lt (point - 1) (received log)) then item_at log (point - 1) else None
+
+-- the access of an instruction, which loads and stores alone have
+abbrev pub wanted_by : Regs → Instr → Option Access
+wanted_by regs (Load op rd rs1 imm) = Some (record { write = false; at = displaced (value_of regs rs1) imm; count = load_size op })
+wanted_by regs (Store op rs1 rs2 imm) = Some (record { write = true; at = displaced (value_of regs rs1) imm; count = store_size op })
+wanted_by regs _ = None
+
+-- that of the instruction which was fetched, if it could be
+abbrev pub wanted_of : Regs → Result Instr Cause → Option Access
+wanted_of regs (Ok instr) = wanted_by regs instr
+wanted_of regs (Err cause) = None
+
+-- the access of the instruction that comes next
+abbrev pub wanted : Regs → List Area → Option Access
+wanted regs memory = wanted_of regs (fetched regs memory)
+
+-- what is told of an access: the access itself, and what lies where it goes
+abbrev pub IsTouch : List Area → Heap → Option Access → Option Touch → Type 0
+IsTouch memory heap None touch = touch ≡ None
+IsTouch memory heap (Some access) None = ⊥
+IsTouch memory heap (Some access) (Some touch) = (touch.access ≡ access) × IsPlace memory heap access touch.place
+
+-- What is seen of a guest that stands here with so many items taken: each field is what the guest and the log of its items have.
+pub record Sees (standing : Standing) (log : Log) (point : ℕ) (seen : Sighting) : Type 0 where
+  pub point_is : seen.point ≡ point
+  pub steps_is : seen.steps ≡ standing.steps
+  pub pc_is : seen.regs.pc ≡ standing.guest.machine.pc
+  pub registers_are : seen.regs.x ≡ standing.guest.machine.registers
+  pub item_is : seen.item ≡ option_map seen_item (last_taken log point)
+  pub touch_is : IsTouch standing.guest.machine.memory standing.guest.heap (wanted seen.regs standing.guest.machine.memory) seen.touch
