@@ -34,6 +34,7 @@ TOP = os.path.join(HERE, "..")
 sys.path.insert(0, os.path.join(TOP, "compare"))
 
 # pylint: disable=wrong-import-position
+from second.guests import text_of  # noqa: E402
 from second.trunk import OPENS, frame, piece_frame  # noqa: E402
 
 SECONDS = 30  # for a run
@@ -227,7 +228,7 @@ def changed(trial, runs, seed):
     trial.run("a session", folder, RUN, {0}, OVERRUN)
     with open(os.path.join(folder, "r"), "rb") as file:
         record = file.read()
-    text = open(os.path.join(TOP, "crates", "example_guests", "src", "keys.s"), "rb").read() if os.path.exists(os.path.join(TOP, "crates", "example_guests", "src", "keys.s")) else b"next:\n    li a7, 1\n    ecall\n    j next\n"
+    text = text_of("keys").encode()
     lines = b"+0\n0>get x\\\n1<Rome\\x41\n-0\nsettle\n# none\n"
     budget = ["--budget", "20000"]
     for number in range(runs):
