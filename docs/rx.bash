@@ -15,6 +15,9 @@ _rx() {
     'run --guard')
         COMPREPLY=($(compgen -W 'off extent block' -- "$word"))
         return ;;
+    'run --tell')
+        COMPREPLY=($(compgen -W 'auto on off' -- "$word"))
+        return ;;
     'serve --form')
         COMPREPLY=($(compgen -W 'text json' -- "$word"))
         return ;;
@@ -23,6 +26,9 @@ _rx() {
         return ;;
     'serve --guard')
         COMPREPLY=($(compgen -W 'off extent block' -- "$word"))
+        return ;;
+    'serve --tell')
+        COMPREPLY=($(compgen -W 'auto on off' -- "$word"))
         return ;;
     'diagnose --form')
         COMPREPLY=($(compgen -W 'text json' -- "$word"))
@@ -33,14 +39,17 @@ _rx() {
     'diagnose --guard')
         COMPREPLY=($(compgen -W 'off extent block' -- "$word"))
         return ;;
+    'diagnose --tell')
+        COMPREPLY=($(compgen -W 'auto on off' -- "$word"))
+        return ;;
     esac
     case "${COMP_WORDS[1]}" in
     run)
-        [[ $word == -* ]] && COMPREPLY=($(compgen -W '--record --report --form --frame --window --hold --ring --every --frames --budget --guard' -- "$word")) && return ;;
+        [[ $word == -* ]] && COMPREPLY=($(compgen -W '--record --report --form --frame --window --hold --ring --every --frames --budget --guard --tell' -- "$word")) && return ;;
     serve)
-        [[ $word == -* ]] && COMPREPLY=($(compgen -W '--record --report --form --frame --window --ring --every --frames --budget --guard --patience --at-once' -- "$word")) && return ;;
+        [[ $word == -* ]] && COMPREPLY=($(compgen -W '--record --report --form --frame --window --ring --every --frames --budget --guard --patience --at-once --tell' -- "$word")) && return ;;
     diagnose)
-        [[ $word == -* ]] && COMPREPLY=($(compgen -W '--record --report --diagnosis --form --frame --window --hold --ring --every --frames --budget --guard' -- "$word")) && return ;;
+        [[ $word == -* ]] && COMPREPLY=($(compgen -W '--record --report --diagnosis --form --frame --window --hold --ring --every --frames --budget --guard --tell' -- "$word")) && return ;;
     help)
         COMPREPLY=($(compgen -W 'run asm replay convert serve diagnose drill frame unframe' -- "$word"))
         return ;;
