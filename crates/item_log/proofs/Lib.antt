@@ -1,4 +1,5 @@
 pub mod Terms
 pub mod Hearing
 pub mod Watch
+pub mod Counts
 pub mod Shown

@@ -1,20 +1,19 @@
 -- The events that a log shows.
 use Rattle.std.specs.List.{slice_get}
-use Rattle.std.specs.Prelude.{OnOk}
-use Rattle.item_log.specs.declared.item_refusal.ItemRefusal.{ItemRefusal}
-use Rattle.item_log.specs.Log.{Logs}
-use Rattle.item_log.proofs.Terms.{Err, List, None, Ok, Option, Result, Some, [], ap, arith, drop, length, length-append, length-drop, option_map, refl, subst, suc, sym, zero, zero-add, ℕ, ◌++◌, ◌+◌, ◌-◌, ◌∙◌, ◌∷◌, ◌≡◌, ◌≤◌, drop-append-le, unwrap_or, Item, LinkEvent, Framing, none_open, Heard, behind_items, hear, heard_from, items_of, IsItemOf, Log, Shows, ShowsMore, item_at, with_heard, LogsShow, ShownItems}
+use Rattle.item_log.proofs.Terms.{Err, List, None, Ok, Option, Result, Some, [], ap, arith, drop, get_or, length, length-append, max, option_map, refl, subst, suc, sym, take, zero, zero-add, ℕ, ◌++◌, ◌+◌, ◌-◌, ◌<◌, ◌∙◌, ◌∷◌, ◌≡◌, ◌≤◌, drop-append-le, drop-drop, length-drop, take-append-le, option_map_or, unwrap_or, OnOk, Item, LinkEvent, Framing, ItemRefusal, none_open, Heard, behind_items, hear, heard_from, items_of, counted, none_counted, number_at, IsItemOf, IsNumberOf, Log, Logs, Shows, ShowsMore, ShowsStill, item_at, number_in_connection, received, trimmed, with_heard, LogsShow, ShownItems}
+use Rattle.item_log.proofs.Counts.{counted-front, counted-none}
 use Rattle.item_log.proofs.Hearing.{one_more_event, heard_items}
 
 -- at its start a log shows no event
-pub shows_none : (framing : Framing) (log : Log) → log.framing ≡ framing → log.first ≡ 0 → log.kept ≡ [] → log.rests ≡ none_open → Shows framing [] log
-unfolding heard_from
-shows_none framing log cut_so first kept rests = record {
+pub shows_none : (framing : Framing) (log : Log) → log.framing ≡ framing → log.first ≡ 0 → log.kept ≡ [] → log.rests ≡ none_open → log.counts ≡ none_counted → Shows framing [] log
+unfolding heard_from counted
+shows_none framing log cut_so first kept rests counts = record {
   items = [];
   is_heard = rw rests refl;
   cut_so = cut_so;
   kept = rw (kept, first) refl;
   given_up = rw first (omega arith);
+  counts = rw (counts, first) refl;
 }
 
 -- one event more
@@ -27,6 +26,7 @@ shows_heard framing events event old more is shows =
       cut_so = shows.cut_so;
       kept = ap (λ kept. kept ++ more.items) shows.kept ∙ sym (drop-append-le old.first shows.items more.items shows.given_up);
       given_up = omega (arith, length-append shows.items more.items, shows.given_up);
+      counts = shows.counts ∙ ap (counted none_counted) (sym (take-append-le old.first shows.items more.items shows.given_up));
     }
 
 shows_more_by : (found : Option Heard) (old new : Log) (event : LinkEvent) → hear old.framing old.rests event ≡ found → option_map (with_heard old) found ≡ Some new → ShowsMore old event new
@@ -59,6 +59,52 @@ is_item_of log number item from is framing events shows =
     ∙ sym (slice_get-drop shows.items log.first (number - log.first))
     ∙ ap (λ kept. slice_get kept (number - log.first)) (sym shows.kept)
     ∙ is
+
+-- the number of the item of a number is that of the events
+number_at-drop : (counts : List ℕ) (items : List Item) (first place number : ℕ) → first + place ≡ number → number_at (counted counts (take first items)) (drop first items) place ≡ number_at counts items number
+number_at-drop counts items first place number at =
+    let on : first + (place + 1) ≡ number + 1 = omega arith in
+    let front : counted (counted counts (take first items)) (take (place + 1) (drop first items)) ≡ counted counts (take (number + 1) items) =
+    counted-front counts items first (place + 1) ∙ ap (λ n. counted counts (take n items)) on in
+    λ i. option_map_or (λ (item : Item). get_or (front i) item.conn 0) ((slice_get-drop items first place ∙ ap (slice_get items) at) i) 0
+
+pub is_number_of : (log : Log) (number within : ℕ) → log.first ≤ number → within ≡ number_in_connection log number → IsNumberOf log number within
+is_number_of log number within from is framing events shows =
+    let all = (heard_items framing events (record { items = shows.items; rests = log.rests }) shows.is_heard).0 in
+    ap (λ items. number_at none_counted items number) all
+    ∙ sym (number_at-drop none_counted shows.items log.first (number - log.first) number (omega arith))
+    ∙ sym (λ i. number_at (shows.counts i) (shows.kept i) (number - log.first))
+    ∙ sym is
+
+-- a log that gives items up
+pub trimmed_is : (log : Log) (before : ℕ) (kept : List Item) (counts : List ℕ) → log.first < before → kept ≡ drop (before - log.first) log.kept → counts ≡ counted log.counts (take (before - log.first) log.kept) →
+    record log { first = before; kept = kept; counts = counts } ≡ trimmed log before
+trimmed_is log before kept counts lt items counts_are =
+    let first : before ≡ max log.first before = omega arith in
+    λ i. record log { first = first i; kept = items i; counts = counts_are i }
+
+pub trimmed_none : (log : Log) (before : ℕ) → before ≤ log.first → log ≡ trimmed log before
+trimmed_none log before le =
+    let none : 0 ≡ before - log.first = omega arith in
+    let first : log.first ≡ max log.first before = omega arith in
+    λ i. record log { first = first i; kept = drop (none i) log.kept; counts = (sym (counted-none log.counts) ∙ ap (λ n. counted log.counts (take n log.kept)) none) i }
+
+pub trimmed_later : (log : Log) (before number : ℕ) → max log.first before ≤ number → item_at (trimmed log before) number ≡ item_at log number
+trimmed_later log before number from =
+    let place : (before - log.first) + (number - max log.first before) ≡ number - log.first = omega arith in
+    slice_get-drop log.kept (before - log.first) (number - max log.first before) ∙ ap (slice_get log.kept) place
+
+pub trimmed_shows : (log : Log) (before : ℕ) → before ≤ received log → ShowsStill log (trimmed log before)
+trimmed_shows log before most framing events shows =
+    let place : log.first + (before - log.first) ≡ max log.first before = omega arith in
+    record {
+      items = shows.items;
+      is_heard = shows.is_heard;
+      cut_so = shows.cut_so;
+      kept = ap (drop (before - log.first)) shows.kept ∙ drop-drop (before - log.first) log.first shows.items ∙ ap (λ n. drop n shows.items) place;
+      given_up = omega (arith, ap length shows.kept, length-drop log.first shows.items, shows.given_up);
+      counts = (λ i. counted (shows.counts i) (take (before - log.first) (shows.kept i))) ∙ counted-front none_counted shows.items log.first (before - log.first) ∙ ap (λ n. counted none_counted (take n shows.items)) place;
+    }
 
 pub shown_items : ShownItems
 shown_items framing events log shows =

@@ -3,6 +3,7 @@ pub mod Connections
 pub mod Heard
 pub mod Watched
 pub mod Watching
+pub mod Counting
 pub mod Log
 pub mod Taking
 pub mod Laws

@@ -1,8 +1,7 @@
 -- What connections do with a piece of one of them.
 use Rattle.std.specs.Prelude.{◌≡◌, ℕ, List, [], Vec, Option, Some, None, unwrap_or, slice_set, Result, Ok, Err}
 use Rattle.msg_frame.specs.declared.framing.FrameRefusal.TheVariants.{TooLong, Memory}
-use Rattle.msg_frame.specs.Messages.{one_message}
-use Rattle.item_log.specs.Terms.{Global, FrameRefusal, Framing, Parts, cut}
+use Rattle.item_log.specs.Terms.{Global, FrameRefusal, Framing, Parts, cut, one_message}
 use Rattle.item_log.specs.Connections.{rest_of}
 use Rattle.item_log.specs.Watched.{Watched}
 

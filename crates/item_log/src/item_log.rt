@@ -1,14 +1,14 @@
 // The items of a link.
 ghost use Rattle.std.specs.Prelude.{◌≡◌, ◌≢◌, ℕ, ◌+◌, ◌≤◌, ◌<◌, [], Some, IsTrue, IfOk, OnOk, ◌↔◌, slice_get};
 ghost use Rattle.item_log.specs.Connections.{is_open, in_order};
-ghost use Rattle.item_log.specs.Log.{empty_log, received, item_at, trimmed, logged, Logs, Shows, ShowsMore, ShowsStill, IsItemOf};
+ghost use Rattle.item_log.specs.Log.{empty_log, received, item_at, number_in_connection, trimmed, logged, Logs, Shows, ShowsMore, ShowsStill, IsItemOf, IsNumberOf};
 ghost use Rattle.item_log.specs.Taking.{Brings, HasReceived, Takes};
 ghost use Rattle.item_log.specs.Watching.{IsMessageOf};
 
-use crate::ItemRefusal;
 use crate::connections::Connections;
 use crate::kept::{drop_front, push_bare, push_message, push_messages};
-use crate::kinds::{CLOSED, OPENED};
+use crate::kinds::{CLOSED, CONNECTIONS, OPENED};
+use crate::{ItemRefusal, counting};
 use links::LinkEvent;
 use msg_frame::Framing;
 use rx_io::Item;
@@ -16,8 +16,8 @@ use std::alloc::{AllocError, Global};
 use std::collections::VecDeque;
 use std::marker::Model;
 
-/// The items of the events of a link, numbered from 0 in their order. It keeps those that weren't given up, and the rests of
-/// the connections that are open.
+/// The items of the events of a link, numbered from 0 in their order. It keeps those that weren't given up, the rests of the connections
+/// that are open, and how many messages each connection had since it opened, among the items that were given up.
 #[derive(Debug, Drop)]
 pub struct ItemLog {
     alloc: Global,
@@ -25,17 +25,18 @@ pub struct ItemLog {
     first: u64,
     items: VecDeque<Item>,
     connections: Connections,
+    counts: Vec<u64>,
 }
 
 impl Model for ItemLog {
-    ghost use Rattle.std.specs.Prelude.{◌+◌, ◌^◌, ◌<◌, ◌≤◌, length};
+    ghost use Rattle.std.specs.Prelude.{ℕ, ◌+◌, ◌^◌, ◌<◌, ◌≤◌, All, length};
     ghost use Rattle.item_log.specs.Log.{Log};
 
     ghost Value = { Log };
 
-    ghost view = { λ l. record { framing = l.connections.framing; max_items = l.max_items; first = l.first; kept = l.items.items; rests = l.connections.rests } };
+    ghost view = { λ l. record { framing = l.connections.framing; max_items = l.max_items; first = l.first; kept = l.items.items; rests = l.connections.rests; counts = l.counts.items } };
 
-    ghost invariant = { λ l. (l.first + length l.items.items ≤ l.max_items) × (l.max_items < 2 ^ 64) };
+    ghost invariant = { λ l. (l.first + length l.items.items ≤ l.max_items) × (l.max_items < 2 ^ 64) × All (λ (count : ℕ). count ≤ l.first) l.counts.items };
 }
 
 impl ItemLog {
@@ -50,6 +51,7 @@ impl ItemLog {
             first: 0,
             items: VecDeque::new(alloc),
             connections: Connections::make(alloc, framing)?,
+            counts: vec![in alloc; 0; CONNECTIONS]?,
         })
     }
 
@@ -85,6 +87,21 @@ impl ItemLog {
         &self.items[(number - self.first) as usize]
     }
 
+    /// The number among the messages of its connection of the item of a number that was received and not given up: how many messages
+    /// the connection had since it opened, with this item. So the first message behind an open has 1.
+    pub fn number_in_connection(&self, number: u64) -> u64
+        requires kept { self.now.first ≤ number }
+        requires there { number < received self.now }
+        ensures number { result ≡ number_in_connection self.now number }
+        ensures of_events { IsNumberOf self.now number result }
+    {
+        counting::number_at(
+            self.counts.as_slice(),
+            &self.items,
+            (number - self.first) as usize,
+        )
+    }
+
     /// Gives the items before a number up. All others keep their numbers.
     pub fn trim(&mut self, before: u64)
         requires { before ≤ received self.old }
@@ -94,7 +111,8 @@ impl ItemLog {
         ensures shows { ShowsStill self.old self.new }
     {
         if self.first < before {
-            drop_front(&mut self.items, (before - self.first) as usize);
+            let count = (before - self.first) as usize;
+            drop_front(&mut self.items, self.counts.as_mut_slice(), count);
             self.first = before;
         }
     }

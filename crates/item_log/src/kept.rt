@@ -1,8 +1,10 @@
 // Items in a queue.
-ghost use Rattle.std.specs.Prelude.{◌≡◌, ◌+◌, ◌≤◌, ◌∷◌, [], ◌++◌, map, drop, length, OnOk, OnErr};
+ghost use Rattle.std.specs.Prelude.{◌≡◌, ◌+◌, ◌≤◌, ◌∷◌, [], ◌++◌, map, drop, length, take, OnOk, OnErr};
 ghost use Rattle.std.specs.VecDeque.{deque_len, deque_capacity};
+ghost use Rattle.item_log.specs.Counting.{counted, HaveRoom};
 ghost use Rattle.item_log.specs.Heard.{bare_item, message_item};
 
+use crate::counting::count_one;
 use crate::kinds::MESSAGE;
 use rx_io::{Bytes, Item};
 use std::alloc::{AllocError, Global};
@@ -60,11 +62,17 @@ pub fn push_messages(items: &mut VecDeque<Item>, conn: u16, messages: Vec<Bytes>
     }
 }
 
-/// Gives so many of the first items up.
-pub fn drop_front(items: &mut VecDeque<Item>, count: usize)
-    ensures { items.new.items ≡ drop count items.old.items }
+/// Gives so many of the first items up, and counts them.
+pub fn drop_front(items: &mut VecDeque<Item>, counts: &mut [u64], count: usize)
+    requires within { count ≤ length items.old.items }
+    requires room { HaveRoom count counts.old }
+    ensures items { items.new.items ≡ drop count items.old.items }
+    ensures counts { counts.new ≡ counted counts.old (take count items.old.items) }
 {
     for _i in 0..count {
-        let _given_up = items.pop_front();
+        let Some(item) = items.pop_front() else {
+            return;
+        };
+        count_one(counts, &item);
     }
 }

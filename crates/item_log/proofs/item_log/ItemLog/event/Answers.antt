@@ -1,5 +1,4 @@
-use Rattle.item_log.proofs.Terms.{rules}
-use Rattle.item_log.specs.Log.{Logs}
+use Rattle.item_log.proofs.Terms.{rules, Logs}
 use Rattle.item_log.proofs.Shown.{answer_shows, logs_show}
 use Rattle.item_log.proofs.item_log.ItemLog.event.Goals as goal
 
