@@ -1,7 +1,7 @@
 -- A trial that was made, and one that is adopted.
 use Rattle.reply_ledger.specs.Trials as ledgers
 use Rattle.session_notes.specs.declared.episode.Tried.TheVariants as tried
-use Rattle.recovery.proofs.Terms.{List, None, Option, Some, [], ap, arith, drop, false, length, refl, subst, sym, take, true, ℕ, ◌++◌, ◌+◌, ◌-◌, ◌∙◌, ◌∷◌, ◌≡◌, ◌≤◌, MatchBool-at_true, and_parts, length-map, take-append-le, none-some, same_Some, slice_get-map, slice_get_within, IsSome, IsSomeAnd, is_some, option_map, slice_get, Send, sent_to, Choice, Env, Checkpoint, checkpoint_of, checkpoints_of, from_newest, Saved, Log, shown_passed, shows-adopted, agree-append, Ledger, connection_of, Shows, adopted, agree, trial_sends, sent_to-append, Path, CpuState, standing_of, Standing, served_grows, received, KeepsReplies, Tried, Try, survives, steps_later, Trial, chance_at, plan_of_trial, Adopted, FailedAt, Failure, items_of, pieces_of, taken_in, Served, HasTried, IsAdopted, KeepsLedger, KeepsSaved, StandsOn, adopted_of, steps_of, HasBegun, IsMade}
+use Rattle.recovery.proofs.Terms.{List, None, Option, Some, [], ap, arith, drop, false, length, refl, subst, sym, take, true, ℕ, ◌++◌, ◌+◌, ◌-◌, ◌∙◌, ◌∷◌, ◌≡◌, ◌≤◌, MatchBool-at_true, and_parts, length-map, take-append-le, none-some, same_Some, slice_get-map, slice_get_within, IsSome, IsSomeAnd, is_some, option_map, slice_get, Send, sent_to, Choice, Env, Checkpoint, checkpoint_of, checkpoints_of, from_newest, Saved, Log, shown_passed, shows-adopted, agree-append, Ledger, connection_of, Shows, adopted, agree, trial_sends, sent_to-append, Path, Served, CpuState, standing_of, Standing, served_grows, received, KeepsReplies, Tried, Try, survives, steps_later, Trial, chance_at, plan_of_trial, Adopted, FailedAt, Failure, items_of, pieces_of, taken_in, HasTried, IsAdopted, KeepsLedger, KeepsSaved, StandsOn, adopted_of, steps_of, HasBegun, IsMade}
 use Rattle.recovery.proofs.Joining.{Beside, now_is, now_covers}
 use Rattle.recovery.proofs.Starting.{from_at, failed_still, same_front}
 use Rattle.trials.proofs.Recovered.{survives_so}

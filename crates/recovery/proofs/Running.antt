@@ -1,6 +1,5 @@
 -- The guest of a trial runs to its next event: what that makes of the trial.
 use Rattle.std.proofs.lemmas.Nat.{mul-le}
-use Rattle.item_log.specs.Heard as heard
 use Rattle.guest_cpu.specs.declared.event.Event.TheVariants as event
 use Rattle.run_history.specs.Touching.{Range}
 use Rattle.guest_cpu.specs.Running.{RunsBy}

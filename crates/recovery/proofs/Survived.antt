@@ -1,7 +1,8 @@
 -- What a walk leaves: none of its trials survived, or the last one is adopted.
 use Rattle.session_notes.specs.declared.episode.Tried.TheVariants as tried
 use Rattle.trials.proofs.Walked.{walk_adopts}
-use Rattle.recovery.proofs.Terms.{List, None, Option, Some, [], ap, arith, drop, length, length-append, length-drop, refl, subst, suc, sym, take, zero, ℕ, ◌++◌, ◌+◌, ◌-◌, ◌∙◌, ◌∷◌, ◌≡◌, ◌≤◌, take-append_seam, take-append-le, none-some, same_Some, option_map, slice_get, Item, Send, Choice, Env, Ledger, discarded, Image, IsUsed, served_follows, start, start_machine, AsksFor, Limits, Override, Path, Served, origin, CpuState, Tried, Try, asks_under_all, chained_at, AreChained, Chance, IsRight, Trial, chance_at, survivor_in, ComesTo, Adopted, Failure, items_of, pieces_of, HasWalked, IsAdopted, LeavesBy, adopted_of, steps_of, AreBehind}
+use Rattle.recovery.proofs.Terms.{List, None, Option, Some, [], ap, arith, drop, length, length-append, length-drop, refl, subst, suc, sym, take, zero, ℕ, ◌++◌, ◌+◌, ◌-◌, ◌∙◌, ◌∷◌, ◌≡◌, ◌≤◌, take-append_seam, take-append-le, none-some, same_Some, option_map, slice_get, Item, Send, Choice, Env, Log, Ledger, discarded, Image, IsUsed, served_follows, start, start_machine, AsksFor, Limits, Override, Path, Served, origin, CpuState, Tried, Try, asks_under_all, chained_at, AreChained, Chance, IsRight, Trial, WalksOver, chance_at, survivor_in, table, ComesTo, Adopted, FailedAt, Failure, items_of, pieces_of, HasWalked, IsAdopted, KeepsLedger, LeavesBy, adopted_of, steps_of, IsOfOneRun, AreBehind}
+use Rattle.recovery.proofs.Starting.{replies_still}
 use Rattle.recovery.proofs.WalkLemmas.{steps_of-more}
 
 -- the chance at an index is one at its checkpoint
@@ -45,6 +46,29 @@ module _ {R : Type 0} where
   pub none_survived : {failure : Failure} {point : ℕ} {cpu : CpuState R} {choices : List Choice} {old new : Ledger} {before now : ℕ} {tries : List Try} {adopted : Option Adopted} (w : HasWalked failure point cpu choices old new before now tries adopted)
       → adopted ≡ None → (survivor_in w.trials ≡ None) × (new ≡ discarded old)
   none_survived {failure = failure} {cpu = cpu} {choices = choices} {old = old} {new = new} w is = subst (λ (a : Option Adopted). LeavesBy failure w.trials cpu choices old new a) is w.leaves
+
+module _ {R : Type 0} where
+  -- a ledger of which a trial alone changed has the sends of the survivor that failed
+  pub of_failed : {failure : Failure} {point : ℕ} {cpu : CpuState R} {log : Log} {old new : Ledger} → FailedAt point failure cpu log old → KeepsLedger old new → IsOfOneRun failure point new
+  of_failed {failure = failure} {old = old} {new = new} failed same = record {
+    trial = None;
+    found = tt;
+    replies = replies_still failure.rules.bounds failure.entries failure.failed.state.sends old new same failed.has.replies;
+  }
+
+  -- behind a walk it is of one run, by what was adopted
+  of_left : {failure : Failure} {point : ℕ} {began : CpuState R} {log : Log} (trials : List Trial) (cpu : CpuState R) (choices : List Choice) {old new : Ledger} (adopted : Option Adopted) → FailedAt point failure began log old
+      → WalksOver failure.rules.limits (items_of failure) failure.plan (pieces_of failure) point (table failure.ring) trials → LeavesBy failure trials cpu choices old new adopted → IsOfOneRun failure point new
+  of_left trials cpu choices None failed walks leaves = of_failed failed (ap discarded leaves.1)
+  of_left trials cpu choices (Some adopted) failed walks leaves = record {
+    trial = Some leaves.0;
+    found = record { trials = trials; walks = walks; found = leaves.1 };
+    replies = leaves.2.replies;
+  }
+
+  pub of_walked : {failure : Failure} {point : ℕ} {began cpu : CpuState R} {log : Log} {choices : List Choice} {old new : Ledger} {before now : ℕ} {tries : List Try} {adopted : Option Adopted} → FailedAt point failure began log old
+      → HasWalked failure point cpu choices old new before now tries adopted → IsOfOneRun failure point new
+  of_walked {cpu = cpu} {choices = choices} {adopted = adopted} failed w = of_left w.trials cpu choices adopted failed w.walks w.leaves
 
 -- by what is adopted of a trial it asks for the next item, or has ended itself
 pub adopted_asks : {limits : Limits} (items : List Item) (plan : List Override) (checkpoint : Path) (pieces : List Send) {point : ℕ} {path : Path} (index : ℕ) (env : Env) (result : Tried) {adopted : Adopted} → adopted_of index env result ≡ Some adopted

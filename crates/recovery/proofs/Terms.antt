@@ -31,7 +31,7 @@ pub use Rattle.recovery.specs.Sessions.{AreKept, CanGoOn, CanTry, FailedAt, Fail
 pub use Rattle.recovery.specs.Going.{ComesIf, HasCome, HasStopped, IsAsking, IsJudged, IsLater, IsLaterIf, IsTrying, SendsBy, TriesSomewhere, TurnsBy, agrees_next}
 pub use Rattle.recovery.specs.Trying.{HasTried, HasWalked, IsAdopted, KeepsBase, KeepsLedger, KeepsSaved, LeavesBy, StandsOn, adopted_of, steps_of}
 pub use Rattle.recovery.specs.Unfinished.{Attempt, BeginsOver}
-pub use Rattle.recovery.specs.Walking.{AdoptedLast, AdoptedOne, AllBy, AreTried, FailedOne, FailedSome, HasBegun, HasSameBytes, IsEpisode, IsMade, LedgerBy, OneBy, RingBy, WalksBy}
+pub use Rattle.recovery.specs.Walking.{AdoptedLast, AdoptedOne, AllBy, AreTried, FailedOne, FailedSome, HasBegun, HasSameBytes, IsEpisode, IsMade, IsOfOneRun, LedgerBy, OneBy, WalksBy}
 pub use Rattle.recovery.specs.Rings.{AreBehind, Brings, IsInForce, KeepsRing, is_due, is_due_after, ring_if}
 pub use Rattle.recovery.specs.Recovering.{Adopts, HasAdoptedRun, HasToRecover, KeepsSlots, recovery_of}
 pub use Rattle.recovery.specs.Handling.{AreRinged, AreWritten, HasHandled, HasRing, HasWritten, IsRinged, Keeping, Stand, first_stands, handle, handled, is_far, keeping_by, may_stand, stand_of, stands_of, stay, whole_oldest}

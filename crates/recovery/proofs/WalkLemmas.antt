@@ -1,6 +1,6 @@
 -- A walk goes on from chance to chance.
 use Rattle.std.proofs.lemmas.List.Sums.{sum_by-append}
-use Rattle.recovery.proofs.Terms.{Bool, List, None, Some, [], Option, MatchBool-at_false, MatchBool-at_true, ap, append-nil, append_assoc, arith, cond, false, length, refl, subst, suc, sym, take, true, zero, ℕ, ◌++◌, ◌+◌, ◌-◌, ◌∙◌, ◌∷◌, ◌≡◌, ◌≤◌, map-append, take_all, none-some, same_Some, MatchBool, map, slice_get, sum, Choice, Heap, Env, Log, Ledger, discarded, Path, CpuState, Try, survives, Chance, IsRight, Trial, WalksOver, chances_at, environments, survivor_in, table, try_of, Adopted, CanTry, FailedAt, Failure, IsUnder, items_of, pieces_of, HasWalked, KeepsLedger, KeepsSaved, steps_of, Attempt, BeginsOver, AdoptedLast, AdoptedOne, AreTried, FailedOne, FailedSome, HasBegun, HasSameBytes}
+use Rattle.recovery.proofs.Terms.{Bool, List, None, Option, Some, [], ap, append-nil, append_assoc, arith, cond, false, length, refl, subst, suc, sym, take, true, zero, ℕ, ◌++◌, ◌+◌, ◌-◌, ◌∙◌, ◌∷◌, ◌≡◌, ◌≤◌, MatchBool-at_false, MatchBool-at_true, map-append, take_all, none-some, same_Some, MatchBool, map, slice_get, sum, Choice, Heap, Env, Log, Ledger, discarded, Path, CpuState, Try, survives, Chance, IsRight, Trial, WalksOver, chances_at, environments, survivor_in, table, try_of, Adopted, CanTry, FailedAt, Failure, IsUnder, items_of, pieces_of, HasWalked, KeepsLedger, KeepsSaved, steps_of, Attempt, BeginsOver, AdoptedLast, AdoptedOne, AreTried, FailedOne, FailedSome, HasBegun, HasSameBytes}
 use Rattle.recovery.proofs.Starting.{failed_still}
 use Rattle.recovery.proofs.Adopting.{adopted_survives}
 use Rattle.session_history.proofs.Connected.{take_one}

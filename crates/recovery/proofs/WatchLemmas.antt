@@ -1,5 +1,5 @@
 -- A failure at which a watch looked: a walk behind that is a walk of the failure.
-use Rattle.recovery.proofs.Terms.{AllocError, List, None, Option, Some, [], arith, refl, subst, ℕ, ◌+◌, ◌≡◌, Err, Ok, Result, Chance, Choice, Ledger, discarded, CpuState, Trial, Adopted, Walked, Failure, HasBegun, LeavesBy, WalksBy, steps_of}
+use Rattle.recovery.proofs.Terms.{AllocError, List, None, Option, Some, [], arith, refl, subst, ℕ, ◌+◌, ◌≡◌, Err, Ok, Result, Choice, Ledger, discarded, CpuState, Chance, Trial, Adopted, Walked, Failure, LeavesBy, steps_of, HasBegun, WalksBy}
 
 -- none was begun, where memory ran out before
 pub none_begun : (failure : Failure) (point : ℕ) (chances : List Chance) {before after : ℕ} → after ≡ before → HasBegun failure point chances before after

@@ -2,8 +2,8 @@
 use Rattle.std.specs.Prelude.{◌≡◌, ◌⊎◌, ℕ, ◌+◌, ◌-◌, ◌<◌, ◌≤◌, Bool, List, [], ◌++◌, length, take, drop, Option, None, Some, Result, Ok, Err, slice_get}
 use Rattle.recovery.specs.Terms.{AllocError, Choice, Heap, Checkpoints, checkpoints_of, without_newer, newest_slot, without_newer_slots, Log, Ledger, discarded, Cause, AsksFor, FailsBy, Path, CpuState, standing_of, KeepsReplies, Try, IsRecovery, Recovery, adopted_by, episode_of, Trial, survivor_in, table}
 use Rattle.recovery.specs.Sessions.{CanGoOn, Failure, IsUnder, FailedAt, taken_in}
-use Rattle.recovery.specs.Trying.{steps_of}
-use Rattle.recovery.specs.Walking.{HasSameBytes, HasBegun}
+use Rattle.recovery.specs.Trying.{KeepsSaved, steps_of}
+use Rattle.recovery.specs.Walking.{HasSameBytes, KeepsPassed, HasBegun}
 use Rattle.recovery.specs.Watching.{TellsTable}
 use Rattle.recovery.specs.declared.walking.Adopted.{Adopted}
 use Rattle.recovery.specs.declared.walking.FailureSite.{FailureSite}
@@ -93,10 +93,10 @@ module _ {R : Type 0} where
     pub slots : KeepsSlots adopted old new
     pub bytes : HasSameBytes before after
 
-  -- by the answer: after want of memory the checkpoints and the answers of the allocator are as they were
+  -- By the answer. After want of memory the checkpoints, the answers of the allocator and what was passed are as they were.
   abbrev pub LeavesRest : CpuState R → CpuState R → Checkpoints → Checkpoints → List Choice → List Choice → Ledger → Ledger → Result Recovered AllocError → Type 0
   LeavesRest old new before after chose choices ledger later (Ok recovered) = LeavesSession recovered.adopted old new ledger later
-  LeavesRest old new before after chose choices ledger later (Err fault) = (after ≡ before) × (choices ≡ chose)
+  LeavesRest old new before after chose choices ledger later (Err fault) = (after ≡ before) × (choices ≡ chose) × KeepsSaved old new × KeepsPassed ledger later
 
 -- by the answer: a watch that tells its tables tells one more, that of the failure; after want of memory it may, or tells what it told
 abbrev pub WatchedBy : {X : Type 0} → Failure → ℕ → Option (List (List Try)) → Option (List (List Try)) → Result X AllocError → Type 0

@@ -1,6 +1,6 @@
 -- A walk on its way over the table of trials.
-use Rattle.std.specs.Prelude.{◌≡◌, ℕ, ◌+◌, ◌-◌, List, [], ◌∷◌, ◌++◌, map, take, false, Option, None, Some, slice_get, Result, Ok, Err}
-use Rattle.recovery.specs.Terms.{AllocError, Choice, Env, Ledger, discarded, Path, CpuState, Episode, Try, survives, Chance, IsRight, Trial, chances_at, environments, table, try_of}
+use Rattle.std.specs.Prelude.{◌≡◌, ℕ, ◌+◌, ◌-◌, List, [], ◌∷◌, ◌++◌, map, take, false, Option, None, Some, IfSome, slice_get, Result, Ok, Err}
+use Rattle.recovery.specs.Terms.{AllocError, Choice, Env, Ledger, discarded, Path, CpuState, KeepsReplies, Episode, Try, survives, Chance, IsRight, Trial, WalksOver, chances_at, environments, survivor_in, table, try_of}
 use Rattle.recovery.specs.declared.walking.Adopted.{Adopted}
 use Rattle.recovery.specs.declared.walking.Walked.{Walked}
 use Rattle.recovery.specs.declared.walking.FailureSite.{FailureSite}
@@ -43,11 +43,33 @@ pub record HasBegun (failure : Failure) (point : ℕ) (chances : List Chance) (b
   pub begins : BeginsOver failure.rules.limits (items_of failure) failure.plan (pieces_of failure) point chances unfinished.trials unfinished.last
   pub counted : after ≡ before + steps_unfinished unfinished
 
+-- the passed bytes of a ledger are as they were, and so is where they begin
+pub record KeepsPassed (old new : Ledger) : Type 0 where
+  pub first : new.first ≡ old.first
+  pub connections : new.connections ≡ old.connections
+
 -- a ledger without a trial, in which the passed bytes are as they were
 pub record HasSameBytes (old new : Ledger) : Type 0 where
   pub no_trial : new.trial ≡ None
   pub first : new.first ≡ old.first
   pub connections : new.connections ≡ old.connections
+
+-- a walk over a failure's table found that this trial survives, the first one that does
+pub record IsFound (failure : Failure) (point : ℕ) (trial : Trial) : Type 0 where
+  pub trials : List Trial
+  pub walks : WalksOver failure.rules.limits (items_of failure) failure.plan (pieces_of failure) point (table failure.ring) trials
+  pub found : survivor_in trials ≡ Some trial
+
+-- the run that a session has behind a failure: the survivor's that failed, or that of a trial
+abbrev pub run_of : Failure → Option Trial → Path
+run_of failure None = failure.failed
+run_of failure (Some trial) = trial.path
+
+-- A ledger has the sends of one run, all of them and no others: those of the survivor that failed, or those of the trial that a walk found.
+pub record IsOfOneRun (failure : Failure) (point : ℕ) (ledger : Ledger) : Type 0 where
+  pub trial : Option Trial
+  pub found : IfSome trial (IsFound failure point)
+  pub replies : KeepsReplies failure.rules.bounds failure.entries None (run_of failure trial).state.sends ledger
 
 -- an episode tells of a failure, and of the walk
 pub record IsEpisode (site : FailureSite) (episode : Episode) : Type 0 where

@@ -2,14 +2,14 @@
 //! checkpoints that it keeps for that.
 //!
 //! What a trial is, and in which order trials are made, `trials` defines. This is the code that makes them.
-//! A walk changes no passed byte, and where no trial survives the ledger is as it was.
+//! A walk changes no passed byte, and where no trial survives the ledger is as it was. Whatever is answered, it has the sends of one run alone.
 //! After want of memory the trials so far are told, and how far the one had come that was under way. Where the guest stands isn't, but of one trial.
 //! A `Watch` may look at a failure before trials are made of it. The program's own is `NoWatch`.
 //! Its calls keep the ring right beside the guest, the log and the ledger of the session, and require that it is.
 //! `recover` asks the watch first, and then walks over the trials.
 //! What the watch counts isn't among what the trials did.
 //! `forget` gives up only what no trial from the checkpoints that stand can need.
-//! After want of memory the ring is as it was, and which of the guest's saved slots stand isn't said.
+//! After want of memory the ring and the guest's saved slots are as they were.
 //! The laws say that the checkpoints behind a request are fixed by the run, and by how the session keeps them.
 #![tactic(auto)]
 

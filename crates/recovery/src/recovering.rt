@@ -5,7 +5,7 @@ ghost use Rattle.ckpt_ring.specs.Rings.{checkpoints_of};
 ghost use Rattle.run_history.specs.Served.{Path};
 ghost use Rattle.recovery.specs.Sessions.{CanTry, Failure, FailedAt, IsUnder, taken_in};
 ghost use Rattle.recovery.specs.Trying.{KeepsSaved, StandsOn};
-ghost use Rattle.recovery.specs.Walking.{IsEpisode, StaysBy, WalksBy};
+ghost use Rattle.recovery.specs.Walking.{IsEpisode, IsOfOneRun, StaysBy, WalksBy};
 ghost use Rattle.recovery.specs.Handling.{keeping_by};
 ghost use Rattle.recovery.specs.Recovering.{HasToRecover, CanRecover, RecoversBy, LeavesRest, AdoptsBy, WatchedBy};
 
@@ -111,7 +111,8 @@ fn walk_watched<R: AccessRule, W: Watch, L: Ledger>(
 /// # Errors
 ///
 /// `AllocError` where memory runs out. Then trials of the first chances were made, none of which was adopted, and one more may be begun. The guest
-/// may stand anywhere; `choices` and the checkpoints are as they were.
+/// may stand anywhere; `choices`, the checkpoints and what was passed are as they were. `replies` has the sends of the run that failed, beside a trial
+/// that may be left; or, where memory ran out behind the walk, those of the trial that survived.
 pub fn recover<R: AccessRule, W: Watch, L: Ledger>(
     alloc: Global,
     cpu: &mut Cpu<R>,
@@ -131,6 +132,8 @@ pub fn recover<R: AccessRule, W: Watch, L: Ledger>(
     ensures watched { (failure : Failure) → IsUnder failure budget (R.rule cpu.old.rule) → HasToRecover site failure cpu.old ring.old recorded choices.old.items items.now replies.old
         → WatchedBy failure site.point (W.tables watch.old) (W.tables watch.new) result }
     ensures rest { LeavesRest cpu.old cpu.new ring.old ring.new choices.old.items choices.new.items replies.old replies.new result }
+    ensures one_run { (failure : Failure) → IsUnder failure budget (R.rule cpu.old.rule) → HasToRecover site failure cpu.old ring.old recorded choices.old.items items.now replies.old
+        → IsOfOneRun failure site.point replies.new }
     ensures keeping { (every : ℕ) → keeping_by ring.new.capacity every cpu.new.slots ≡ keeping_by ring.old.capacity every cpu.old.slots }
     ensures rule { cpu.new.rule ≡ cpu.old.rule }
     ensures least { W.ran watch.new + steps.old ≤ W.ran watch.old + steps.new }

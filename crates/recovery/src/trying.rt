@@ -60,7 +60,7 @@ fn settle(tried: Tried, replies: &mut Replies)
 /// Goes on from the checkpoint at an index of the ring, where 0 is the newest one, in an environment, with the items that were
 /// received, up to a result: whether the program comes past the failure, at which so many items were taken as `point` says. What
 /// malloc answered since the checkpoint stands in `choices`. Where the trial survives, `replies` has its sends as a trial, which
-/// `adopt` makes the survivor's; else no trial is left there.
+/// `adopt` makes the survivor's; else no trial is left there. All else of `replies` stays, whatever is answered.
 ///
 /// The guest stands where the trial has come, and counts as written the pages that the trial wrote. The checkpoints and the items stay
 /// as they are. `steps` counts the instructions.

@@ -5,7 +5,7 @@ ghost use Rattle.run_history.specs.Served.{Path};
 ghost use Rattle.trials.specs.Tables.{environments};
 ghost use Rattle.recovery.specs.Sessions.{CanTry, Failure, FailedAt, IsUnder, taken_in};
 ghost use Rattle.recovery.specs.Trying.{KeepsSaved, adopted_of};
-ghost use Rattle.recovery.specs.Walking.{OneBy, AllBy, RingBy, LedgerBy, StaysBy, IsEpisode, WalksBy};
+ghost use Rattle.recovery.specs.Walking.{OneBy, AllBy, RingBy, LedgerBy, StaysBy, IsOfOneRun, IsEpisode, WalksBy};
 
 use crate::trying::attempt;
 use alloc_env::Env;
@@ -217,7 +217,8 @@ fn try_ring<R: AccessRule, L: Ledger>(
 /// # Errors
 ///
 /// `AllocError` where memory runs out. Trials of the first chances were made then, none of which survived, and one more may be begun. The guest may
-/// stand anywhere, and a trial may be left in `replies`. `steps` counts the instructions of the trial that was begun, too.
+/// stand anywhere, and a trial may be left in `replies`, beside the sends of the run that failed. `steps` counts the instructions of the trial that was
+/// begun, too.
 pub fn walk<R: AccessRule, L: Ledger>(
     alloc: Global,
     cpu: &mut Cpu<R>,
@@ -236,6 +237,8 @@ pub fn walk<R: AccessRule, L: Ledger>(
     ensures episode { IfOk result (λ walked. IsEpisode site walked.episode) }
     ensures saved { KeepsSaved cpu.old cpu.new }
     ensures ledger { StaysBy replies.old replies.new result }
+    ensures one_run { (failure : Failure) → IsUnder failure budget (R.rule cpu.old.rule) → FailedAt site.point failure cpu.old items.now replies.old
+        → IsOfOneRun failure site.point replies.new }
     ensures least { steps.old ≤ steps.new }
 {
     let mut tries = Vec::new(alloc);

@@ -1,4 +1,4 @@
-use Rattle.recovery.proofs.Terms.{List, ap, arith, subst, sym, ◌∙◌, ◌≡◌, Choice, Limits, Marks, Standing, IsTrying}
+use Rattle.recovery.proofs.Terms.{List, ap, arith, subst, sym, ◌∙◌, Choice, Limits, Marks, Standing, IsTrying}
 use Rattle.recovery.proofs.Running.{trying_room, live_base, base_on}
 use Rattle.recovery.proofs.Turning.{keeps_sent, later_if, later_sent, ran_later, ran_least, ran_stops, asks_now, chooses_now, chooses_later, exits_now, fails_now, emits_asks, emits_now, emits_later}
 use Rattle.recovery.proofs.going.turn.Goals as goal

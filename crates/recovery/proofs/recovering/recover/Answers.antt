@@ -1,5 +1,5 @@
 use Rattle.recovery.proofs.Terms.{List, length, refl, subst, sym, ◌+◌, ◌∙◌, ◌≤◌, Choice, Adopts, keeping_by}
-use Rattle.recovery.proofs.Survived.{has_survived, none_survived}
+use Rattle.recovery.proofs.Survived.{has_survived, none_survived, of_failed, of_walked}
 use Rattle.recovery.proofs.WalkLemmas.{walked_unfinished}
 use Rattle.recovery.proofs.Recoveries.{recovers, begun_at, episode_tells, can_adopt, adopts_run, adopted_slots, walked_keeping}
 use Rattle.recovery.proofs.recovering.recover.Goals as goal
@@ -81,3 +81,15 @@ returns-in-Ok-clause-recovers g c failure begun under has =
 
 pub returns-clause-recovers : goal.returns-clause-recovers
 returns-clause-recovers g c failure begun under has = begun_at has (c.in-Err.ensures.walks failure under has.failed)
+
+pub returns-in-None-clause-one_run : goal.returns-in-None-clause-one_run
+returns-in-None-clause-one_run g c failure under has = of_walked has.failed (c.in-Ok.ensures.walks failure under has.failed)
+
+pub returns-in-Ok-adopt-clause-one_run : goal.returns-in-Ok-adopt-clause-one_run
+returns-in-Ok-adopt-clause-one_run g c failure under has = of_walked has.failed (c.in-Ok.ensures.walks failure under has.failed)
+
+pub returns-in-Ok-clause-one_run : goal.returns-in-Ok-clause-one_run
+returns-in-Ok-clause-one_run g c failure under has = of_walked has.failed (c.in-Ok.ensures.walks failure under has.failed)
+
+pub returns-clause-one_run : goal.returns-clause-one_run
+returns-clause-one_run g c failure under has = of_failed has.failed c.in-Err.ensures.ledger
