@@ -1,9 +1,9 @@
 // What a session does where its program failed.
-ghost use Rattle.std.specs.Prelude.{◌≡◌, ℕ, ◌+◌, ◌≤◌, IfOk};
+ghost use Rattle.std.specs.Prelude.{◌≡◌, ℕ, ◌+◌, ◌≤◌};
 ghost use Rattle.links.specs.Seen.{Seen};
 ghost use Rattle.elf_image.specs.declared.image.Image.{Image};
 ghost use Rattle.session_state.specs.Standing.{Since, IsFailing};
-ghost use Rattle.session_state.specs.Serving.{IsNoteAnswer, UnlessMemory, ComesBetween, StandsFailing, AdoptsBy, KeepsAdopting, KeepsRecovering, end_of, rules_by};
+ghost use Rattle.session_state.specs.Serving.{IsNoteAnswer, ComesBetween, StandsFailing, AdoptsBy, KeepsAdopting, KeepsRecovering, end_of, rules_by};
 
 use crate::Session;
 use guest_space::AccessRule;
@@ -48,7 +48,7 @@ impl<R: AccessRule> Session<R> {
     ) -> Result<(), Stop>
         requires { StandsFailing (rules_by R.rule self.old) (K.seen link.old) (W.tables watch.old) cause self.old }
         ensures turns { (image : Image) (began : Since) (lost : ℕ) → IsFailing (rules_by R.rule self.old) image (record began { noted = (N.shown notes.old).told; tables = W.tables watch.old }) (K.seen link.old) cause self.old
-            → UnlessMemory result (lost + self.new.steps + (W.ran watch.new + steps.old) ≡ began.lost + self.old.steps + (W.ran watch.old + steps.new))
+            → lost + self.new.steps + (W.ran watch.new + steps.old) ≡ began.lost + self.old.steps + (W.ran watch.old + steps.new)
             → ComesBetween (rules_by R.rule self.old) image (record began { lost = lost; noted = (N.shown notes.new).told; tables = W.tables watch.new }) (K.seen link.new) self.new result }
         ensures keeps { KeepsRecovering (K.seen link.old) (K.seen link.new) (N.shown notes.old) (N.shown notes.new) self.old self.new result }
         ensures least { self.new.steps + (W.ran watch.new + steps.old) ≤ W.ran watch.old + steps.new + self.old.steps }
@@ -77,7 +77,7 @@ impl<R: AccessRule> Session<R> {
     ) -> Result<Recovered, AllocError>
         requires { (seen : Seen) × StandsFailing (rules_by R.rule self.old) seen (W.tables watch.old) cause self.old }
         ensures adopts { (image : Image) (began : Since) (seen : Seen) (lost : ℕ) → IsFailing (rules_by R.rule self.old) image (record began { tables = W.tables watch.old }) seen cause self.old
-            → (IfOk result (λ _. lost + self.new.steps + (W.ran watch.new + steps.old) ≡ began.lost + self.old.steps + (W.ran watch.old + steps.new)))
+            → lost + self.new.steps + (W.ran watch.new + steps.old) ≡ began.lost + self.old.steps + (W.ran watch.old + steps.new)
             → AdoptsBy (rules_by R.rule self.old) image (record began { lost = lost; tables = W.tables watch.new }) seen self.old.taken cause self.new result }
         ensures keeps { KeepsAdopting cause self.old self.new result }
         ensures least { self.new.steps + (W.ran watch.new + steps.old) ≤ W.ran watch.old + steps.new + self.old.steps }

@@ -7,7 +7,7 @@ ghost use Rattle.session_history.specs.Answering.{MayBegin};
 ghost use Rattle.session_state.specs.Standing.{Since, IsGoing, IsBetween, IsWaitingFor, IsEnding};
 ghost use Rattle.session_state.specs.Recovered.{HasWatched};
 ghost use Rattle.session_state.specs.Leaving.{keeping_of, IsTrimmed, HasLeft};
-ghost use Rattle.session_state.specs.Serving.{HasServedLink, Finishes, UnlessMemory, UnlessNoteFault, HasRun, StandsBetween, StandsAsking, StandsHearing, StandsTaking, StandsEmitting, StandsEnding, IsFinishing, ComesBetween, IsReadyToServe, outcome_of, KeepsTurning, KeepsAsking, KeepsReceiving, KeepsItem, KeepsSending, KeepsChoosing, rules_by};
+ghost use Rattle.session_state.specs.Serving.{HasServedLink, Finishes, UnlessNoteFault, HasRun, StandsBetween, StandsAsking, StandsHearing, StandsTaking, StandsEmitting, StandsEnding, IsFinishing, ComesBetween, IsReadyToServe, outcome_of, KeepsTurning, KeepsAsking, KeepsReceiving, KeepsItem, KeepsSending, KeepsChoosing, rules_by};
 
 use crate::Session;
 use crate::giving::answer_to;
@@ -104,7 +104,7 @@ impl<R: AccessRule> Session<R> {
     ) -> Result<(), Stop>
         requires { StandsBetween (rules_by R.rule self.old) (K.seen link.old) (W.tables watch.old) self.old }
         ensures turns { (image : Image) (began : Since) (lost : ℕ) → IsBetween (rules_by R.rule self.old) image (record began { noted = (N.shown notes.old).told; tables = W.tables watch.old }) (K.seen link.old) self.old
-            → UnlessMemory result (lost + self.new.steps + (W.ran watch.new + steps.old) ≡ began.lost + self.old.cpu.slots.live.steps + (W.ran watch.old + steps.new))
+            → lost + self.new.steps + (W.ran watch.new + steps.old) ≡ began.lost + self.old.cpu.slots.live.steps + (W.ran watch.old + steps.new)
             → ComesBetween (rules_by R.rule self.old) image (record began { lost = lost; noted = (N.shown notes.new).told; tables = W.tables watch.new }) (K.seen link.new) self.new result }
         ensures keeps { KeepsTurning (K.seen link.old) (K.seen link.new) (N.shown notes.old) (N.shown notes.new) self.old self.new result }
         ensures least { self.new.steps + (W.ran watch.new + steps.old) ≤ W.ran watch.old + steps.new + self.old.cpu.slots.live.steps }
@@ -190,8 +190,9 @@ impl<R: AccessRule> Session<R> {
     // The guest sent bytes to a connection.
     fn send<K: Link>(&mut self, link: &mut K, conn: u16, bytes: Bytes) -> Result<(), Stop>
         requires { StandsEmitting (rules_by R.rule self.old) (K.seen link.old) conn bytes self.old }
-        ensures turns { (image : Image) (began : Since) → (K.seen link.old).takes ≡ true → HasRun (rules_by R.rule self.old) image began (K.seen link.old) (event.Emits conn bytes) self.old
-            → ComesBetween (rules_by R.rule self.old) image began (K.seen link.new) self.new result }
+        ensures turns { (image : Image) (began : Since) (lost : ℕ) → (K.seen link.old).takes ≡ true → HasRun (rules_by R.rule self.old) image began (K.seen link.old) (event.Emits conn bytes) self.old
+            → lost + self.new.steps ≡ began.lost + self.old.cpu.slots.live.steps
+            → ComesBetween (rules_by R.rule self.old) image (record began { lost = lost }) (K.seen link.new) self.new result }
         ensures keeps { KeepsSending (K.seen link.old) (K.seen link.new) self.old self.new result }
         ensures went { K.Went link.old link.new }
     {
@@ -204,8 +205,9 @@ impl<R: AccessRule> Session<R> {
 
     // An ask was answered.
     fn choose(&mut self, choice: Choice) -> Result<(), Stop>
-        ensures turns { (image : Image) (began : Since) (seen : Seen) → seen.takes ≡ true → HasRun (rules_by R.rule self.old) image began seen (event.Chooses choice) self.old
-            → ComesBetween (rules_by R.rule self.old) image began seen self.new result }
+        ensures turns { (image : Image) (began : Since) (seen : Seen) (lost : ℕ) → seen.takes ≡ true → HasRun (rules_by R.rule self.old) image began seen (event.Chooses choice) self.old
+            → lost + self.new.steps ≡ began.lost + self.old.cpu.slots.live.steps
+            → ComesBetween (rules_by R.rule self.old) image (record began { lost = lost }) seen self.new result }
         ensures keeps { KeepsChoosing self.old self.new result }
     {
         if let Err(_) = self.choices.push(choice) {

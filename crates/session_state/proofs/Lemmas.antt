@@ -2,7 +2,7 @@
 pub use Rattle.session_state.proofs.standing.CheckpointLemmas.{in_force_by}
 pub use Rattle.session_state.proofs.standing.HeldLemmas.{handled_by, held_as, held_by, held_of, note_at_none, requests_saved, rings_kept, unless_gave_up, waits_handled}
 pub use Rattle.session_state.proofs.standing.StoryLemmas.{account_of, owes_nothing, still_takes}
-pub use Rattle.session_state.proofs.guest.GuestLemmas.{answers_as, broken_noting, broken_off, broken_with, none_lost, none_noted, notes_unhanded, received_is}
+pub use Rattle.session_state.proofs.guest.GuestLemmas.{answers_as, broken_noting, broken_off, broken_running, broken_with, none_lost, none_noted, notes_unhanded, received_is}
 pub use Rattle.session_state.proofs.guest.NoteLemmas.{notes_end, taken_all}
 pub use Rattle.session_state.proofs.guest.SendLemmas.{takes_going}
 pub use Rattle.session_state.proofs.guest.ServeLemmas.{run_asks, run_emits, run_exits, run_fails}
@@ -16,4 +16,3 @@ pub use Rattle.session_state.proofs.recovering.AdoptLemmas.{asks_or_fails, off_l
 pub use Rattle.session_state.proofs.recovering.TableLemmas.{tables_here, tells_none, told_unwatched}
 pub use Rattle.session_state.proofs.ending.EndLemmas.{end_of, ended_account, ended_telling, off_account, off_pieces, served_broken, served_end}
 pub use Rattle.session_state.proofs.ending.FaultLemmas.{note_ends, note_handed}
-pub use Rattle.session_state.proofs.ending.KnownLemmas.{breaks_of, known_heard, known_kept, known_same, known_stopped, known_then, known_unless, noted_still, once_at, once_given, once_heard, once_noted, once_passing, once_stopped, once_then, takes_given, takes_stopped, unless_broken}

@@ -3,7 +3,8 @@ use Rattle.std.specs.Prelude.{◌≡◌, ◌≢◌, ℕ, ◌+◌, ◌-◌, ◌<�
 use Rattle.session_history.specs.declared.ends.SessionBreak.TheVariants as session_break
 use Rattle.session_history.specs.declared.ends.SessionEnd.TheVariants as session_end
 use Rattle.session_history.specs.declared.ends.Stop.TheVariants as stop
-use Rattle.session_state.specs.Terms.{Prefix, Entry, Coming, Grew, Seen, Choice, Image, Cause, Path, SessionBreak, SessionEnd, Stop, Session, AtBreak, AtEnd, HandedLast, HasNoEnding, IsEnded, ShowsSession, items_in, Chapter, LeavesNothing, Rules, Survivor, entries_of, passed_in, first_survivor, Episode, Try, Noted, OneEpisode, SomeChoices, Unnoted, failed_with, AreRecovered, IsRecovery, Recovery, episode_of, point_of, Trial, survivor_in, HasHandled, HasRing, HaveRings, Keeping, Stand, steps_of, IsWholeTable, TellsMore}
+use Rattle.recovery.specs.Unfinished.{BeginsOver, Unfinished, steps_unfinished}
+use Rattle.session_state.specs.Terms.{Prefix, Entry, Coming, Grew, Seen, Choice, Image, Cause, FailsBy, Path, Served, SessionBreak, SessionEnd, Stop, Session, AtBreak, AtEnd, HandedLast, HasNoEnding, IsEnded, ShowsSession, items_in, Chapter, LeavesNothing, Rules, Survivor, entries_of, passed_in, first_survivor, Episode, Try, Noted, OneEpisode, SomeChoices, Unnoted, failed_with, AreChained, AreCheckpoints, AreRecovered, IsRecovery, Recovery, episode_of, point_of, Trial, survivor_in, table, HasHandled, HasRing, HaveRings, Keeping, Stand, steps_of, IsWholeTable, TellsMore}
 
 -- A session so far, as data: the chapters of earlier survivors, with the recovery behind each, the survivor, and the entries of its time.
 pub record Story : Type 0 where
@@ -67,6 +68,44 @@ pub record HasGivenUp (rules : Rules) (image : Image) (keeping : Keeping) (story
   pub recovers : IsRecovery rules image (entries story) (walk_behind story.survivor walk)
   pub none : survivor_in walk.trials ≡ None
   pub owes_nothing : LeavesNothing rules (entries_of story.earlier) story.since story.survivor
+
+-- What memory broke off behind the last survivor of a session, as data: nothing; a run of the survivor, for which the session doesn't answer, up to here; or a
+-- walk behind its failure, by the cause of that, the checkpoints that stood then, and what was tried.
+pub data Unanswered : Type 0 where
+  AllAnswered : Unanswered
+  RanOn : Path → Unanswered
+  TriedOn : Cause → List Path → Unfinished → Unanswered
+
+-- how many instructions it did
+abbrev pub steps_unanswered : Survivor → Unanswered → ℕ
+steps_unanswered survivor AllAnswered = 0
+steps_unanswered survivor (RanOn path) = path.steps - survivor.now.steps
+steps_unanswered survivor (TriedOn cause ring unfinished) = steps_unfinished unfinished
+
+-- The last survivor failed by this cause, where it owed nothing, and trials were made from its checkpoints, at least one: those that its requests left.
+-- None of them survived but perhaps the last, which wasn't adopted.
+pub record HasBegunWalk (rules : Rules) (image : Image) (keeping : Keeping) (story : Story) (cause : Cause) (ring : List Path) (unfinished : Unfinished) : Type 0 where
+  pub some : 0 < length ring
+  pub stands : List Stand
+  pub handled : HasHandled rules image keeping story.earlier (entries story) story.recoveries story.survivor story.survivor.now.state.machine.taken stands
+  pub ringed : HasRing stands ring
+  pub fails : FailsBy rules.limits story.survivor.plan story.survivor.now cause
+  pub chained : AreChained rules.limits (items_in rules.bounds (entries story)) story.survivor.plan image story.survivor.now ring
+  pub checkpoints : AreCheckpoints rules.limits image ring
+  pub begins : BeginsOver rules.limits (items_in rules.bounds (entries story)) story.survivor.plan (passed_in rules.bounds (entries story)) story.survivor.now.state.machine.taken (table ring) unfinished.trials unfinished.last
+  pub owes_nothing : LeavesNothing rules (entries_of story.earlier) story.since story.survivor
+
+-- It broke off so: the survivor's run goes on by its plan; or such a walk was begun.
+abbrev pub IsUnanswered : Rules → Image → Keeping → Story → Unanswered → Type 0
+IsUnanswered rules image keeping story AllAnswered = Unit {0}
+IsUnanswered rules image keeping story (RanOn path) = Served rules.limits (items_in rules.bounds (entries story)) story.survivor.plan story.survivor.now path
+IsUnanswered rules image keeping story (TriedOn cause ring unfinished) = HasBegunWalk rules image keeping story cause ring unfinished
+
+-- So many instructions were counted where memory ran out: those of all that is told, and those of what broke off.
+pub record CountsUnanswered (rules : Rules) (image : Image) (keeping : Keeping) (telling : Telling) (counted : ℕ) : Type 0 where
+  pub rest : Unanswered
+  pub is : IsUnanswered rules image keeping (story_of telling) rest
+  pub all : counted ≡ all_steps (story_of telling) telling.walk + steps_unanswered telling.account.survivor rest
 
 -- at GaveUp there was a walk, behind a failure by that cause
 abbrev pub GivesUpBy : Option Walk → SessionEnd → Type 0
@@ -140,7 +179,8 @@ pub record Outcome : Type 0 where
   pub steps : ℕ
 
 -- The outcome of a session, by one telling of it. Its notes tell of its answers of the allocator and of each recovery; where they lack an episode, nothing
--- came or went behind it. So many instructions were counted: those of the survivors, and those of all trials.
+-- came or went behind it. So many instructions were counted: those of the survivors, and those of all trials; and where memory ran out, those of what it
+-- broke off.
 pub record IsOutcome (rules : Rules) (image : Image) (keeping : Keeping) (coming : Option Coming) (telling : Telling) (outcome : Outcome) (noted_before noted_now : Noted) (counted : ℕ) : Type 0 where
   pub is : IsTelling rules image keeping coming telling outcome.stop
   pub notes : HasNoted noted_before noted_now outcome.stop telling.account.survivor.now.choices (episodes_of (story_of telling) telling.walk) outcome.recorded outcome.tail
@@ -148,6 +188,7 @@ pub record IsOutcome (rules : Rules) (image : Image) (keeping : Keeping) (coming
   pub taken_is : telling.account.survivor.now.state.machine.taken ≡ outcome.taken
   pub steps_are : telling.account.survivor.now.steps ≡ outcome.steps
   pub all_counted : outcome.stop ≢ stop.Breaks session_break.Memory → counted ≡ all_steps (story_of telling) telling.walk
+  pub unanswered : outcome.stop ≡ stop.Breaks session_break.Memory → CountsUnanswered rules image keeping telling counted
 
 -- A session has served a link: one telling of it, which has its outcome, and which its link shows.
 pub record HasRecovered (rules : Rules) (image : Image) (keeping : Keeping) (began seen : Seen) (outcome : Outcome) (noted_before noted_now : Noted) (counted : ℕ) : Type 0 where

@@ -3,9 +3,9 @@ use Rattle.std.specs.Prelude.{◌≡◌, ◌≢◌, ◌⊎◌, ℕ, ◌+◌, ◌
 use Rattle.session_history.specs.declared.ends.SessionBreak.TheVariants as session_break
 use Rattle.session_history.specs.declared.ends.Stop.TheVariants as stop
 use Rattle.item_log.specs.Log as logs
-use Rattle.session_state.specs.Terms.{Send, Entry, Grew, Phases, Tells, Told, events_in, Seen, Choice, Ledger, Image, Cause, may_send, AsksFor, FailsBy, Path, Served, standing_of, IsBounded, SessionBreak, SessionEnd, journal_of, HandedLast, IsWaiting, StandsAt, before_end, AreHeeded, heeded, items_in, received, KeepsItems, KeepsPhases, KeepsReplies, Rules, is_closing, is_open, opens, IsDueBy, IsPassed, Latest, Moment, OwesNothing, Stands, journal, latest, place_at, received_before, Serving, first_survivor, moment_of, Episode, Try, Noted, OneEpisode, failed_with, AreRecovered, episode_of, HasHandled, stands_of, AreBehind, IsInForce, KeepsRing, steps_of, TellsMore}
+use Rattle.session_state.specs.Terms.{Send, Entry, Grew, Phases, Tells, Told, events_in, Seen, Choice, Ledger, Image, Cause, may_send, AsksFor, FailsBy, Path, Served, standing_of, IsBounded, SessionBreak, SessionEnd, journal_of, HandedLast, IsWaiting, StandsAt, before_end, AreHeeded, heeded, items_in, received, KeepsItems, KeepsPhases, KeepsReplies, Rules, is_closing, is_open, opens, IsDueBy, IsPassed, Latest, Moment, OwesNothing, Stands, journal, latest, place_at, received_before, Serving, first_survivor, moment_of, Episode, Try, Noted, OneEpisode, failed_with, AreRecovered, episode_of, HasHandled, Keeping, stands_of, AreBehind, IsInForce, KeepsRing, steps_of, TellsMore}
 pub use Rattle.session_state.specs.Recovered.{Story, entries}
-use Rattle.session_state.specs.Recovered.{Walk, Telling, story_of, trials_of, last_of, episodes_of, spent, HasGivenUp, GivesUpBy, IsTelling, HasNoted, HasNothingBehind, IsNoteFault, AreTables, AreAllTables}
+use Rattle.session_state.specs.Recovered.{Unanswered, IsUnanswered, steps_unanswered, Walk, Telling, story_of, trials_of, last_of, episodes_of, spent, HasGivenUp, GivesUpBy, IsTelling, HasNoted, HasNothingBehind, IsNoteFault, AreTables, AreAllTables}
 use Rattle.session_state.specs.Leaving.{HoldsCheckpoints, UnlessGaveUp, IsAtRequest, IsReadFault, HandlesRequests, keeping_of}
 use Rattle.session_state.specs.Sessions.{SessionState}
 
@@ -58,6 +58,12 @@ pub record IsTold (rules : Rules) (image : Image) (began : Since) (now : Told) (
   pub recovered : AreRecovered rules image [] (first_survivor image) story.earlier story.recoveries story.survivor
   pub episodes : Grew began.noted_before.episodes began.noted.episodes (map episode_of story.recoveries)
   pub tables : TellsMore began.tables_before began.tables (AreTables rules [] story.earlier story.recoveries)
+
+-- What memory broke off of a session, as a part of so many instructions that aren't of the survivor's run.
+pub record HasUnanswered (rules : Rules) (image : Image) (keeping : Keeping) (telling : Telling) (lost : ℕ) : Type 0 where
+  pub rest : Unanswered
+  pub is : IsUnanswered rules image keeping (story_of telling) rest
+  pub counted : spent telling.recoveries + steps_of (trials_of telling.walk) + steps_unanswered telling.account.survivor rest ≡ lost + telling.account.survivor.begun.steps
 
 module _ {R : Type 0} where
   -- a session answers for the survivor's run: of its answers of the allocator the first ones are noted, and it has the others; no call of its notes failed
@@ -193,4 +199,5 @@ module _ {R : Type 0} where
     pub taken : session.taken ≡ telling.account.survivor.now.state.machine.taken
     pub steps : session.steps ≡ telling.account.survivor.now.steps
     pub counted : why ≢ session_break.Memory → spent telling.recoveries + steps_of (trials_of telling.walk) ≡ began.lost + telling.account.survivor.begun.steps
+    pub unanswered : why ≡ session_break.Memory → HasUnanswered rules image (keeping_of session) telling began.lost
     pub later : telling.account.survivor.begun.steps ≤ telling.account.survivor.now.steps

@@ -67,7 +67,7 @@ pub use Rattle.session_notes.specs.declared.episode.Try.{Try}
 pub use Rattle.session_notes.specs.Noting.{EpisodeShows, Noted, OneEpisode, Shown, SomeChoices, Unnoted, failed_with, noted}
 pub use Rattle.trials.specs.Chains.{AreChained, AreCheckpoints}
 pub use Rattle.trials.specs.Episodes.{AreRecovered, IsRecovery, Recovery, adopted_by, episode_of, point_of}
-pub use Rattle.trials.specs.Tables.{Trial, survivor_in}
+pub use Rattle.trials.specs.Tables.{Trial, survivor_in, table}
 pub use Rattle.recovery.specs.declared.recovering.Recovered.{Recovered}
 pub use Rattle.recovery.specs.declared.walking.Adopted.{Adopted}
 pub use Rattle.recovery.specs.Handling.{HasHandled, HasRing, HaveRings, Keeping, Stand, alone, handle, is_far, keeping_by, stands_of}

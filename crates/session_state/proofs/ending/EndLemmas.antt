@@ -2,9 +2,8 @@
 use Rattle.session_history.specs.declared.ends.Stop.TheVariants as stop
 use Rattle.session_history.specs.Ends.{TakesAtEnd, StaysKnown}
 use Rattle.links.specs.declared.journal.Entry.TheVariants as entry
-use Rattle.session_history.specs.declared.ends.SessionBreak.TheVariants as session_break
 use Rattle.session_history.specs.declared.ends.SessionEnd.TheVariants as session_end
-use Rattle.session_state.proofs.Terms.{Bool, List, None, Option, Some, [], ap, append-nil, append_assoc, arith, false, length, map, refl, subst, sym, true, ℕ, ◌++◌, ◌+◌, ◌-◌, ◌∙◌, ◌∷◌, ◌≡◌, ◌≤◌, none-some, IfSome, option_map, ◌≢◌, Entry, tells_then, Coming, Tells, Told, Seen, but_given, Choice, Image, Cause, SessionBreak, SessionEnd, Stop, broken_account, ending_account, ending_none, ending_piece, serving_account, IsAccount, IsBroken, Session, EndsBy, HandedLast, OwesNothingAtEnd, ShowsSession, StandsAt, WasAsked, AreDuePieces, then_entries, items_in, IsDuePiece, LeavesNothing, Rules, entries_of, then_entry, Moment, OwesNothing, Ending, Serving, ending_at, Noted, steps_later, episode_of, Keeping, steps_of, SessionState, GivesUpBy, HasGivenUp, HasNoted, HasWatched, IsHandedLast, IsTelling, Telling, Walk, all_steps, episodes_of, spent, trials_of, HoldsCheckpoints, IsReadFault, keeping_of, AnswersFor, IsBrokenOff, IsEnding, IsTold, Since, Story, entries, moment, sends, then_story, IsFinishing, outcome_of}
+use Rattle.session_state.proofs.Terms.{Bool, List, None, Option, Some, [], ap, append-nil, append_assoc, arith, false, length, map, refl, subst, sym, true, ℕ, ◌++◌, ◌+◌, ◌-◌, ◌∙◌, ◌∷◌, ◌≡◌, ◌≤◌, none-some, IfSome, option_map, Entry, tells_then, Coming, Tells, Told, Seen, but_given, Choice, Image, Cause, SessionBreak, SessionEnd, Stop, broken_account, ending_account, ending_none, ending_piece, serving_account, IsAccount, IsBroken, Session, EndsBy, HandedLast, OwesNothingAtEnd, ShowsSession, StandsAt, WasAsked, AreDuePieces, then_entries, items_in, IsDuePiece, LeavesNothing, Rules, entries_of, then_entry, Moment, OwesNothing, Ending, Serving, ending_at, Noted, steps_later, episode_of, Keeping, steps_of, SessionState, AllAnswered, GivesUpBy, HasGivenUp, HasNoted, HasWatched, IsHandedLast, IsTelling, Telling, Walk, all_steps, episodes_of, spent, steps_unanswered, trials_of, HoldsCheckpoints, IsReadFault, keeping_of, AnswersFor, IsBrokenOff, IsEnding, IsTold, Since, Story, entries, moment, sends, then_story, IsFinishing, outcome_of}
 use Rattle.session_state.proofs.recovering.TableLemmas.{tables_here, tables_fault}
 use Rattle.session_state.proofs.guest.GuestLemmas.{notes_here}
 use Rattle.session_state.proofs.standing.HeldLemmas.{held_given, rings_held}
@@ -86,6 +85,18 @@ count_all lost tried all is earlier same later = omega (arith, all, is, earlier,
 count_off : {counted : ℕ} (since before : ℕ) {steps now begun : ℕ} (tried : ℕ) → counted ≡ since + steps → before + tried ≡ since + begun → steps ≡ now → begun ≤ now → counted ≡ before + (now - begun) + tried
 count_off since before tried all earlier same later = omega (arith, all, earlier, same, later)
 
+-- and with what broke off
+count_rest : {counted : ℕ} (since before : ℕ) {steps now begun : ℕ} (tried rest : ℕ) → counted ≡ since + steps → before + tried + rest ≡ since + begun → steps ≡ now → begun ≤ now → counted ≡ before + (now - begun) + tried + rest
+count_rest since before tried rest all earlier same later = omega (arith, all, earlier, same, later)
+
+-- or with nothing more
+with_none : {counted all : ℕ} → counted ≡ all → counted ≡ all + 0
+with_none same = omega (arith, same)
+
+-- what broke a session off
+same_break : {first second : SessionBreak} → stop.Breaks first ≡ stop.Breaks second → first ≡ second
+same_break is = cc
+
 module _ {R : Type 0} where
   -- a session at its end that is seen in another way
   pub ending_moved : {rules : Rules} {image : Image} {began : Since} {first seen : Seen} {session other : SessionState R} {end : SessionEnd} → session ≡ other → (e : IsEnding rules image began seen session end) → IsFinishing rules first seen e.story end
@@ -161,6 +172,7 @@ module _ {R : Type 0} where
           taken_is = sym e.answers.taken;
           steps_are = sym e.answers.steps;
           all_counted = λ others. counts_end e counts;
+          unanswered = λ memory. absurd (let never : ⊥ = cc in never);
         };
         shows = shows_end began e more [] same finishing (subst (Tells before.told seen.told) (sym (append-nil more)) tells);
         handed = tt;
@@ -187,6 +199,7 @@ module _ {R : Type 0} where
           taken_is = sym e.answers.taken;
           steps_are = sym e.answers.steps;
           all_counted = λ others. counts_end e counts;
+          unanswered = λ memory. record { rest = AllAnswered; is = tt; all = with_none (counts_end e counts) };
         };
         shows = shows_end began e more broken same finishing tells;
         handed = handed;
@@ -198,7 +211,7 @@ module _ {R : Type 0} where
 
   -- a session that was broken off has served
   pub served_off : (P : Telling → Type 0) {rules : Rules} {image : Image} (began : Since) {first seen : Seen} {session : SessionState R} {why : SessionBreak} → (off : IsBrokenOff rules image (record began { told = first.told }) seen session why) → (seen.takes ≡ false → WasAsked rules off.telling.account)
-      → {counted : ℕ} → (why ≢ session_break.Memory → counted ≡ began.lost + session.steps) → P off.telling
+      → {counted : ℕ} → counted ≡ began.lost + session.steps → P off.telling
       → (watched : HasWatched rules image (keeping_of session) first seen (outcome_of (stop.Breaks why) session) began.noted_before began.noted counted began.tables_before began.tables) × P watched.recovered.telling
   served_off P {rules = rules} began {first = first} {seen = seen} off asked all holds = (
     record {
@@ -210,7 +223,14 @@ module _ {R : Type 0} where
           unnoted = off.unnoted;
           taken_is = sym off.taken;
           steps_are = sym off.steps;
-          all_counted = λ others. count_off began.lost (spent off.telling.recoveries) (steps_of (trials_of off.telling.walk)) (all (λ same. others (ap stop.Breaks same))) (off.counted (λ same. others (ap stop.Breaks same))) off.steps off.later;
+          all_counted = λ others. count_off began.lost (spent off.telling.recoveries) (steps_of (trials_of off.telling.walk)) all (off.counted (λ same. others (ap stop.Breaks same))) off.steps off.later;
+          unanswered = λ memory.
+              let cut = off.unanswered (same_break memory) in
+              record {
+                rest = cut.rest;
+                is = cut.is;
+                all = count_rest began.lost (spent off.telling.recoveries) (steps_of (trials_of off.telling.walk)) (steps_unanswered off.telling.account.survivor cut.rest) all cut.counted off.steps off.later;
+              };
         };
         shows = record {
           tells = off.tells;
@@ -251,5 +271,6 @@ module _ {R : Type 0} where
         taken = answers.taken;
         steps = answers.steps;
         counted = λ others. let none : steps_of [] ≡ 0 = refl in let counts = told.counted in omega (arith, none, counts);
+        unanswered = λ memory. record { rest = AllAnswered; is = tt; counted = let none : steps_of [] ≡ 0 = refl in let counts = told.counted in omega (arith, none, counts) };
         later = steps_later rules.limits (items_in rules.bounds (entries story)) story.survivor.plan story.survivor.begun story.survivor.now told.way;
       }

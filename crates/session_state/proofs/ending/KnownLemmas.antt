@@ -1,6 +1,5 @@
 -- What a link's grammar has next is told still, and a session's counts are those of its guest.
 use Rattle.session_history.specs.declared.ends.SessionBreak.TheVariants as session_break
-use Rattle.session_history.specs.declared.ends.SessionEnd.TheVariants as session_end
 use Rattle.link_gate.specs.declared.heard.HearFault.TheVariants as hear
 use Rattle.link_gate.specs.declared.pass_fault.PassFault.TheVariants as fault
 use Rattle.session_history.specs.declared.ends.Stop.TheVariants as stop

@@ -12,7 +12,7 @@ use Rattle.recovery.proofs.Starting.{kept_at}
 use Rattle.recovery.proofs.Survived.{behind_at}
 use Rattle.link_gate.specs.declared.pass_fault.PassFault.TheVariants as pass_fault
 use Rattle.session_state.proofs.Lemmas.{held_by, between_at, asks_or_fails}
-use Rattle.session_state.proofs.Terms.{Bool, List, None, Option, Some, [], ap, append-nil, append_assoc, arith, cond, drop, false, inl, inr, length, length-drop, max, min, not, refl, subst, suc, sym, true, ℕ, ◌++◌, ◌+◌, ◌-◌, ◌∙◌, ◌∷◌, ◌≡◌, ◌≤◌, ◌⊎◌, none-some, same_Some, IfSome, slice_get, ◌&&◌, Item, Send, Entry, Coming, Checkpoints, Saved, Log, Connection, Ledger, is_left, next_part, parts_behind, settled, unpassed, waits, Image, Override, Path, CpuState, standing_of, Standing, marks_of, SessionBreak, SessionEnd, StandsAt, before_end, items_in, Chapter, Rules, Survivor, AreBetween, PassFault, Recovery, HasOldest, after_oldest, has_oldest, oldest_of, oldest_used, between_behind, HasHandled, Keeping, Stand, stands_of, AreBehind, KeepsRing, SessionState, IsNoteFault, Telling, CanForgetSends, HandledAt, HandlesRequests, HasLeft, HoldsCheckpoints, IsAtRequest, IsReadFault, IsRecorded, IsTrimmed, UnlessGaveUp, keeping_of, IsAnswerTo, UnlessNoteFault}
+use Rattle.session_state.proofs.Terms.{Bool, List, None, Option, Some, [], ap, append-nil, append_assoc, arith, cond, drop, false, inl, inr, length, length-drop, max, min, not, refl, subst, suc, sym, true, ℕ, ◌++◌, ◌+◌, ◌-◌, ◌∙◌, ◌∷◌, ◌≡◌, ◌≤◌, none-some, same_Some, IfSome, slice_get, ◌&&◌, Item, Send, Entry, Coming, Checkpoints, Saved, Log, Connection, Ledger, is_left, next_part, parts_behind, settled, unpassed, waits, Image, Override, Path, CpuState, standing_of, Standing, marks_of, SessionBreak, SessionEnd, StandsAt, before_end, items_in, Chapter, Rules, Survivor, AreBetween, PassFault, Recovery, HasOldest, after_oldest, has_oldest, oldest_of, oldest_used, between_behind, HasHandled, Keeping, Stand, stands_of, AreBehind, KeepsRing, SessionState, IsNoteFault, Telling, CanForgetSends, HandledAt, HandlesRequests, HasLeft, HoldsCheckpoints, IsAtRequest, IsReadFault, IsRecorded, IsTrimmed, UnlessGaveUp, keeping_of, IsAnswerTo, UnlessNoteFault}
 
 -- where each send fails a test of its part, none is the first that passes it
 none_passes : (p : Send → Bool) (C : List Connection) (front sends : List Send) → ((x : List Send) (y : Send) (z : List Send) → sends ≡ x ++ y ∷ z → p (unpassed C (front ++ x) y) ≡ false)

@@ -3,8 +3,8 @@ use Rattle.session_history.specs.declared.ends.SessionBreak.TheVariants as sessi
 use Rattle.session_history.specs.declared.ends.SessionEnd.TheVariants as session_end
 use Rattle.guest_cpu.specs.declared.event.Event.TheVariants as step
 use Rattle.guest_cpu.specs.Running.{RunsBy}
-use Rattle.session_state.proofs.Lemmas.{rings_kept, answers_as, broken_off, run_asks, run_exits, run_fails}
-use Rattle.session_state.proofs.Terms.{AllocError, Bool, Err, List, Ok, Result, ap, arith, cond, inl, inr, ltb, refl, subst, sym, ℕ, ◌+◌, ◌<◌, ◌∙◌, ◌≡◌, ◌≤◌, IfOk, Seen, Choice, Heap, Env, Plain, Image, Cause, Path, env_at, limits_of, Event, CpuState, live_of, with_live, Standing, turn, runs_serve, runs_write, RunsWriting, Stop, items_in, Rules, rules_of, SessionState, env_of, keeping_of, IsBetween, IsBrokenOff, IsEnding, IsFailing, IsWaitingFor, Since, entries, ComesBetween, GoesFurther, HasRun, HasSameFrame, IsAdoptedLater, IsCounted, UnlessMemory}
+use Rattle.session_state.proofs.Lemmas.{rings_kept, answers_as, broken_running, run_asks, run_exits, run_fails}
+use Rattle.session_state.proofs.Terms.{AllocError, Bool, Err, List, Ok, Result, ap, arith, cond, inl, inr, ltb, refl, subst, sym, ℕ, ◌+◌, ◌<◌, ◌∙◌, ◌≡◌, ◌≤◌, IfOk, Seen, Choice, Heap, Env, Plain, Image, Cause, Path, env_at, limits_of, Event, CpuState, live_of, with_live, Standing, turn, runs_serve, runs_write, RunsWriting, Stop, items_in, Rules, rules_of, SessionState, env_of, keeping_of, IsBetween, IsBrokenOff, IsEnding, IsFailing, IsWaitingFor, Since, entries, ComesBetween, GoesFurther, HasRun, HasSameFrame, IsAdoptedLater}
 
 module _ {R : Type 0} where
   -- how a guest runs in an environment, by the session that it is of
@@ -108,12 +108,18 @@ module _ {R : Type 0} where
       λ i. record { ring = (same i).ring.capacity; every = (same i).options.every; pages = (whole i).slots.pages; frames = (whole i).slots.frames }
 
   -- memory ran out within the run: the session answers for the run before it
-  pub breaks_now : {rules : Rules} {image : Image} {began : Since} {seen : Seen} {old inside : SessionState R} {cpu : CpuState R} → inside ≡ old → keeping_of (record inside { cpu = cpu }) ≡ keeping_of old → IsBetween rules image began seen old
-      → IsBrokenOff rules image began seen (record inside { cpu = cpu }) session_break.Memory
-  breaks_now {inside = inside} {cpu = cpu} same kept b =
-      broken_off b.going.told
+  pub breaks_now : (permits : R → Heap → ℕ → ℕ → Bool) {env : Env} {image : Image} {began : Since} {seen : Seen} {old inside : SessionState R} {cpu : CpuState R} (result : Result Event AllocError) {lost : ℕ} → env ≡ env_of old → inside ≡ old
+      → keeping_of (record inside { cpu = cpu }) ≡ keeping_of old → IsBetween (rules_of old.options (permits old.cpu.rule)) image began seen old → Ran permits env inside cpu result
+      → lost + inside.steps ≡ began.lost + cpu.slots.live.steps → IsBrokenOff (rules_of old.options (permits old.cpu.rule)) image (record began { lost = lost }) seen (record inside { cpu = cpu }) session_break.Memory
+  breaks_now permits {env = env} {old = old} {inside = inside} {cpu = cpu} result force same kept b ran counts =
+      let first : Path = b.going.story.survivor.now in
+      let runs = runs_serve (limits_of old.options.budget (permits old.cpu.rule)) (items_in (rules_of old.options (permits old.cpu.rule)).bounds (entries b.going.story)) b.going.story.survivor.plan env old.cpu.base first (live_of old.cpu) (live_of cpu)
+      result b.going.goes.lives (env_is b force) b.going.goes.guest (subst (λ (s : SessionState R). Ran permits env s cpu result) same ran) in
+      let answers : inside.steps ≡ first.steps = ap (λ (s : SessionState R). s.steps) same ∙ b.going.answers.steps in
+      let there : runs.now.steps ≡ cpu.slots.live.steps = ap (λ (s : Standing). s.steps) runs.stands in
+      broken_running runs.now b.going.told
       (answers_as (ap (λ (s : SessionState R). s.recorded) same) (ap (λ (s : SessionState R). s.choices) same) (ap (λ (s : SessionState R). s.taken) same) (ap (λ (s : SessionState R). s.steps) same)
-      b.going.answers) tt (λ some. absurd (some refl)) (rings_kept (record inside { cpu = cpu }) kept b.going.saved) (λ never. absurd (never tt)) (λ is. absurd is)
+      b.going.answers) (rings_kept (record inside { cpu = cpu }) kept b.going.saved) runs.goes.served runs.goes.later (omega (arith, counts, answers, there))
 
   -- by other rules that are the same
   pub comes_under : (image : Image) (began : Since) (seen : Seen) (session : SessionState R) (result : Result (Unit {0}) Stop) {first second : Rules} → first ≡ second
@@ -136,6 +142,9 @@ lost_none ran first last before after live counts went run is = omega (arith, co
 pub lost_failed : (ran later lost began steps first last before after live : ℕ) → lost + steps + (later + first) ≡ began + before + (ran + last) → after + before ≡ first + live → lost + steps + (later + after) ≡ began + live + (ran + last)
 lost_failed ran later lost began steps first last before after live counts run = omega (arith, counts, run)
 
+pub lost_cut : (ran lost began steps first last before to : ℕ) → lost + steps + (ran + first) ≡ began + before + (ran + last) → last + before ≡ first + to → lost + steps ≡ began + to
+lost_cut ran lost began steps first last before to counts run = omega (arith, counts, run)
+
 module _ {R : Type 0} where
   pub further_ok : (result : Result (Unit {0}) Stop) (old new : SessionState R) → new.until ≡ old.until → IfOk result (λ _. old.cpu.slots.live.steps < new.cpu.slots.live.steps) → IfOk result (λ _. GoesFurther old new)
   further_ok (Ok done) old new same more = inl (same, more)
@@ -145,10 +154,6 @@ module _ {R : Type 0} where
   further_adopted (Ok done) old mid new same options later =
       inr (record { past = omega (arith, later.past, same); most = let items : mid.options.max_items ≡ old.options.max_items = ap (λ o. o.max_items) options in omega (arith, later.most, items) })
   further_adopted (Err why) old mid new same options later = tt
-
-  -- its counts are those of its guest, unless memory ran out
-  pub steps_unless : {result : Result (Unit {0}) Stop} {session : SessionState R} → UnlessMemory result (IsCounted session) → UnlessMemory result (session.steps ≡ session.cpu.slots.live.steps)
-  steps_unless marked others = (marked others).steps
 
   pub fails_under : {image : Image} {began : Since} {seen : Seen} {cause : Cause} {session : SessionState R} {first second : Rules} → first ≡ second → IsFailing first image began seen cause session → IsFailing second image began seen cause session
   fails_under {image = image} {began = began} {seen = seen} {cause = cause} {session = session} {first = first} same = subst (λ (rules : Rules). IsFailing rules image began seen cause session) same

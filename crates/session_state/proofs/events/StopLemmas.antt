@@ -9,7 +9,7 @@ use Rattle.session_history.proofs.Heeding.{passed_in-took}
 use Rattle.link_gate.proofs.Knowing.{gone-took}
 use Rattle.session_history.proofs.Causes.{last_taken-append}
 use Rattle.session_state.proofs.Lemmas.{handled_by, held_as, held_by, held_of, rings_kept, unless_gave_up, waits_handled, owes_nothing, still_takes, answers_as, broken_off, broken_with, none_lost, none_noted, received_is, IsNoEnd, latest-ended, latest-took, told_event, HasSameRun, answers_still, more_entries, run_keeping, tables_here, told_unwatched}
-use Rattle.session_state.proofs.Terms.{Bool, List, None, Some, [], ap, append-nil, arith, false, inl, inr, length, not, refl, subst, sym, true, ℕ, ◌++◌, ◌+◌, ◌∙◌, ◌∷◌, ◌≡◌, ◌≤◌, ◌⊎◌, eqb-true, true≢false, IfSome, ◌&&◌, ◌==◌, Item, Prefix, Send, sent_to, Entry, LinkEvent, tells_then, HasEnded, IsNext, Refuses, Tells, Told, events_in, Seen, items_of, Log, Ledger, Image, AsksFor, CpuState, standing_of, SessionBreak, SessionEnd, served_same, IsLastRefused, IsWaiting, StandsAt, WasAsked, IsHeard, IsHeeded, IsUnheeded, closing_of, Bounds, Unheeded, heeded, items_in, received, KeepsReplies, Rules, is_closed_by, is_closing, closes, is_gone, is_open, opens, IsDueBy, Moment, journal, latest, place_at, passed_in, due_by, due_not_gone, IsEvent, events_ended, heeded_without, handled_on, HasHandled, HaveRings, stands_of, SessionState, GivesUpBy, HoldsCheckpoints, IsHandled, keeping_of, AnswersFor, IsAsking, IsBrokenOff, IsEnding, IsLatestDone, IsTold, IsWaitingFor, Since, Story, entries, moment, sends, then_story}
+use Rattle.session_state.proofs.Terms.{Bool, List, None, Some, [], ap, append-nil, arith, false, inl, inr, length, not, refl, subst, sym, true, ℕ, ◌++◌, ◌+◌, ◌∙◌, ◌∷◌, ◌≡◌, ◌≤◌, ◌⊎◌, eqb-true, true≢false, IfSome, ◌&&◌, ◌==◌, Item, Prefix, Send, sent_to, Entry, LinkEvent, tells_then, HasEnded, IsNext, Refuses, Tells, Told, events_in, Seen, items_of, Log, Ledger, Image, AsksFor, CpuState, standing_of, SessionEnd, served_same, IsLastRefused, IsWaiting, StandsAt, WasAsked, IsHeard, IsHeeded, IsUnheeded, closing_of, Bounds, Unheeded, heeded, items_in, received, KeepsReplies, Rules, is_closed_by, is_closing, closes, is_gone, is_open, opens, IsDueBy, Moment, journal, latest, place_at, passed_in, due_by, due_not_gone, IsEvent, events_ended, heeded_without, handled_on, HasHandled, HaveRings, stands_of, SessionState, GivesUpBy, HoldsCheckpoints, IsHandled, keeping_of, AnswersFor, IsAsking, IsBrokenOff, IsEnding, IsLatestDone, IsTold, IsWaitingFor, Since, Story, entries, moment, sends, then_story}
 
 -- behind an event that is refused no connection closes
 pub refused_closes : (bounds : Bounds) (story : Story) (e : LinkEvent) → IsNoEnd e → heeded bounds (events_in (entries (then_story story (entry.Took e ∷ [])))) ≡ heeded bounds (events_in (entries story))

@@ -3,7 +3,7 @@ use Rattle.recovery.specs.Forgetting.{CanForget, Forgets}
 use Rattle.session_history.specs.declared.ends.Stop.TheVariants as stop
 use Rattle.run_history.proofs.Repeats.{repeated_keeps}
 use Rattle.session_state.proofs.Lemmas.{note_at_none, rings_kept, account_of, still_takes, broken_noting, notes_unhanded, received_is, taken_all, tables_here, told_unwatched, note_ends, note_handed}
-use Rattle.session_state.proofs.Terms.{Bool, Err, List, None, Option, Some, ap, arith, cond, drop, false, length, length-append, length-drop, map, refl, subst, sym, take, true, ℕ, ◌++◌, ◌+◌, ◌-◌, ◌∙◌, ◌≡◌, ◌≤◌, take-add, drop-drop, none-some, same_Some, is_some, option_map, slice_get, Item, grew_more, Grew, Seen, Choice, Log, Ledger, Image, State, after, Grant, Limits, Override, Path, Served, env_at, grant, guest_of, listed, longer, origin, planned_next, served_next, serves, SessionBreak, SessionEnd, Rules, Noted, Shown, noted, episode_of, can_forget, AreBehind, SessionState, FailsAtChoices, IsNoteFault, IsEnding, IsWaitingFor, Since, entries, WaitsBy}
+use Rattle.session_state.proofs.Terms.{Bool, Err, List, None, Option, Some, ap, arith, cond, drop, false, length, length-append, length-drop, map, refl, subst, sym, take, true, ℕ, ◌+◌, ◌-◌, ◌∙◌, ◌≡◌, ◌≤◌, take-add, drop-drop, none-some, same_Some, is_some, option_map, slice_get, Item, grew_more, Grew, Seen, Choice, Log, Ledger, Image, State, after, Grant, Limits, Override, Path, Served, env_at, grant, guest_of, listed, longer, origin, planned_next, served_next, serves, SessionBreak, SessionEnd, Rules, Noted, Shown, noted, episode_of, can_forget, AreBehind, SessionState, FailsAtChoices, IsNoteFault, IsEnding, IsWaitingFor, Since, entries, WaitsBy}
 
 -- a run used no more answers of the allocator than it has instructions
 record IsFew (first second : Path) : Type 0 where

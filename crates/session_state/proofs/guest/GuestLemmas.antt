@@ -2,9 +2,10 @@
 use Rattle.session_history.specs.declared.ends.Stop.TheVariants as stop
 use Rattle.item_log.specs.Log as logs
 use Rattle.item_log.proofs.Shown.{shown_items}
+use Rattle.session_history.specs.declared.ends.SessionBreak.TheVariants as session_break
 use Rattle.session_history.specs.declared.ends.SessionEnd.TheVariants as session_end
 use Rattle.guest_cpu.specs.declared.event.Event.TheVariants as event
-use Rattle.session_state.proofs.Terms.{List, None, Ok, [], ap, append-nil, arith, drop, inl, inr, length, length-append, map, refl, subst, sym, take, true, ℕ, ◌++◌, ◌+◌, ◌<◌, ◌∙◌, ◌∷◌, ◌≡◌, ◌≤◌, drop-append-le, take-append-le, Send, Entry, LinkEvent, grew_nothing, Grew, Phases, Tells, Told, events_in, Seen, Choice, items_of, Log, Ledger, Image, Cause, AsksFor, Path, live_of, standing_of, Standing, GoesOn, IsSilent, RunsWriting, Writes, SessionBreak, SessionEnd, serving_account, Session, EndsBy, HandedLast, StandsAt, Bounds, items_in, received, KeepsItems, KeepsReplies, Rules, gone_on, is_open, IsPassed, Stands, Episode, Noted, OneEpisode, failed_with, steps_later, episode_of, HasHandled, HaveRings, stands_of, steps_of, TellsMore, SessionState, AreAllTables, FailsAtChoices, GivesUpBy, HasNoted, IsNoteFault, HoldsCheckpoints, IsAtRequest, IsReadFault, keeping_of, AnswersFor, GoesWith, HasMissed, HasNotedMore, HasPassed, HasPassedDue, IsBetween, IsBrokenOff, IsEnding, IsFailing, IsGoing, IsLatestBefore, IsLatestDone, IsTold, IsWaitingFor, Since, Story, entries, moment, unwatched, IsCounted}
+use Rattle.session_state.proofs.Terms.{List, None, Ok, [], ap, append-nil, arith, drop, inl, inr, length, length-append, map, refl, subst, sym, take, true, ℕ, ◌++◌, ◌+◌, ◌<◌, ◌∙◌, ◌∷◌, ◌≡◌, ◌≤◌, drop-append-le, take-append-le, ◌≢◌, Send, Entry, LinkEvent, grew_nothing, Grew, Phases, Tells, Told, events_in, Seen, Choice, items_of, Log, Ledger, Image, Cause, AsksFor, Path, Served, live_of, standing_of, Standing, GoesOn, IsSilent, RunsWriting, Writes, SessionBreak, SessionEnd, serving_account, Session, EndsBy, HandedLast, StandsAt, Bounds, items_in, received, KeepsItems, KeepsReplies, Rules, gone_on, is_open, IsPassed, Stands, Episode, Noted, OneEpisode, failed_with, steps_later, episode_of, HasHandled, HaveRings, Keeping, stands_of, steps_of, TellsMore, SessionState, AllAnswered, AreAllTables, FailsAtChoices, GivesUpBy, HasNoted, IsNoteFault, RanOn, spent, HoldsCheckpoints, IsAtRequest, IsReadFault, keeping_of, AnswersFor, GoesWith, HasMissed, HasNotedMore, HasPassed, HasPassedDue, HasUnanswered, IsBetween, IsBrokenOff, IsEnding, IsFailing, IsGoing, IsLatestBefore, IsLatestDone, IsTold, IsWaitingFor, Since, Story, entries, moment, unwatched, IsCounted}
 use Rattle.session_state.proofs.guest.NoteLemmas.{grew_same}
 use Rattle.session_state.proofs.standing.StoryLemmas.{on_story, told_on, account_of, journal_of_story, moves_none}
 use Rattle.session_state.proofs.recovering.TableLemmas.{told_unwatched, tables_here}
@@ -59,6 +60,11 @@ due_still rules story to none same due =
     subst
     (λ (all : List Send). (send : Send) (stands : Stands all send) → is_open rules.bounds (entries story) send.conn ≡ true → send.taken + rules.hold ≤ to.state.machine.taken → IsPassed rules.bounds (entries story) all send stands)
     (sym none) (λ send stands still early. due send stands still (subst (λ n. send.taken + rules.hold ≤ n) same early))
+
+-- a session that was broken off, and that answers for all that was counted
+pub all_answered : {rules : Rules} {image : Image} {keeping : Keeping} {story : Story} {lost : ℕ} → spent story.recoveries ≡ lost + story.survivor.begun.steps
+    → HasUnanswered rules image keeping (record { account = account_of story; recoveries = story.recoveries; walk = None }) lost
+all_answered counts = record { rest = AllAnswered; is = tt; counted = let none : steps_of [] ≡ 0 = refl in omega (arith, none, counts) }
 
 module _ {R : Type 0} where
   -- so are the replies
@@ -258,13 +264,14 @@ module _ {R : Type 0} where
   }
 
   -- A session that is broken off where it stood, and has noted so much, has an account, of which holds what holds of its story's. What its
-  -- story was told beside that may be told otherwise.
-  pub broken_noting : (P : Session → Type 0) {rules : Rules} {image : Image} {began : Since} {before noted : Noted} {seen : Seen} {session : SessionState R} {story : Story} {why : SessionBreak}
-      → IsTold rules image (unwatched (record began { noted_before = before; noted = noted })) seen.told story
+  -- story was told beside that may be told otherwise. At want of memory more may be counted, for which it doesn't answer.
+  pub broken_counting : (P : Session → Type 0) {rules : Rules} {image : Image} {began : Since} {before noted : Noted} {earlier : ℕ} {seen : Seen} {session : SessionState R} {story : Story} {why : SessionBreak}
+      → IsTold rules image (unwatched (record began { noted_before = before; noted = noted; lost = earlier })) seen.told story → (why ≢ session_break.Memory → earlier ≡ began.lost)
+      → (why ≡ session_break.Memory → HasUnanswered rules image (keeping_of session) (record { account = account_of story; recoveries = story.recoveries; walk = None }) began.lost)
       → TellsMore began.tables_before began.tables (AreAllTables rules story None (stop.Breaks why))
       → (notes : HasNoted began.noted_before began.noted (stop.Breaks why) story.survivor.now.choices (map episode_of story.recoveries) session.recorded session.choices) → (0 < length notes.missing → story.since ≡ []) → session.taken ≡ story.survivor.now.state.machine.taken → session.steps ≡ story.survivor.now.steps
       → EndsBy rules (account_of story) (stop.Breaks why) → HandedLast rules (account_of story) seen why → HaveRings rules image (keeping_of session) story.earlier story.recoveries → ((IsNoteFault why → ⊥) → HoldsCheckpoints rules image story.earlier (entries story) story.recoveries story.survivor session) → (IsReadFault why → HasHandled rules image (keeping_of session) story.earlier (entries story) story.recoveries story.survivor (story.survivor.now.state.machine.taken + 1) (stands_of session.cpu.slots.saved)) → P (account_of story) → (off : IsBrokenOff rules image began seen session why) × P off.telling.account
-  broken_noting P {rules = rules} {image = image} {began = began} {seen = seen} {session = session} {story = story} {why = why} told tables notes unnoted taken steps ends handed rings held at_request holds = (
+  broken_counting P {rules = rules} {image = image} {began = began} {seen = seen} {session = session} {story = story} {why = why} told same unanswered tables notes unnoted taken steps ends handed rings held at_request holds = (
     record {
       telling = record { account = account_of story; recoveries = story.recoveries; walk = None };
       is = record {
@@ -294,11 +301,31 @@ module _ {R : Type 0} where
       tables = tables;
       taken = taken;
       steps = steps;
-      counted = λ others. let none : steps_of [] ≡ 0 = refl in let counts = told.counted in omega (arith, none, counts);
+      counted = λ others. let none : steps_of [] ≡ 0 = refl in let counts = told.counted in omega (arith, none, counts, same others);
+      unanswered = unanswered;
       later = steps_later rules.limits (items_in rules.bounds (entries story)) story.survivor.plan story.survivor.begun story.survivor.now told.way;
     },
     holds,
   )
+
+  pub broken_noting : (P : Session → Type 0) {rules : Rules} {image : Image} {began : Since} {before noted : Noted} {seen : Seen} {session : SessionState R} {story : Story} {why : SessionBreak}
+      → IsTold rules image (unwatched (record began { noted_before = before; noted = noted })) seen.told story
+      → TellsMore began.tables_before began.tables (AreAllTables rules story None (stop.Breaks why))
+      → (notes : HasNoted began.noted_before began.noted (stop.Breaks why) story.survivor.now.choices (map episode_of story.recoveries) session.recorded session.choices) → (0 < length notes.missing → story.since ≡ []) → session.taken ≡ story.survivor.now.state.machine.taken → session.steps ≡ story.survivor.now.steps
+      → EndsBy rules (account_of story) (stop.Breaks why) → HandedLast rules (account_of story) seen why → HaveRings rules image (keeping_of session) story.earlier story.recoveries → ((IsNoteFault why → ⊥) → HoldsCheckpoints rules image story.earlier (entries story) story.recoveries story.survivor session) → (IsReadFault why → HasHandled rules image (keeping_of session) story.earlier (entries story) story.recoveries story.survivor (story.survivor.now.state.machine.taken + 1) (stands_of session.cpu.slots.saved)) → P (account_of story) → (off : IsBrokenOff rules image began seen session why) × P off.telling.account
+  broken_noting P {began = began} {before = before} {noted = noted} {story = story} told tables notes unnoted taken steps ends handed rings held at_request holds =
+      broken_counting P {began = began} {before = before} {noted = noted} {earlier = began.lost} told (λ others. refl) (λ memory. all_answered {story = story} told.counted) tables notes unnoted taken steps ends handed rings held at_request holds
+
+  -- memory ran out behind a run of its survivor, for which it doesn't answer
+  pub broken_running : {rules : Rules} {image : Image} {began : Since} {seen : Seen} {session : SessionState R} {story : Story} {lost : ℕ} (to : Path) → IsTold rules image began seen.told story → AnswersFor began story session
+      → HaveRings rules image (keeping_of session) story.earlier story.recoveries → Served rules.limits (items_in rules.bounds (entries story)) story.survivor.plan story.survivor.now to
+      → story.survivor.now.steps ≤ to.steps → lost + story.survivor.now.steps ≡ began.lost + to.steps → IsBrokenOff rules image (record began { lost = lost }) seen session session_break.Memory
+  broken_running {rules = rules} {image = image} {began = began} {session = session} {story = story} {lost = lost} to told answers rings served later counts =
+      (broken_counting (λ account. Unit {0}) {began = record began { lost = lost }} {before = began.noted_before} {noted = began.noted} {earlier = began.lost} (told_unwatched told) (λ others. absurd (others refl))
+      (λ memory. record { rest = RanOn to; is = served; counted = let none : steps_of [] ≡ 0 = refl in let all = told.counted in omega (arith, none, all, later, counts) })
+      (tables_here rules story (stop.Breaks session_break.Memory) began.tables_before began.tables told.tables)
+      (notes_here {began = began} (map episode_of story.recoveries) told.episodes answers (sym (append-nil (map episode_of story.recoveries)))) (λ some. absurd (omega (arith, some))) answers.taken answers.steps tt (λ some. absurd (some refl)) rings
+      (λ never. absurd (never tt)) (λ is. absurd is) tt).0
 
   pub broken_with : (P : Session → Type 0) {rules : Rules} {image : Image} {began : Since} {seen : Seen} {session : SessionState R} {story : Story} {why : SessionBreak} → IsTold rules image began seen.told story → AnswersFor began story session
       → EndsBy rules (account_of story) (stop.Breaks why) → HandedLast rules (account_of story) seen why → HaveRings rules image (keeping_of session) story.earlier story.recoveries → ((IsNoteFault why → ⊥) → HoldsCheckpoints rules image story.earlier (entries story) story.recoveries story.survivor session) → (IsReadFault why → HasHandled rules image (keeping_of session) story.earlier (entries story) story.recoveries story.survivor (story.survivor.now.state.machine.taken + 1) (stands_of session.cpu.slots.saved)) → P (account_of story) → (off : IsBrokenOff rules image began seen session why) × P off.telling.account

@@ -6,11 +6,11 @@ use Rattle.session_history.specs.declared.ends.SessionBreak.TheVariants as sessi
 use Rattle.session_history.specs.declared.ends.SessionEnd.TheVariants as session_end
 use Rattle.trials.specs.EpisodeLaws.{GoesOnAs}
 use Rattle.trials.proofs.Recovered.{recovery_adopts}
-use Rattle.recovery.specs.Walking.{HasSameBytes}
-use Rattle.session_state.proofs.Terms.{List, None, Option, Some, [], ap, append-nil, arith, drop, inl, inr, length, map, refl, subst, suc, sym, take, zero, ℕ, ◌++◌, ◌+◌, ◌-◌, ◌<◌, ◌^◌, ◌∙◌, ◌∷◌, ◌≡◌, ◌≤◌, ◌⊎◌, map-append, none-some, option_map, sum, ◌≢◌, Entry, grew_more, Grew, Tells, Told, events_in, Seen, Choice, Env, Checkpoints, Ledger, Image, Cause, Fails, Wants, AsksFor, FailsBy, Limits, Override, Path, CpuState, Standing, SessionBreak, SessionEnd, served_same, entries_of-then, serving_account, serving_adopts, heeded, items_in, received, KeepsItems, KeepsPhases, KeepsReplies, LeavesNothing, Rules, Survivor, entries_of, opens, first_survivor, Episode, Try, Noted, noted, asks_under_all, steps_later, recovered_then, AreChained, AreRecovered, IsRecovery, Recovery, adopted_by, episode_of, Trial, survivor_in, Recovered, Adopted, handled_adopts, has_ring, stands_up_to, ring_fails, HasHandled, HaveRings, Keeping, keeping_by, stands_of, HasAdoptedRun, HasRecovery, HasToRecover, KeepsSlots, LeavesRun, recovery_of, AreBehind, IsInForce, KeepsRing, Failure, steps_of, TellsMore, TellsTable, SessionState, AreTables, HasGivenUp, IsNoteFault, Walk, spent, walk_behind, keeping_of, AnswersFor, HasMissed, HasNotedMore, IsBrokenOff, IsEnding, IsFailing, IsGoing, IsTold, Since, Story, entries, sends, unwatched, Adopting, AdoptsTo, end_of}
+use Rattle.recovery.specs.Walking.{HasSameBytes, HasBegun}
+use Rattle.session_state.proofs.Terms.{List, None, Option, Some, [], ap, append-nil, arith, drop, inl, inr, length, map, refl, subst, suc, sym, take, zero, ℕ, ◌++◌, ◌+◌, ◌-◌, ◌<◌, ◌^◌, ◌∙◌, ◌∷◌, ◌≡◌, ◌≤◌, ◌⊎◌, map-append, none-some, option_map, sum, Entry, grew_more, Grew, Tells, Told, events_in, Seen, Choice, Env, Checkpoints, Ledger, Image, Cause, Fails, Wants, AsksFor, FailsBy, Limits, Override, Path, CpuState, Standing, SessionBreak, served_same, entries_of-then, serving_account, serving_adopts, heeded, items_in, received, KeepsItems, KeepsPhases, KeepsReplies, LeavesNothing, Rules, Survivor, entries_of, opens, first_survivor, Episode, Try, Noted, noted, asks_under_all, steps_later, recovered_then, AreChained, AreRecovered, IsRecovery, Recovery, adopted_by, episode_of, Trial, survivor_in, table, Recovered, Adopted, handled_adopts, has_ring, stands_up_to, ring_fails, HasHandled, HaveRings, Keeping, keeping_by, stands_of, HasAdoptedRun, HasRecovery, HasToRecover, KeepsSlots, LeavesRun, recovery_of, AreBehind, IsInForce, KeepsRing, Failure, steps_of, TellsMore, TellsTable, SessionState, AllAnswered, AreTables, HasGivenUp, IsNoteFault, TriedOn, Walk, spent, walk_behind, keeping_of, AnswersFor, HasMissed, HasNotedMore, HasUnanswered, IsBrokenOff, IsEnding, IsFailing, IsGoing, IsTold, Since, Story, entries, sends, unwatched, Adopting, AdoptsTo, end_of}
 use Rattle.session_state.proofs.standing.HeldLemmas.{held_by, held_of, rings_of, rings_kept, note_at_none}
 use Rattle.session_state.proofs.recovering.TableLemmas.{TellsOne, told_unwatched, tables_here, tables_memory, tables_given_up, tables_then}
-use Rattle.session_state.proofs.guest.GuestLemmas.{none_lost, none_noted, answers_as, notes_here, notes_missed, received_is, broken_noting}
+use Rattle.session_state.proofs.guest.GuestLemmas.{none_lost, none_noted, answers_as, notes_here, notes_missed, received_is, broken_counting, broken_noting}
 use Rattle.session_state.proofs.standing.StoryLemmas.{account_of, journal_of_story, owes_nothing}
 use Rattle.session_state.proofs.ending.FaultLemmas.{note_ends, note_handed}
 
@@ -341,8 +341,8 @@ module _ {R : Type 0} where
       (tables_here rules next (stop.Breaks fault) began.tables_before tables (tables_then rules story recovery began.tables_before began.tables tables told.tables one))
       (notes_missed (map episode_of story.recoveries) (episode_of recovery) told.episodes answers (map-append episode_of story.recoveries (recovery ∷ [])) note missed) (λ some. refl) answers.taken answers.steps (note_ends rules (account_of next) fault note) (note_handed rules (account_of next) seen fault refl note) rings (λ never. absurd (never note)) (λ is. absurd (note_at_none fault note is)) tt).0
 
-  -- what is counted otherwise at want of memory isn't counted at all
-  abbrev pub off_lost : (rules : Rules) (image : Image) (began : Since) (seen : Seen) (session : SessionState R) (why : SessionBreak) (lost : ℕ) → (why ≢ session_break.Memory → lost ≡ began.lost) → IsBrokenOff rules image began seen session why
+  -- by another count of instructions that is the same
+  abbrev pub off_lost : (rules : Rules) (image : Image) (began : Since) (seen : Seen) (session : SessionState R) (why : SessionBreak) (lost : ℕ) → lost ≡ began.lost → IsBrokenOff rules image began seen session why
       → IsBrokenOff rules image (record began { lost = lost }) seen session why
   off_lost rules image began seen session why lost same off = record {
     telling = off.telling;
@@ -357,26 +357,45 @@ module _ {R : Type 0} where
     tables = off.tables;
     taken = off.taken;
     steps = off.steps;
-    counted = λ others. off.counted others ∙ ap (λ n. n + off.telling.account.survivor.begun.steps) (sym (same others));
+    counted = λ others. off.counted others ∙ ap (λ n. n + off.telling.account.survivor.begun.steps) (sym same);
+    unanswered = λ memory. subst (HasUnanswered rules image (keeping_of session) off.telling) (sym same) (off.unanswered memory);
     later = off.later;
   }
 
   -- memory ran out: the session answers for the run that failed
   pub adopt_breaks : {rules : Rules} {image : Image} {began : Since} {seen : Seen} {cause : Cause} {old : SessionState R} {cpu : CpuState R} {ring : Checkpoints} {replies : Ledger} {choices : List Choice} {lost : ℕ} {tables : Option (List (List Try))}
-      → (f : IsFailing rules image began seen cause old) → keeping_by ring.capacity old.options.every cpu.slots ≡ keeping_of old → choices ≡ old.choices → (tables ≡ began.tables) ⊎ TellsTable (failure_of rules image f.going.story f.going.saved.paths) old.taken began.tables tables
+      → (f : IsFailing rules image began seen cause old) → keeping_by ring.capacity old.options.every cpu.slots ≡ keeping_of old → choices ≡ old.choices → {before after : ℕ}
+      → HasBegun (failure_of rules image f.going.story f.going.saved.paths) f.going.story.survivor.now.state.machine.taken (table f.going.saved.paths) before after → lost + old.steps + before ≡ began.lost + old.steps + after → (tables ≡ began.tables) ⊎ TellsTable (failure_of rules image f.going.story f.going.saved.paths) old.taken began.tables tables
       → IsBrokenOff rules image (record began { lost = lost; tables = tables }) seen (walked old cpu ring replies choices) session_break.Memory
-  adopt_breaks {rules = rules} {image = image} {began = began} {seen = seen} {cause = cause} {old = old} {cpu = cpu} {ring = ring} {replies = replies} {choices = choices} {lost = lost} {tables = tables} f keeping chose looked =
+  adopt_breaks {rules = rules} {image = image} {began = began} {seen = seen} {cause = cause} {old = old} {cpu = cpu} {ring = ring} {replies = replies} {choices = choices} {lost = lost} {tables = tables} f keeping chose b counts looked =
       let story : Story = f.going.story in
+      let k = f.going.saved.ring in
       let told = f.going.told in
       let answers = answers_as {new = walked old cpu ring replies choices} refl chose refl refl f.going.answers in
       let all : List Episode = map episode_of story.recoveries in
-      off_lost rules image (record began { tables = tables }) seen (walked old cpu ring replies choices) session_break.Memory lost (λ others. absurd (others refl))
-      (broken_noting (λ account. Unit {0}) (told_unwatched told)
+      (broken_counting (λ account. Unit {0}) {began = record began { lost = lost; tables = tables }} {before = began.noted_before} {noted = began.noted} {earlier = began.lost} (told_unwatched told) (λ others. absurd (others refl))
+      (λ memory. record {
+        rest = TriedOn cause f.going.saved.paths b.unfinished;
+        is = record {
+          some = k.some;
+          stands = stands_of old.cpu.slots.saved;
+          handled =
+              subst (λ (kept : Keeping). HasHandled rules image kept story.earlier (entries story) story.recoveries story.survivor story.survivor.now.state.machine.taken (stands_of old.cpu.slots.saved)) (sym keeping)
+              (failed_requests f);
+          ringed = has_ring old.cpu.slots.saved f.going.saved.paths k.as_many k.saved;
+          fails = f.fails;
+          chained = k.chained;
+          checkpoints = k.are;
+          begins = b.begins;
+          owes_nothing = owes_nothing rules story f.due f.going.passed.done;
+        };
+        counted = let none : steps_of [] ≡ 0 = refl in let all = told.counted in let tried = b.counted in omega (arith, none, all, tried, counts);
+      })
       (elim looked [
         | inl same ↦ tables_here rules story (stop.Breaks session_break.Memory) began.tables_before tables (subst (λ (t : Option (List (List Try))). TellsMore began.tables_before t (AreTables rules [] story.earlier story.recoveries)) (sym same) told.tables)
         | inr more ↦ tables_memory rules story (recovery_of (failure_of rules image story f.going.saved.paths) story.survivor.begun cause []) began.tables_before began.tables tables told.tables (table_of f [] began.tables tables more)
       ])
-      (notes_here all told.episodes answers (sym (append-nil all))) (λ some. absurd (omega (arith, some))) answers.taken answers.steps tt (λ some. absurd (some refl)) (rings_kept (walked old cpu ring replies choices) keeping f.going.saved) (λ never. absurd (never tt)) (λ is. absurd is) tt).0
+      (notes_here {began = began} all told.episodes answers (sym (append-nil all))) (λ some. absurd (omega (arith, some))) answers.taken answers.steps tt (λ some. absurd (some refl)) (rings_kept (walked old cpu ring replies choices) keeping f.going.saved) (λ never. absurd (never tt)) (λ is. absurd is) tt).0
 
   -- behind a failure the number is higher, up to which an environment is in force
   pub adopted_later : {rules : Rules} {image : Image} {began : Since} {seen : Seen} {cause : Cause} {old : SessionState R} → IsFailing rules image began seen cause old → (old.until < old.taken + 4) × (old.taken ≤ rules.bounds.max_items)
@@ -435,6 +454,7 @@ module _ {R : Type 0} where
         taken = answers.taken;
         steps = answers.steps;
         counted = λ others. let before = told.counted in omega (arith, before, counts);
+        unanswered = λ memory. record { rest = AllAnswered; is = tt; counted = let before = told.counted in omega (arith, before, counts) };
         later = steps_later rules.limits (items_in rules.bounds (entries story)) story.survivor.plan story.survivor.begun story.survivor.now told.way;
       }
 

@@ -1,7 +1,7 @@
 use Rattle.rv_exec.specs.Stepping.{limits_of}
 use Rattle.recovery.specs.Recovering.{HasToRecover}
 use Rattle.session_state.proofs.recovering.AdoptLemmas.{counts_seen, adopting_in, failure_of, failing_moved, to_recover, adopt_none, adopting_at, adopt_some, adopt_least, adopt_breaks, adopted_later}
-use Rattle.rx_engine.proofs.Terms.{ap, arith, refl, rules, subst, sym, ◌+◌, ◌<◌, ◌^◌, ◌∙◌, ◌≡◌, ◌≤◌, slice_get, slots_oldest, keeping_of, rules_by, SessionState, Since}
+use Rattle.rx_engine.proofs.Terms.{ap, arith, refl, rules, subst, sym, ◌+◌, ◌^◌, ◌∙◌, ◌≡◌, ◌≤◌, slice_get, slots_oldest, keeping_of, rules_by, SessionState, Since}
 use Rattle.rx_engine.proofs.session.Session.adopt.Goals as goal
 
 pub recover-requires : goal.recover-requires
@@ -59,7 +59,7 @@ returns-in-Some-clause-least g c =
     omega (arith, adopt_least f (c.in-Ok.ensures.recovers (failure_of the_rules c.requires.1.image f.going.story f.going.saved.paths) f.going.story.survivor.begun under has) c.in-Some.is, steps, before)
 
 pub returns-in-Err-clause-adopts : goal.returns-in-Err-clause-adopts
-returns-in-Err-clause-adopts g c image began seen lost fails none =
+returns-in-Err-clause-adopts g c image began seen lost fails counts =
     let before : Since = record began { tables = g.W.Watch.tables c.args.watch.now } in
     let the_rules = rules_by g.R.AccessRule.rule c.args.self.now in
     let f = failing_moved (sym c.self.view_is) fails in
@@ -67,7 +67,9 @@ returns-in-Err-clause-adopts g c image began seen lost fails none =
     let budget = subst (λ (s : SessionState _). s.options.budget ≤ 2 ^ 24) c.self.view_is c.self.invariant.few_budget in
     let has = subst (λ n. HasToRecover (record { point = c.self.inside.taken; cause = c.args.cause; pc = n }) (failure_of the_rules image f.going.story f.going.saved.paths) c.self.inside.cpu c.self.inside.ring c.self.inside.recorded c.self.inside.choices.items c.self.inside.log c.self.inside.replies) (sym c.pc-pc.ensures)
     (to_recover f budget (subst (λ (s : SessionState _). s.options.max_items ≤ 2 ^ 20) c.self.view_is c.self.invariant.few_items)) in
+    let counted : c.args.self.now.steps ≡ c.self.inside.steps = sym (ap (λ (s : SessionState _). s.steps) c.self.view_is) in
     adopt_breaks f (c.in-Err.ensures.keeping c.self.inside.options.every) c.in-Err.ensures.rest.1
+    (c.in-Err.ensures.recovers (failure_of the_rules image f.going.story f.going.saved.paths) f.going.story.survivor.begun under has) (counts_seen lost began.lost _ _ counts refl counted)
     (c.in-Err.ensures.watched (failure_of the_rules image f.going.story f.going.saved.paths) under has)
 
 pub returns-in-Some-clause-keeps : goal.returns-in-Some-clause-keeps

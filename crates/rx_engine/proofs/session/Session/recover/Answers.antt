@@ -7,7 +7,7 @@ use Rattle.rx_engine.proofs.session.Session.recover.Goals as goal
 pub returns-in-Err-clause-turns : goal.returns-in-Err-clause-turns
 returns-in-Err-clause-turns g c image began lost fails counts =
     let before : Since = record began { tables = g.W.Watch.tables c.args.watch.now; noted = (g.N.Notes.shown c.args.notes.now).told } in
-    (c.in-Err.ensures.adopts image before (g.K.Link.seen c.args.link.now) lost fails tt, λ none. still_takes _ c.requires.may.takes none)
+    (c.in-Err.ensures.adopts image before (g.K.Link.seen c.args.link.now) lost fails counts, λ none. still_takes _ c.requires.may.takes none)
 
 pub returns-in-Err-episode-clause-turns : goal.returns-in-Err-episode-clause-turns
 returns-in-Err-episode-clause-turns g c image began lost fails counts =
@@ -20,7 +20,7 @@ returns-in-Err-episode-clause-turns g c image began lost fails counts =
     let later : Since = record began { lost = more; tables = g.W.Watch.tables c.adopt.new.watch; noted = told } in
     let off = adopting.breaks c.note_answer.result (note_answered c.in-Err-episode.fault c.note_answer.result c.note_answer.ensures) told (missed_episode c.in-Err-episode.ensures.shows) in
     comes_lost the_rules image later (g.K.Link.seen c.args.link.now) c.adopt.new.self (Err (stop.Breaks c.note_answer.result))
-    (λ others. lost_behind (g.W.Watch.ran c.adopt.new.watch + c.args.steps.now) (counts others) all refl)
+    (lost_behind (g.W.Watch.ran c.adopt.new.watch + c.args.steps.now) counts all refl)
     (off, λ none. still_takes _ c.requires.may.takes none)
 
 pub returns-in-Some-clause-turns : goal.returns-in-Some-clause-turns
@@ -35,7 +35,7 @@ returns-in-Some-clause-turns g c image began lost fails counts =
     let with_episode = noted_episode c.in_default.ensures.shows in
     let found : end_of c.args.self.now.taken c.args.cause c.in-Ok.recovered.adopted ≡ Some c.in-Some.end = ap (λ n. end_of n c.args.cause c.in-Ok.recovered.adopted) (sym (ap (λ (s : SessionState _). s.taken) c.self.view_is)) ∙ (sym c.end_of.ensures ∙ c.in-Some.is) in
     comes_lost the_rules image later (g.K.Link.seen c.args.link.now) c.adopt.new.self (Err (stop.Ends c.in-Some.end))
-    (λ others. lost_behind (g.W.Watch.ran c.adopt.new.watch + c.args.steps.now) (counts others) all refl)
+    (lost_behind (g.W.Watch.ran c.adopt.new.watch + c.args.steps.now) counts all refl)
     (ends_adopted _ c.requires.may.takes found (adopting.goes told with_episode))
 
 pub pass_due-requires : goal.pass_due-requires
@@ -66,7 +66,7 @@ returns-clause-turns g c image began lost fails counts =
     let hold = sym (ap (λ (o : Options). o.hold) c.in-Ok.ensures.keeps.frame.options) in
     let steps : c.pass_due.new.self.steps ≡ c.adopt.new.self.steps = ap (λ (s : SessionState _). s.steps) c.pass_due.ensures.keeps.only.same in
     comes_lost the_rules image later (g.K.Link.seen c.pass_due.new.link) c.pass_due.new.self c.pass_due.result
-    (λ others. lost_behind (g.W.Watch.ran c.adopt.new.watch + c.args.steps.now) (counts others) all steps)
+    (lost_behind (g.W.Watch.ran c.adopt.new.watch + c.args.steps.now) counts all steps)
     (comes_between (g.K.Link.seen c.pass_due.new.link) going c.pass_due.result c.pass_due.ensures.keeps.only.same c.pass_due.ensures.keeps.only.first (λ conn. ap (λ (s : Seen). s.phases conn) c.pass_due.ensures.keeps.link.rest) (ap (λ (s : Seen). s.takes) c.pass_due.ensures.keeps.link.rest ∙ c.requires.may.takes)
     (c.pass_due.ensures.passes the_rules image later going.story hold (going_told going) going.passed))
 

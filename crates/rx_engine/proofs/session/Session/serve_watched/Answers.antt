@@ -1,7 +1,7 @@
 use Rattle.session_history.specs.declared.ends.Stop.TheVariants.{Breaks, Ends}
 use Rattle.session_history.specs.declared.ends.Stop.{Stop}
 use Rattle.session_history.specs.Ends.{StaysKnown}
-use Rattle.rx_engine.proofs.Terms.{Err, ap, arith, refl, subst, sym, ℕ, ◌+◌, ◌-◌, ◌∙◌, ◌≡◌, Ledger, Rules, CanGive, served_off, known_same, known_then, left_off, off_requests, trimmed_unless, unless_note, answers_broken, answers_finished, notes_broken, notes_finished, begun_keeping, between_under, frame_then, lost_all, lost_counts, lost_then, starts_between, starts_counted, starts_giving, starts_trimmed, cause_then, stops_under, watched_kept, same_rules, HasLeft, IsTrimmed, keeping_of, keeping_for, HasWatched, IsCounted, IsFinishing, StopsBy, TakesBy, UnlessBroken, UnlessNoteFault, UnlessNoteStop, outcome_of, rules_by, IsBegun, SessionState, Since, told_since}
+use Rattle.rx_engine.proofs.Terms.{Err, ap, arith, refl, subst, sym, ◌+◌, ◌-◌, ◌∙◌, ◌≡◌, Ledger, Rules, CanGive, served_off, known_same, known_then, left_off, off_requests, trimmed_unless, unless_note, answers_broken, answers_finished, notes_broken, notes_finished, begun_keeping, between_under, frame_then, lost_all, lost_counts, lost_then, starts_between, starts_counted, starts_giving, starts_trimmed, cause_then, stops_under, watched_kept, same_rules, HasLeft, IsTrimmed, keeping_of, keeping_for, HasWatched, IsCounted, IsFinishing, StopsBy, TakesBy, UnlessBroken, UnlessNoteFault, UnlessNoteStop, outcome_of, rules_by, IsBegun, SessionState, Since, told_since}
 use Rattle.rx_engine.proofs.session.Session.serve_watched.Goals as goal
 
 pub turns-init : goal.turns-init
@@ -45,7 +45,7 @@ turns-preserved g c =
     let all : g.W.Watch.ran c.args.watch.now + c.turn.new.steps ≡ g.W.Watch.ran c.turn.new.watch + c.args.steps.now + ((lost_then c.turns.invariant.lost c.turns.self.cpu.slots.live.steps c.turn.new.self.steps (g.W.Watch.ran c.turn.new.watch + c.turns.steps) (g.W.Watch.ran c.turns.watch + c.turn.new.steps)) + c.turn.new.self.steps) = (lost_all c.args.steps.now c.turns.invariant.lost c.turns.self.cpu.slots.live.steps c.turn.new.self.steps c.turns.steps c.turn.new.steps (g.W.Watch.ran c.args.watch.now) (g.W.Watch.ran c.turns.watch) (g.W.Watch.ran c.turn.new.watch) c.turns.invariant.counted c.in-Ok.ensures.least) in
     let steps = marked.steps in
     record {
-      stands = λ image is. between_under same (c.in-Ok.ensures.turns image (told_since (g.K.Link.seen c.args.link.now).told (g.N.Notes.shown c.args.notes.now).told (g.N.Notes.shown c.turns.notes).told (g.W.Watch.tables c.args.watch.now) (g.W.Watch.tables c.turns.watch) c.turns.invariant.lost) (lost_then c.turns.invariant.lost c.turns.self.cpu.slots.live.steps c.turn.new.self.steps (g.W.Watch.ran c.turn.new.watch + c.turns.steps) (g.W.Watch.ran c.turns.watch + c.turn.new.steps)) (between_under (sym same) (c.turns.invariant.stands image is)) (λ others. lost_counts c.turns.invariant.lost c.turns.self.cpu.slots.live.steps c.turn.new.self.steps (g.W.Watch.ran c.turn.new.watch + c.turns.steps) (g.W.Watch.ran c.turns.watch + c.turn.new.steps) c.in-Ok.ensures.least));
+      stands = λ image is. between_under same (c.in-Ok.ensures.turns image (told_since (g.K.Link.seen c.args.link.now).told (g.N.Notes.shown c.args.notes.now).told (g.N.Notes.shown c.turns.notes).told (g.W.Watch.tables c.args.watch.now) (g.W.Watch.tables c.turns.watch) c.turns.invariant.lost) (lost_then c.turns.invariant.lost c.turns.self.cpu.slots.live.steps c.turn.new.self.steps (g.W.Watch.ran c.turn.new.watch + c.turns.steps) (g.W.Watch.ran c.turns.watch + c.turn.new.steps)) (between_under (sym same) (c.turns.invariant.stands image is)) (lost_counts c.turns.invariant.lost c.turns.self.cpu.slots.live.steps c.turn.new.self.steps (g.W.Watch.ran c.turn.new.watch + c.turns.steps) (g.W.Watch.ran c.turns.watch + c.turn.new.steps) c.in-Ok.ensures.least));
       frame = frame_then c.turns.invariant.frame c.in-Ok.ensures.keeps.frame;
       known = known_then (g.K.Link.seen c.args.link.now).coming (g.K.Link.seen c.turns.link).coming (g.K.Link.seen c.turn.new.link).coming c.turns.invariant.known c.in-Ok.ensures.keeps.link.known;
       may = record { takes = c.in-Ok.ensures.keeps.link.takes; gives = c.in-Ok.ensures.keeps.link.gives };
@@ -79,10 +79,10 @@ returns-in-Err-Breaks-clause-served g c = record {
         let same = same_rules g.R.AccessRule.rule c.turns.invariant.frame in
         let off = stops_under image (told_since (g.K.Link.seen c.args.link.now).told (g.N.Notes.shown c.args.notes.now).told (g.N.Notes.shown c.turn.new.notes).told (g.W.Watch.tables c.args.watch.now) (g.W.Watch.tables c.turn.new.watch) (lost_then c.turns.invariant.lost c.turns.self.cpu.slots.live.steps c.turn.new.self.steps (g.W.Watch.ran c.turn.new.watch + c.turns.steps) (g.W.Watch.ran c.turns.watch + c.turn.new.steps))) (g.K.Link.seen c.turn.new.link) c.turn.new.self (Breaks c.in-Err-Breaks.why) same
         (subst (λ why. StopsBy here image (told_since (g.K.Link.seen c.args.link.now).told (g.N.Notes.shown c.args.notes.now).told (g.N.Notes.shown c.turn.new.notes).told (g.W.Watch.tables c.args.watch.now) (g.W.Watch.tables c.turn.new.watch) (lost_then c.turns.invariant.lost c.turns.self.cpu.slots.live.steps c.turn.new.self.steps (g.W.Watch.ran c.turn.new.watch + c.turns.steps) (g.W.Watch.ran c.turns.watch + c.turn.new.steps))) (g.K.Link.seen c.turn.new.link) c.turn.new.self why) c.in-Err-Breaks.field-0-is
-        (c.in-Err-Breaks.ensures.turns image (told_since (g.K.Link.seen c.args.link.now).told (g.N.Notes.shown c.args.notes.now).told (g.N.Notes.shown c.turns.notes).told (g.W.Watch.tables c.args.watch.now) (g.W.Watch.tables c.turns.watch) c.turns.invariant.lost) (lost_then c.turns.invariant.lost c.turns.self.cpu.slots.live.steps c.turn.new.self.steps (g.W.Watch.ran c.turn.new.watch + c.turns.steps) (g.W.Watch.ran c.turns.watch + c.turn.new.steps)) (between_under (sym same) (c.turns.invariant.stands image is)) (λ others. lost_counts c.turns.invariant.lost c.turns.self.cpu.slots.live.steps c.turn.new.self.steps (g.W.Watch.ran c.turn.new.watch + c.turns.steps) (g.W.Watch.ran c.turns.watch + c.turn.new.steps) c.in-Err-Breaks.ensures.least))) in
+        (c.in-Err-Breaks.ensures.turns image (told_since (g.K.Link.seen c.args.link.now).told (g.N.Notes.shown c.args.notes.now).told (g.N.Notes.shown c.turns.notes).told (g.W.Watch.tables c.args.watch.now) (g.W.Watch.tables c.turns.watch) c.turns.invariant.lost) (lost_then c.turns.invariant.lost c.turns.self.cpu.slots.live.steps c.turn.new.self.steps (g.W.Watch.ran c.turn.new.watch + c.turns.steps) (g.W.Watch.ran c.turns.watch + c.turn.new.steps)) (between_under (sym same) (c.turns.invariant.stands image is)) (lost_counts c.turns.invariant.lost c.turns.self.cpu.slots.live.steps c.turn.new.self.steps (g.W.Watch.ran c.turn.new.watch + c.turns.steps) (g.W.Watch.ran c.turns.watch + c.turn.new.steps) c.in-Err-Breaks.ensures.least))) in
         let all = lost_all c.args.steps.now c.turns.invariant.lost c.turns.self.cpu.slots.live.steps c.turn.new.self.steps c.turns.steps c.turn.new.steps (g.W.Watch.ran c.args.watch.now) (g.W.Watch.ran c.turns.watch) (g.W.Watch.ran c.turn.new.watch) c.turns.invariant.counted c.in-Err-Breaks.ensures.least in
         watched_kept (λ telling. UnlessNoteFault (Breaks c.in-Err-Breaks.why) (HasLeft the_rules image telling c.turn.new.self (Breaks c.in-Err-Breaks.why))) (c.in-Err-Breaks.ensures.keeps.keeping ∙ (c.turns.invariant.keeping ∙ begun_keeping is))
-        (served_off (λ telling. UnlessNoteFault (Breaks c.in-Err-Breaks.why) (HasLeft the_rules image telling c.turn.new.self (Breaks c.in-Err-Breaks.why))) (told_since (g.K.Link.seen c.args.link.now).told (g.N.Notes.shown c.args.notes.now).told (g.N.Notes.shown c.turn.new.notes).told (g.W.Watch.tables c.args.watch.now) (g.W.Watch.tables c.turn.new.watch) (lost_then c.turns.invariant.lost c.turns.self.cpu.slots.live.steps c.turn.new.self.steps (g.W.Watch.ran c.turn.new.watch + c.turns.steps) (g.W.Watch.ran c.turns.watch + c.turn.new.steps))) {first = g.K.Link.seen c.args.link.now} off.0 off.1 (λ others. omega (arith, all))
+        (served_off (λ telling. UnlessNoteFault (Breaks c.in-Err-Breaks.why) (HasLeft the_rules image telling c.turn.new.self (Breaks c.in-Err-Breaks.why))) (told_since (g.K.Link.seen c.args.link.now).told (g.N.Notes.shown c.args.notes.now).told (g.N.Notes.shown c.turn.new.notes).told (g.W.Watch.tables c.args.watch.now) (g.W.Watch.tables c.turn.new.watch) (lost_then c.turns.invariant.lost c.turns.self.cpu.slots.live.steps c.turn.new.self.steps (g.W.Watch.ran c.turn.new.watch + c.turns.steps) (g.W.Watch.ran c.turns.watch + c.turn.new.steps))) {first = g.K.Link.seen c.args.link.now} off.0 off.1 (omega (arith, all))
         (unless_note c.in-Err-Breaks.why _ (λ never.
         left_off
         (trimmed_unless c.in-Err-Breaks.why (IsTrimmed c.turn.new.self) never (subst (λ (why : Stop). UnlessNoteStop (Err why) (IsTrimmed c.turn.new.self)) c.in-Err-Breaks.field-0-is (c.in-Err-Breaks.ensures.keeps.trimmed c.turns.invariant.trimmed))) (off.0.holds never)
@@ -102,7 +102,7 @@ finish-requires g c =
       began = began;
       is = (stops_under image began (g.K.Link.seen c.turn.new.link) c.turn.new.self (Ends c.in-Err-Ends.end) (sym then)
           (subst (λ why. StopsBy here image began (g.K.Link.seen c.turn.new.link) c.turn.new.self why) c.in-Err-Ends.field-0-is
-          (c.in-Err-Ends.ensures.turns image (told_since (g.K.Link.seen c.args.link.now).told (g.N.Notes.shown c.args.notes.now).told (g.N.Notes.shown c.turns.notes).told (g.W.Watch.tables c.args.watch.now) (g.W.Watch.tables c.turns.watch) c.turns.invariant.lost) (lost_then c.turns.invariant.lost c.turns.self.cpu.slots.live.steps c.turn.new.self.steps (g.W.Watch.ran c.turn.new.watch + c.turns.steps) (g.W.Watch.ran c.turns.watch + c.turn.new.steps)) (between_under (sym same) (c.turns.invariant.stands image c.requires.begun.begun)) (λ others. lost_counts c.turns.invariant.lost c.turns.self.cpu.slots.live.steps c.turn.new.self.steps (g.W.Watch.ran c.turn.new.watch + c.turns.steps) (g.W.Watch.ran c.turns.watch + c.turn.new.steps) c.in-Err-Ends.ensures.least)))).0;
+          (c.in-Err-Ends.ensures.turns image (told_since (g.K.Link.seen c.args.link.now).told (g.N.Notes.shown c.args.notes.now).told (g.N.Notes.shown c.turns.notes).told (g.W.Watch.tables c.args.watch.now) (g.W.Watch.tables c.turns.watch) c.turns.invariant.lost) (lost_then c.turns.invariant.lost c.turns.self.cpu.slots.live.steps c.turn.new.self.steps (g.W.Watch.ran c.turn.new.watch + c.turns.steps) (g.W.Watch.ran c.turns.watch + c.turn.new.steps)) (between_under (sym same) (c.turns.invariant.stands image c.requires.begun.begun)) (lost_counts c.turns.invariant.lost c.turns.self.cpu.slots.live.steps c.turn.new.self.steps (g.W.Watch.ran c.turn.new.watch + c.turns.steps) (g.W.Watch.ran c.turns.watch + c.turn.new.steps) c.in-Err-Ends.ensures.least)))).0;
       gives = subst (λ (why : Stop). UnlessBroken {X = Unit {0}} (Err why) (CanGive (g.K.Link.seen c.turn.new.link) c.turn.new.self.replies)) c.in-Err-Ends.field-0-is c.in-Err-Ends.ensures.keeps.link.gives;
     }
 
@@ -128,7 +128,7 @@ returns-in-Err-Ends-clause-served g c = record {
         let began : Since = told_since (g.K.Link.seen c.args.link.now).told (g.N.Notes.shown c.args.notes.now).told (g.N.Notes.shown c.turn.new.notes).told (g.W.Watch.tables c.args.watch.now) (g.W.Watch.tables c.turn.new.watch) (lost_then c.turns.invariant.lost c.turns.self.cpu.slots.live.steps c.turn.new.self.steps (g.W.Watch.ran c.turn.new.watch + c.turns.steps) (g.W.Watch.ran c.turns.watch + c.turn.new.steps)) in
         let stops = stops_under image began (g.K.Link.seen c.turn.new.link) c.turn.new.self (Ends c.in-Err-Ends.end) (sym then)
         (subst (λ why. StopsBy here image began (g.K.Link.seen c.turn.new.link) c.turn.new.self why) c.in-Err-Ends.field-0-is
-        (c.in-Err-Ends.ensures.turns image (told_since (g.K.Link.seen c.args.link.now).told (g.N.Notes.shown c.args.notes.now).told (g.N.Notes.shown c.turns.notes).told (g.W.Watch.tables c.args.watch.now) (g.W.Watch.tables c.turns.watch) c.turns.invariant.lost) (lost_then c.turns.invariant.lost c.turns.self.cpu.slots.live.steps c.turn.new.self.steps (g.W.Watch.ran c.turn.new.watch + c.turns.steps) (g.W.Watch.ran c.turns.watch + c.turn.new.steps)) (between_under (sym same) (c.turns.invariant.stands image is)) (λ others. lost_counts c.turns.invariant.lost c.turns.self.cpu.slots.live.steps c.turn.new.self.steps (g.W.Watch.ran c.turn.new.watch + c.turns.steps) (g.W.Watch.ran c.turns.watch + c.turn.new.steps) c.in-Err-Ends.ensures.least))) in
+        (c.in-Err-Ends.ensures.turns image (told_since (g.K.Link.seen c.args.link.now).told (g.N.Notes.shown c.args.notes.now).told (g.N.Notes.shown c.turns.notes).told (g.W.Watch.tables c.args.watch.now) (g.W.Watch.tables c.turns.watch) c.turns.invariant.lost) (lost_then c.turns.invariant.lost c.turns.self.cpu.slots.live.steps c.turn.new.self.steps (g.W.Watch.ran c.turn.new.watch + c.turns.steps) (g.W.Watch.ran c.turns.watch + c.turn.new.steps)) (between_under (sym same) (c.turns.invariant.stands image is)) (lost_counts c.turns.invariant.lost c.turns.self.cpu.slots.live.steps c.turn.new.self.steps (g.W.Watch.ran c.turn.new.watch + c.turns.steps) (g.W.Watch.ran c.turns.watch + c.turn.new.steps) c.in-Err-Ends.ensures.least))) in
         let first = g.K.Link.seen c.args.link.now in
         let finishing : IsFinishing later first (g.K.Link.seen c.turn.new.link) stops.0.story c.in-Err-Ends.end = record {
           asked = stops.1;

@@ -1,7 +1,7 @@
 use Rattle.session_history.specs.declared.ends.SessionBreak.TheVariants as session_break
 use Rattle.session_history.specs.declared.ends.SessionEnd.TheVariants as session_end
 use Rattle.session_history.specs.declared.ends.Stop.TheVariants as stop
-use Rattle.rx_engine.proofs.Terms.{Err, ap, arith, refl, rules, subst, sym, ◌+◌, ◌<◌, ◌∙◌, ◌≡◌, ◌≤◌, Ledger, CpuState, Rules, CanGive, unnoted_passing, chosen_serves, exited_serves, memory_serves, passing_serves, unnoted_chosen, unnoted_serves, asks_now, breaks_now, chooses_later, comes_under, emits_later, exits_now, fails_now, fails_under, further_adopted, further_ok, has_run, later_ok, lost_failed, lost_none, ran_frame, ran_keeping, ran_later, ran_low, run_under, steps_unless, if_ok, waits_under, comes_lost, same_rules, still_takes, rules_of, MayServe, rules_by, SessionState, Since}
+use Rattle.rx_engine.proofs.Terms.{Err, ap, arith, refl, rules, subst, sym, ◌+◌, ◌<◌, ◌∙◌, ◌≡◌, ◌≤◌, Ledger, CpuState, Rules, CanGive, unnoted_passing, chosen_serves, exited_serves, memory_serves, passing_serves, unnoted_chosen, unnoted_serves, asks_now, breaks_now, chooses_later, comes_under, emits_later, exits_now, fails_now, fails_under, further_adopted, further_ok, has_run, later_ok, lost_cut, lost_failed, lost_none, ran_frame, ran_keeping, ran_later, ran_low, run_under, if_ok, waits_under, comes_lost, same_rules, still_takes, rules_of, MayServe, rules_by, SessionState, Since}
 use Rattle.rx_engine.proofs.session.Session.turn.Goals as goal
 
 pub ask-requires : goal.ask-requires
@@ -39,7 +39,7 @@ returns-in-Ok-Asks-clause-turns g c image began lost b counts =
     let run = has_run g.R.AccessRule.rule c.env_now-env.ensures c.self.view_is c.in-Ok-Asks.field-0-is c.run_to_event.ensures.kept b c.in-Ok-Asks.ensures.event in
     let after : Since = record began { tables = g.W.Watch.tables c.args.watch.now; noted = (g.N.Notes.shown c.ask.new.notes).told } in
     comes_lost the_rules image after (g.K.Link.seen c.ask.new.link) c.ask.new.self c.ask.result
-    (λ others. lost_none (g.W.Watch.ran c.args.watch.now) c.args.steps.now c.ask.new.steps c.args.self.now.cpu.slots.live.steps c.run_to_event.new.steps c.run_to_event.new.self.slots.live.steps (counts others) asked run_counts c.ask.ensures.keeps.marked.steps)
+    (lost_none (g.W.Watch.ran c.args.watch.now) c.args.steps.now c.ask.new.steps c.args.self.now.cpu.slots.live.steps c.run_to_event.new.steps c.run_to_event.new.self.slots.live.steps counts asked run_counts c.ask.ensures.keeps.marked.steps)
     (comes_under image after (g.K.Link.seen c.ask.new.link) c.ask.new.self c.ask.result same
     (c.ask.ensures.turns image before (waits_under (sym same) (asks_now c.self.view_is c.count_run.ensures run))))
 
@@ -53,11 +53,9 @@ returns-in-Ok-Emits-clause-turns g c image began lost b counts =
     let here : Rules = rules_of c.self.inside.options (g.R.AccessRule.rule c.run_to_event.new.self.rule) in
     let same : here ≡ the_rules = λ i. rules_of ((ap (λ (s : SessionState _). s.options) c.self.view_is) i) (g.R.AccessRule.rule ((ap (λ (cpu : CpuState _). cpu.rule) c.run_to_event.ensures.kept ∙ ap (λ (s : SessionState _). s.cpu.rule) c.self.view_is) i)) in
     let run = has_run g.R.AccessRule.rule c.env_now-env.ensures c.self.view_is c.in-Ok-Emits.field-0-is c.run_to_event.ensures.kept b c.in-Ok-Emits.ensures.event in
-    comes_lost the_rules image before (g.K.Link.seen c.send.new.link) c.send.new.self c.send.result
-    (λ others. lost_none (g.W.Watch.ran c.args.watch.now) c.args.steps.now c.run_to_event.new.steps c.args.self.now.cpu.slots.live.steps c.run_to_event.new.steps c.run_to_event.new.self.slots.live.steps (counts others) refl run_counts
-    (steps_unless c.send.ensures.keeps.marked others ∙ ap (λ (cpu : CpuState _). cpu.slots.live.steps) c.send.ensures.keeps.cpu))
-    (comes_under image before (g.K.Link.seen c.send.new.link) c.send.new.self c.send.result same
-    (c.send.ensures.turns image before c.requires.may.takes (run_under (sym same) run)))
+    comes_under image (record before { lost = lost }) (g.K.Link.seen c.send.new.link) c.send.new.self c.send.result same
+    (c.send.ensures.turns image before lost c.requires.may.takes (run_under (sym same) run)
+    (lost_cut (g.W.Watch.ran c.args.watch.now) lost began.lost c.send.new.self.steps c.args.steps.now c.run_to_event.new.steps c.args.self.now.cpu.slots.live.steps c.run_to_event.new.self.slots.live.steps counts run_counts))
 
 pub returns-in-Ok-Chooses-clause-turns : goal.returns-in-Ok-Chooses-clause-turns
 returns-in-Ok-Chooses-clause-turns g c image began lost b counts =
@@ -69,11 +67,9 @@ returns-in-Ok-Chooses-clause-turns g c image began lost b counts =
     let here : Rules = rules_of c.self.inside.options (g.R.AccessRule.rule c.run_to_event.new.self.rule) in
     let same : here ≡ the_rules = λ i. rules_of ((ap (λ (s : SessionState _). s.options) c.self.view_is) i) (g.R.AccessRule.rule ((ap (λ (cpu : CpuState _). cpu.rule) c.run_to_event.ensures.kept ∙ ap (λ (s : SessionState _). s.cpu.rule) c.self.view_is) i)) in
     let run = has_run g.R.AccessRule.rule c.env_now-env.ensures c.self.view_is c.in-Ok-Chooses.field-0-is c.run_to_event.ensures.kept b c.in-Ok-Chooses.ensures.event in
-    comes_lost the_rules image before (g.K.Link.seen c.args.link.now) c.choose.new.self c.choose.result
-    (λ others. lost_none (g.W.Watch.ran c.args.watch.now) c.args.steps.now c.run_to_event.new.steps c.args.self.now.cpu.slots.live.steps c.run_to_event.new.steps c.run_to_event.new.self.slots.live.steps (counts others) refl run_counts
-    (steps_unless c.choose.ensures.keeps.marked others ∙ ap (λ (cpu : CpuState _). cpu.slots.live.steps) c.choose.ensures.keeps.cpu))
-    (comes_under image before (g.K.Link.seen c.args.link.now) c.choose.new.self c.choose.result same
-    (c.choose.ensures.turns image before _ c.requires.may.takes (run_under (sym same) run)))
+    comes_under image (record before { lost = lost }) (g.K.Link.seen c.args.link.now) c.choose.new.self c.choose.result same
+    (c.choose.ensures.turns image before _ lost c.requires.may.takes (run_under (sym same) run)
+    (lost_cut (g.W.Watch.ran c.args.watch.now) lost began.lost c.choose.new.self.steps c.args.steps.now c.run_to_event.new.steps c.args.self.now.cpu.slots.live.steps c.run_to_event.new.self.slots.live.steps counts run_counts))
 
 pub returns-in-Ok-Exits-clause-turns : goal.returns-in-Ok-Exits-clause-turns
 returns-in-Ok-Exits-clause-turns g c image began lost b counts =
@@ -84,16 +80,19 @@ returns-in-Ok-Exits-clause-turns g c image began lost b counts =
     let the_rules : Rules = rules_by g.R.AccessRule.rule c.args.self.now in
     let run = has_run g.R.AccessRule.rule c.env_now-env.ensures c.self.view_is c.in-Ok-Exits.field-0-is c.run_to_event.ensures.kept b c.in-Ok-Exits.ensures.event in
     comes_lost the_rules image before (g.K.Link.seen c.args.link.now) c.count_run-in-Ok-Exits.new.self (Err (stop.Ends (session_end.Exited c.in-Ok-Exits.code)))
-    (λ others. lost_none (g.W.Watch.ran c.args.watch.now) c.args.steps.now c.run_to_event.new.steps c.args.self.now.cpu.slots.live.steps c.run_to_event.new.steps c.run_to_event.new.self.slots.live.steps (counts others) refl run_counts
+    (lost_none (g.W.Watch.ran c.args.watch.now) c.args.steps.now c.run_to_event.new.steps c.args.self.now.cpu.slots.live.steps c.run_to_event.new.steps c.run_to_event.new.self.slots.live.steps counts refl run_counts
     (ap (λ (s : SessionState _). s.steps) c.count_run-in-Ok-Exits.ensures))
     (exits_now c.self.view_is c.count_run-in-Ok-Exits.ensures run, λ none. still_takes _ c.requires.may.takes none)
 
 pub returns-in-Err-clause-turns : goal.returns-in-Err-clause-turns
 returns-in-Err-clause-turns g c image began lost b counts =
-    let before : Since = record began { tables = g.W.Watch.tables c.args.watch.now; noted = (g.N.Notes.shown c.args.notes.now).told } in
-    let the_rules : Rules = rules_by g.R.AccessRule.rule c.args.self.now in
-    comes_lost the_rules image before (g.K.Link.seen c.args.link.now) _ (Err (stop.Breaks session_break.Memory)) (λ others. absurd (others refl))
-    (breaks_now c.self.view_is (ran_keeping c.self.view_is c.run_to_event.ensures.kept) b, λ none. still_takes _ c.requires.may.takes none)
+    let view = ap (λ (s : SessionState _). s.cpu.slots.live.steps) c.self.view_is in
+    let counted = c.run_to_event.ensures.counted in
+    let run_counts : c.run_to_event.new.steps + c.args.self.now.cpu.slots.live.steps ≡ c.args.steps.now + c.run_to_event.new.self.slots.live.steps = omega (arith, view, counted) in (
+      breaks_now g.R.AccessRule.rule c.run_to_event.result c.env_now-env.ensures c.self.view_is (ran_keeping c.self.view_is c.run_to_event.ensures.kept) b c.run_to_event.ensures.event
+          (lost_cut (g.W.Watch.ran c.args.watch.now) lost began.lost c.self.inside.steps c.args.steps.now c.run_to_event.new.steps c.args.self.now.cpu.slots.live.steps c.run_to_event.new.self.slots.live.steps counts run_counts),
+      λ none. still_takes _ c.requires.may.takes none,
+    )
 
 pub recover-requires : goal.recover-requires
 recover-requires g c =
@@ -123,7 +122,7 @@ returns-in-Ok-Failed-clause-turns g c image began lost b counts =
     let run = has_run g.R.AccessRule.rule c.env_now-env.ensures c.self.view_is c.in-Ok-Failed.field-0-is c.run_to_event.ensures.kept b c.in-Ok-Failed.ensures.event in
     comes_under image (record began { lost = lost; tables = g.W.Watch.tables c.recover.new.watch; noted = (g.N.Notes.shown c.recover.new.notes).told }) (g.K.Link.seen c.recover.new.link) c.recover.new.self c.recover.result same
     (c.recover.ensures.turns image before lost (fails_under (sym same) (fails_now c.self.view_is c.count_run-in-Ok-Failed.ensures run))
-    (λ others. lost_failed (g.W.Watch.ran c.args.watch.now) (g.W.Watch.ran c.recover.new.watch) lost began.lost c.recover.new.self.steps c.args.steps.now c.recover.new.steps c.args.self.now.cpu.slots.live.steps c.run_to_event.new.steps c.count_run-in-Ok-Failed.new.self.steps (counts others) run_counts))
+    (lost_failed (g.W.Watch.ran c.args.watch.now) (g.W.Watch.ran c.recover.new.watch) lost began.lost c.recover.new.self.steps c.args.steps.now c.recover.new.steps c.args.self.now.cpu.slots.live.steps c.run_to_event.new.steps c.count_run-in-Ok-Failed.new.self.steps counts run_counts))
 
 pub returns-in-Ok-Emits-clause-least : goal.returns-in-Ok-Emits-clause-least
 returns-in-Ok-Emits-clause-least g c =
