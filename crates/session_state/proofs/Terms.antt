@@ -19,6 +19,7 @@ pub use Rattle.trials.proofs.Asking.{asks_under_all}
 pub use Rattle.trials.proofs.Going.{steps_later, taken_later}
 pub use Rattle.trials.proofs.Planned.{past_request}
 pub use Rattle.trials.proofs.Survivors.{recovered_first, recovered_on, recovered_then}
+pub use Rattle.recovery.proofs.Chains.{chained_with, survivor_goes}
 pub use Rattle.recovery.proofs.Forces.{in_force_later, in_force_none}
 pub use Rattle.recovery.proofs.ForgetLemmas.{HasOldest, after_oldest, can_forget, has_oldest, oldest_of, oldest_used}
 pub use Rattle.recovery.proofs.Handled.{handled_adopts, handled_first, handled_near, handled_on, handled_save, has_ring, near_handles, stands_up_to}

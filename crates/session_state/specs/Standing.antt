@@ -5,7 +5,7 @@ use Rattle.session_history.specs.declared.ends.Stop.TheVariants as stop
 use Rattle.item_log.specs.Log as logs
 use Rattle.session_state.specs.Terms.{Send, Entry, Grew, Phases, Tells, Told, events_in, Seen, Choice, Ledger, Image, Cause, may_send, AsksFor, FailsBy, Path, Served, standing_of, IsBounded, SessionBreak, SessionEnd, journal_of, HandedLast, IsWaiting, StandsAt, before_end, AreHeeded, heeded, items_in, received, KeepsItems, KeepsPhases, KeepsReplies, Rules, is_closing, is_open, opens, IsDueBy, IsPassed, Latest, Moment, OwesNothing, Stands, journal, latest, place_at, received_before, Serving, first_survivor, moment_of, Episode, Try, Noted, OneEpisode, failed_with, AreRecovered, episode_of, HasHandled, Keeping, stands_of, AreBehind, IsInForce, KeepsRing, steps_of, TellsMore}
 pub use Rattle.session_state.specs.Recovered.{Story, entries}
-use Rattle.session_state.specs.Recovered.{Unanswered, IsUnanswered, steps_unanswered, Walk, Telling, story_of, trials_of, last_of, episodes_of, spent, HasGivenUp, GivesUpBy, IsTelling, HasNoted, HasNothingBehind, IsNoteFault, AreTables, AreAllTables}
+use Rattle.session_state.specs.Recovered.{Unanswered, IsUnanswered, steps_unanswered, Walk, Telling, story_of, trials_of, last_of, episodes_of, spent, HasGivenUp, GivesUpBy, IsTelling, HasNoted, HasNothingBehind, AreTables, AreAllTables}
 use Rattle.session_state.specs.Leaving.{HoldsCheckpoints, UnlessGaveUp, IsAtRequest, IsReadFault, HandlesRequests, keeping_of}
 use Rattle.session_state.specs.Sessions.{SessionState}
 
@@ -184,14 +184,14 @@ module _ {R : Type 0} where
     pub walked : IfSome walk (HasGivenUp rules image (keeping_of session) story)
     pub gave_up : GivesUpBy walk end
 
-  -- a session that was broken off, by no end of its own
+  -- a session that was broken off, by no end of its own: its checkpoints stand, whatever broke it off
   pub record IsBrokenOff (rules : Rules) (image : Image) (began : Since) (seen : Seen) (session : SessionState R) (why : SessionBreak) : Type 0 where
     pub telling : Telling
     pub is : IsTelling rules image (keeping_of session) seen.coming telling (stop.Breaks why)
     pub none_came : telling.account.came ≡ None
     pub tells : Tells began.told seen.told (journal_of telling.account)
     pub handed : HandedLast rules telling.account seen why
-    pub holds : (IsNoteFault why → ⊥) → HoldsCheckpoints rules image telling.account.earlier (before_end telling.account) telling.recoveries telling.account.survivor session
+    pub holds : HoldsCheckpoints rules image telling.account.earlier (before_end telling.account) telling.recoveries telling.account.survivor session
     pub handled : IsReadFault why → HasHandled rules image (keeping_of session) telling.account.earlier (before_end telling.account) telling.recoveries telling.account.survivor (telling.account.survivor.now.state.machine.taken + 1) (stands_of session.cpu.slots.saved)
     pub notes : HasNoted began.noted_before began.noted (stop.Breaks why) telling.account.survivor.now.choices (episodes_of (story_of telling) telling.walk) session.recorded session.choices
     pub unnoted : 0 < length notes.missing → HasNothingBehind telling

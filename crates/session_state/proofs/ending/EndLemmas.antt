@@ -263,7 +263,7 @@ module _ {R : Type 0} where
             subst (Tells began.told seen.told) (append_assoc (entries_of story.earlier) story.since (more ++ broken) ∙ ap (λ es. entries_of story.earlier ++ es) (sym (append_assoc story.since more broken)))
             (tells_then _ _ _ _ _ told.tells tells);
         handed = handed;
-        holds = λ never. held_given story more (are_given rules (sends story) (moment story) more due) held;
+        holds = held_given story more (are_given rules (sends story) (moment story) more due) held;
         handled = λ is. absurd (no_request is);
         notes = notes_here (map episode_of story.recoveries) told.episodes answers refl;
         unnoted = λ some. absurd (omega (arith, some));

@@ -3,7 +3,7 @@ use Rattle.session_history.specs.declared.ends.SessionBreak.TheVariants as sessi
 use Rattle.session_history.specs.declared.ends.SessionEnd.TheVariants as session_end
 use Rattle.guest_cpu.specs.declared.event.Event.TheVariants as step
 use Rattle.guest_cpu.specs.Running.{RunsBy}
-use Rattle.session_state.proofs.Lemmas.{rings_kept, answers_as, broken_running, run_asks, run_exits, run_fails}
+use Rattle.session_state.proofs.Lemmas.{held_by, held_of, answers_as, broken_running, run_asks, run_exits, run_fails}
 use Rattle.session_state.proofs.Terms.{AllocError, Bool, Err, List, Ok, Result, ap, arith, cond, inl, inr, ltb, refl, subst, sym, ℕ, ◌+◌, ◌<◌, ◌∙◌, ◌≡◌, ◌≤◌, IfOk, Seen, Choice, Heap, Env, Plain, Image, Cause, Path, env_at, limits_of, Event, CpuState, live_of, with_live, Standing, turn, runs_serve, runs_write, RunsWriting, Stop, items_in, Rules, rules_of, SessionState, env_of, keeping_of, IsBetween, IsBrokenOff, IsEnding, IsFailing, IsWaitingFor, Since, entries, ComesBetween, GoesFurther, HasRun, HasSameFrame, IsAdoptedLater}
 
 module _ {R : Type 0} where
@@ -107,11 +107,15 @@ module _ {R : Type 0} where
       let whole : cpu ≡ with_live (live_of cpu) old.cpu = kept ∙ ap (λ (s : SessionState R). with_live (live_of cpu) s.cpu) same in
       λ i. record { ring = (same i).ring.capacity; every = (same i).options.every; pages = (whole i).slots.pages; frames = (whole i).slots.frames }
 
+  -- and the saved slots
+  pub ran_saved : {old inside : SessionState R} {cpu : CpuState R} → inside ≡ old → cpu ≡ with_live (live_of cpu) inside.cpu → cpu.slots.saved ≡ old.cpu.slots.saved
+  ran_saved same kept = ap (λ (one : CpuState R). one.slots.saved) kept ∙ ap (λ (s : SessionState R). s.cpu.slots.saved) same
+
   -- memory ran out within the run: the session answers for the run before it
   pub breaks_now : (permits : R → Heap → ℕ → ℕ → Bool) {env : Env} {image : Image} {began : Since} {seen : Seen} {old inside : SessionState R} {cpu : CpuState R} (result : Result Event AllocError) {lost : ℕ} → env ≡ env_of old → inside ≡ old
-      → keeping_of (record inside { cpu = cpu }) ≡ keeping_of old → IsBetween (rules_of old.options (permits old.cpu.rule)) image began seen old → Ran permits env inside cpu result
+      → keeping_of (record inside { cpu = cpu }) ≡ keeping_of old → cpu.slots.saved ≡ old.cpu.slots.saved → IsBetween (rules_of old.options (permits old.cpu.rule)) image began seen old → Ran permits env inside cpu result
       → lost + inside.steps ≡ began.lost + cpu.slots.live.steps → IsBrokenOff (rules_of old.options (permits old.cpu.rule)) image (record began { lost = lost }) seen (record inside { cpu = cpu }) session_break.Memory
-  breaks_now permits {env = env} {old = old} {inside = inside} {cpu = cpu} result force same kept b ran counts =
+  breaks_now permits {env = env} {image = image} {old = old} {inside = inside} {cpu = cpu} result force same kept saved b ran counts =
       let first : Path = b.going.story.survivor.now in
       let runs = runs_serve (limits_of old.options.budget (permits old.cpu.rule)) (items_in (rules_of old.options (permits old.cpu.rule)).bounds (entries b.going.story)) b.going.story.survivor.plan env old.cpu.base first (live_of old.cpu) (live_of cpu)
       result b.going.goes.lives (env_is b force) b.going.goes.guest (subst (λ (s : SessionState R). Ran permits env s cpu result) same ran) in
@@ -119,7 +123,7 @@ module _ {R : Type 0} where
       let there : runs.now.steps ≡ cpu.slots.live.steps = ap (λ (s : Standing). s.steps) runs.stands in
       broken_running runs.now b.going.told
       (answers_as (ap (λ (s : SessionState R). s.recorded) same) (ap (λ (s : SessionState R). s.choices) same) (ap (λ (s : SessionState R). s.taken) same) (ap (λ (s : SessionState R). s.steps) same)
-      b.going.answers) (rings_kept (record inside { cpu = cpu }) kept b.going.saved) runs.goes.served runs.goes.later (omega (arith, counts, answers, there))
+      b.going.answers) (held_by (rules_of old.options (permits old.cpu.rule)) image b.going.story.earlier (entries b.going.story) b.going.story.recoveries b.going.story.survivor old (record inside { cpu = cpu }) saved kept (held_of b.going.saved)) runs.goes.served runs.goes.later (omega (arith, counts, answers, there))
 
   -- by other rules that are the same
   pub comes_under : (image : Image) (began : Since) (seen : Seen) (session : SessionState R) (result : Result (Unit {0}) Stop) {first second : Rules} → first ≡ second

@@ -8,7 +8,7 @@ use Rattle.session_history.specs.declared.ends.SessionEnd.TheVariants as session
 use Rattle.session_history.proofs.Heeding.{passed_in-took}
 use Rattle.link_gate.proofs.Knowing.{gone-took}
 use Rattle.session_history.proofs.Causes.{last_taken-append}
-use Rattle.session_state.proofs.Lemmas.{handled_by, held_as, held_by, held_of, rings_kept, unless_gave_up, waits_handled, owes_nothing, still_takes, answers_as, broken_off, broken_with, none_lost, none_noted, received_is, IsNoEnd, latest-ended, latest-took, told_event, HasSameRun, answers_still, more_entries, run_keeping, tables_here, told_unwatched}
+use Rattle.session_state.proofs.Lemmas.{handled_by, held_as, held_by, held_more, held_of, rings_kept, unless_gave_up, waits_handled, owes_nothing, still_takes, answers_as, broken_off, broken_with, none_lost, none_noted, received_is, IsNoEnd, latest-ended, latest-took, told_event, HasSameRun, answers_still, more_entries, run_keeping, tables_here, told_unwatched}
 use Rattle.session_state.proofs.Terms.{Bool, List, None, Some, [], ap, append-nil, arith, false, inl, inr, length, not, refl, subst, sym, true, ℕ, ◌++◌, ◌+◌, ◌∙◌, ◌∷◌, ◌≡◌, ◌≤◌, ◌⊎◌, eqb-true, true≢false, IfSome, ◌&&◌, ◌==◌, Item, Prefix, Send, sent_to, Entry, LinkEvent, tells_then, HasEnded, IsNext, Refuses, Tells, Told, events_in, Seen, items_of, Log, Ledger, Image, AsksFor, CpuState, standing_of, SessionEnd, served_same, IsLastRefused, IsWaiting, StandsAt, WasAsked, IsHeard, IsHeeded, IsUnheeded, closing_of, Bounds, Unheeded, heeded, items_in, received, KeepsReplies, Rules, is_closed_by, is_closing, closes, is_gone, is_open, opens, IsDueBy, Moment, journal, latest, place_at, passed_in, due_by, due_not_gone, IsEvent, events_ended, heeded_without, handled_on, HasHandled, HaveRings, stands_of, SessionState, GivesUpBy, HoldsCheckpoints, IsHandled, keeping_of, AnswersFor, IsAsking, IsBrokenOff, IsEnding, IsLatestDone, IsTold, IsWaitingFor, Since, Story, entries, moment, sends, then_story}
 
 -- behind an event that is refused no connection closes
@@ -108,6 +108,12 @@ module _ {R : Type 0} where
       → HoldsCheckpoints rules image w.hearing.story.earlier (entries w.hearing.story) w.hearing.story.recoveries w.hearing.story.survivor new
   held_here {rules = rules} {image = image} {old = old} {new = new} w same =
       held_by rules image w.hearing.story.earlier (entries w.hearing.story) w.hearing.story.recoveries w.hearing.story.survivor old new (ap (λ (cpu : CpuState R). cpu.slots.saved) same.cpu) (run_keeping same) (held_of w.hearing.saved)
+
+  -- and so it is behind one event more
+  held_took : {rules : Rules} {image : Image} {began : Since} {before : Seen} {old new : SessionState R} (w : IsWaitingFor rules image began before old) (e : LinkEvent) → HasSameRun old new → (more : List Item)
+      → items_in rules.bounds (entries w.hearing.story ++ entry.Took e ∷ []) ≡ items_in rules.bounds (entries w.hearing.story) ++ more
+      → HoldsCheckpoints rules image w.hearing.story.earlier (entries (then_story w.hearing.story (entry.Took e ∷ []))) w.hearing.story.recoveries w.hearing.story.survivor new
+  held_took {rules = rules} w e same more brings = held_more more (ap (items_in rules.bounds) (sym (more_entries w.hearing.story (entry.Took e ∷ []))) ∙ brings) (held_here w same)
 
   rings_here : {rules : Rules} {image : Image} {began : Since} {before : Seen} {old new : SessionState R} (w : IsWaitingFor rules image began before old) → HasSameRun old new → HaveRings rules image (keeping_of new) w.hearing.story.earlier w.hearing.story.recoveries
   rings_here {new = new} w same = rings_kept new (run_keeping same) w.hearing.saved
@@ -233,7 +239,7 @@ module _ {R : Type 0} where
       let story : Story = w.hearing.story in
       broken_off (told_nothing w.hearing.told tells) (answers_here same w.hearing.answers)
       ((waits_here w all, owes_nothing rules story w.due w.hearing.passed.done, w.hearing.goes.items.all_heeded), (refl, refl, refl)) tt
-      (rings_here w same) (λ never. held_here w same) (λ is. handled_here w refl same handled)
+      (rings_here w same) (held_here w same) (λ is. handled_here w refl same handled)
 
   -- memory ran out, before an event was taken or behind one that is heeded
   pub off_memory : {rules : Rules} {image : Image} {began : Since} {before seen : Seen} {old new : SessionState R} (w : IsWaitingFor rules image began before old)
@@ -242,12 +248,12 @@ module _ {R : Type 0} where
       → (off : IsBrokenOff rules image began seen new session_break.Memory) × (seen.takes ≡ false → WasAsked rules off.telling.account)
   off_memory {rules = rules} {seen = seen} w all same (inl tells) took =
       let story : Story = w.hearing.story in
-      broken_with (λ account. seen.takes ≡ false → WasAsked rules account) (told_nothing w.hearing.told tells) (answers_here same w.hearing.answers) tt (λ some. absurd (some refl)) (rings_here w same) (λ never. absurd (never tt)) (λ is. absurd is)
+      broken_with (λ account. seen.takes ≡ false → WasAsked rules account) (told_nothing w.hearing.told tells) (answers_here same w.hearing.answers) tt (λ some. absurd (some refl)) (rings_here w same) (held_here w same) (λ is. absurd is)
       (λ none. (waits_here w all, owes_nothing rules story w.due w.hearing.passed.done, w.hearing.goes.items.all_heeded))
   off_memory {rules = rules} {seen = seen} w all same (inr still) (inl tells) =
-      broken_with (λ account. seen.takes ≡ false → WasAsked rules account) (told_nothing w.hearing.told tells) (answers_here same w.hearing.answers) tt (λ some. absurd (some refl)) (rings_here w same) (λ never. absurd (never tt)) (λ is. absurd is)
+      broken_with (λ account. seen.takes ≡ false → WasAsked rules account) (told_nothing w.hearing.told tells) (answers_here same w.hearing.answers) tt (λ some. absurd (some refl)) (rings_here w same) (held_here w same) (λ is. absurd is)
       (λ none. still_takes _ still none)
   off_memory {rules = rules} {seen = seen} w all same (inr still) (inr took) =
       broken_with (λ account. seen.takes ≡ false → WasAsked rules account)
-      (waits_took w all took.1 took.2.more took.2.brings) (answers_still (entry.Took took.0 ∷ []) same w.hearing.answers) tt (λ some. absurd (some refl)) (rings_here w same) (λ never. absurd (never tt)) (λ is. absurd is)
+      (waits_took w all took.1 took.2.more took.2.brings) (answers_still (entry.Took took.0 ∷ []) same w.hearing.answers) tt (λ some. absurd (some refl)) (rings_here w same) (held_took w took.0 same took.2.more took.2.brings) (λ is. absurd is)
       (λ none. still_takes _ still none)

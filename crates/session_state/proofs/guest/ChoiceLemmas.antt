@@ -2,7 +2,7 @@
 use Rattle.recovery.specs.Forgetting.{CanForget, Forgets}
 use Rattle.session_history.specs.declared.ends.Stop.TheVariants as stop
 use Rattle.run_history.proofs.Repeats.{repeated_keeps}
-use Rattle.session_state.proofs.Lemmas.{note_at_none, rings_kept, account_of, still_takes, broken_noting, notes_unhanded, received_is, taken_all, tables_here, told_unwatched, note_ends, note_handed}
+use Rattle.session_state.proofs.Lemmas.{held_of, note_at_none, rings_kept, account_of, still_takes, broken_noting, notes_unhanded, received_is, taken_all, tables_here, told_unwatched, note_ends, note_handed}
 use Rattle.session_state.proofs.Terms.{Bool, Err, List, None, Option, Some, ap, arith, cond, drop, false, length, length-append, length-drop, map, refl, subst, sym, take, true, ℕ, ◌+◌, ◌-◌, ◌∙◌, ◌≡◌, ◌≤◌, take-add, drop-drop, none-some, same_Some, is_some, option_map, slice_get, Item, grew_more, Grew, Seen, Choice, Log, Ledger, Image, State, after, Grant, Limits, Override, Path, Served, env_at, grant, guest_of, listed, longer, origin, planned_next, served_next, serves, SessionBreak, SessionEnd, Rules, Noted, Shown, noted, episode_of, can_forget, AreBehind, SessionState, FailsAtChoices, IsNoteFault, IsEnding, IsWaitingFor, Since, entries, WaitsBy}
 
 -- a run used no more answers of the allocator than it has instructions
@@ -51,7 +51,7 @@ module _ {R : Type 0} where
         (broken_noting (λ account. Unit {0}) {began = record began { noted = now.told }} {before = began.noted_before} {noted = shown.told} (told_unwatched h.told)
             (tables_here rules h.story (stop.Breaks why) began.tables_before began.tables h.told.tables)
             (notes_unhanded {began = record began { noted = shown.told }} h.told.episodes h.answers note choices episodes fails) (λ some. absurd (omega (arith, some))) h.answers.taken h.answers.steps
-            (note_ends rules (account_of h.story) why note) (note_handed rules (account_of h.story) _ why refl note) (rings_kept session refl h.saved) (λ never. absurd (never note)) (λ is. absurd (note_at_none why note is)) tt).0,
+            (note_ends rules (account_of h.story) why note) (note_handed rules (account_of h.story) _ why refl note) (rings_kept session refl h.saved) (held_of h.saved) (λ is. absurd (note_at_none why note is)) tt).0,
         λ none. still_takes _ takes none,
       )
 

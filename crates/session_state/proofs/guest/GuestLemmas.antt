@@ -10,7 +10,7 @@ use Rattle.session_state.proofs.guest.NoteLemmas.{grew_same}
 use Rattle.session_state.proofs.standing.StoryLemmas.{on_story, told_on, account_of, journal_of_story, moves_none}
 use Rattle.session_state.proofs.recovering.TableLemmas.{told_unwatched, tables_here}
 use Rattle.session_state.proofs.standing.CheckpointLemmas.{HasSameSide, saved_on}
-use Rattle.session_state.proofs.standing.HeldLemmas.{held_of, requests_on, unless_gave_up}
+use Rattle.session_state.proofs.standing.HeldLemmas.{held_of, requests_on, rings_held, unless_gave_up}
 use Rattle.recovery.proofs.Running.{may_send_by}
 
 -- without trials nothing was counted for them
@@ -270,7 +270,7 @@ module _ {R : Type 0} where
       → (why ≡ session_break.Memory → HasUnanswered rules image (keeping_of session) (record { account = account_of story; recoveries = story.recoveries; walk = None }) began.lost)
       → TellsMore began.tables_before began.tables (AreAllTables rules story None (stop.Breaks why))
       → (notes : HasNoted began.noted_before began.noted (stop.Breaks why) story.survivor.now.choices (map episode_of story.recoveries) session.recorded session.choices) → (0 < length notes.missing → story.since ≡ []) → session.taken ≡ story.survivor.now.state.machine.taken → session.steps ≡ story.survivor.now.steps
-      → EndsBy rules (account_of story) (stop.Breaks why) → HandedLast rules (account_of story) seen why → HaveRings rules image (keeping_of session) story.earlier story.recoveries → ((IsNoteFault why → ⊥) → HoldsCheckpoints rules image story.earlier (entries story) story.recoveries story.survivor session) → (IsReadFault why → HasHandled rules image (keeping_of session) story.earlier (entries story) story.recoveries story.survivor (story.survivor.now.state.machine.taken + 1) (stands_of session.cpu.slots.saved)) → P (account_of story) → (off : IsBrokenOff rules image began seen session why) × P off.telling.account
+      → EndsBy rules (account_of story) (stop.Breaks why) → HandedLast rules (account_of story) seen why → HaveRings rules image (keeping_of session) story.earlier story.recoveries → HoldsCheckpoints rules image story.earlier (entries story) story.recoveries story.survivor session → (IsReadFault why → HasHandled rules image (keeping_of session) story.earlier (entries story) story.recoveries story.survivor (story.survivor.now.state.machine.taken + 1) (stands_of session.cpu.slots.saved)) → P (account_of story) → (off : IsBrokenOff rules image began seen session why) × P off.telling.account
   broken_counting P {rules = rules} {image = image} {began = began} {seen = seen} {session = session} {story = story} {why = why} told same unanswered tables notes unnoted taken steps ends handed rings held at_request holds = (
     record {
       telling = record { account = account_of story; recoveries = story.recoveries; walk = None };
@@ -312,28 +312,28 @@ module _ {R : Type 0} where
       → IsTold rules image (unwatched (record began { noted_before = before; noted = noted })) seen.told story
       → TellsMore began.tables_before began.tables (AreAllTables rules story None (stop.Breaks why))
       → (notes : HasNoted began.noted_before began.noted (stop.Breaks why) story.survivor.now.choices (map episode_of story.recoveries) session.recorded session.choices) → (0 < length notes.missing → story.since ≡ []) → session.taken ≡ story.survivor.now.state.machine.taken → session.steps ≡ story.survivor.now.steps
-      → EndsBy rules (account_of story) (stop.Breaks why) → HandedLast rules (account_of story) seen why → HaveRings rules image (keeping_of session) story.earlier story.recoveries → ((IsNoteFault why → ⊥) → HoldsCheckpoints rules image story.earlier (entries story) story.recoveries story.survivor session) → (IsReadFault why → HasHandled rules image (keeping_of session) story.earlier (entries story) story.recoveries story.survivor (story.survivor.now.state.machine.taken + 1) (stands_of session.cpu.slots.saved)) → P (account_of story) → (off : IsBrokenOff rules image began seen session why) × P off.telling.account
+      → EndsBy rules (account_of story) (stop.Breaks why) → HandedLast rules (account_of story) seen why → HaveRings rules image (keeping_of session) story.earlier story.recoveries → HoldsCheckpoints rules image story.earlier (entries story) story.recoveries story.survivor session → (IsReadFault why → HasHandled rules image (keeping_of session) story.earlier (entries story) story.recoveries story.survivor (story.survivor.now.state.machine.taken + 1) (stands_of session.cpu.slots.saved)) → P (account_of story) → (off : IsBrokenOff rules image began seen session why) × P off.telling.account
   broken_noting P {began = began} {before = before} {noted = noted} {story = story} told tables notes unnoted taken steps ends handed rings held at_request holds =
       broken_counting P {began = began} {before = before} {noted = noted} {earlier = began.lost} told (λ others. refl) (λ memory. all_answered {story = story} told.counted) tables notes unnoted taken steps ends handed rings held at_request holds
 
   -- memory ran out behind a run of its survivor, for which it doesn't answer
   pub broken_running : {rules : Rules} {image : Image} {began : Since} {seen : Seen} {session : SessionState R} {story : Story} {lost : ℕ} (to : Path) → IsTold rules image began seen.told story → AnswersFor began story session
-      → HaveRings rules image (keeping_of session) story.earlier story.recoveries → Served rules.limits (items_in rules.bounds (entries story)) story.survivor.plan story.survivor.now to
+      → HoldsCheckpoints rules image story.earlier (entries story) story.recoveries story.survivor session → Served rules.limits (items_in rules.bounds (entries story)) story.survivor.plan story.survivor.now to
       → story.survivor.now.steps ≤ to.steps → lost + story.survivor.now.steps ≡ began.lost + to.steps → IsBrokenOff rules image (record began { lost = lost }) seen session session_break.Memory
-  broken_running {rules = rules} {image = image} {began = began} {session = session} {story = story} {lost = lost} to told answers rings served later counts =
+  broken_running {rules = rules} {image = image} {began = began} {session = session} {story = story} {lost = lost} to told answers held served later counts =
       (broken_counting (λ account. Unit {0}) {began = record began { lost = lost }} {before = began.noted_before} {noted = began.noted} {earlier = began.lost} (told_unwatched told) (λ others. absurd (others refl))
       (λ memory. record { rest = RanOn to; is = served; counted = let none : steps_of [] ≡ 0 = refl in let all = told.counted in omega (arith, none, all, later, counts) })
       (tables_here rules story (stop.Breaks session_break.Memory) began.tables_before began.tables told.tables)
-      (notes_here {began = began} (map episode_of story.recoveries) told.episodes answers (sym (append-nil (map episode_of story.recoveries)))) (λ some. absurd (omega (arith, some))) answers.taken answers.steps tt (λ some. absurd (some refl)) rings
-      (λ never. absurd (never tt)) (λ is. absurd is) tt).0
+      (notes_here {began = began} (map episode_of story.recoveries) told.episodes answers (sym (append-nil (map episode_of story.recoveries)))) (λ some. absurd (omega (arith, some))) answers.taken answers.steps tt (λ some. absurd (some refl)) (rings_held held)
+      held (λ is. absurd is) tt).0
 
   pub broken_with : (P : Session → Type 0) {rules : Rules} {image : Image} {began : Since} {seen : Seen} {session : SessionState R} {story : Story} {why : SessionBreak} → IsTold rules image began seen.told story → AnswersFor began story session
-      → EndsBy rules (account_of story) (stop.Breaks why) → HandedLast rules (account_of story) seen why → HaveRings rules image (keeping_of session) story.earlier story.recoveries → ((IsNoteFault why → ⊥) → HoldsCheckpoints rules image story.earlier (entries story) story.recoveries story.survivor session) → (IsReadFault why → HasHandled rules image (keeping_of session) story.earlier (entries story) story.recoveries story.survivor (story.survivor.now.state.machine.taken + 1) (stands_of session.cpu.slots.saved)) → P (account_of story) → (off : IsBrokenOff rules image began seen session why) × P off.telling.account
+      → EndsBy rules (account_of story) (stop.Breaks why) → HandedLast rules (account_of story) seen why → HaveRings rules image (keeping_of session) story.earlier story.recoveries → HoldsCheckpoints rules image story.earlier (entries story) story.recoveries story.survivor session → (IsReadFault why → HasHandled rules image (keeping_of session) story.earlier (entries story) story.recoveries story.survivor (story.survivor.now.state.machine.taken + 1) (stands_of session.cpu.slots.saved)) → P (account_of story) → (off : IsBrokenOff rules image began seen session why) × P off.telling.account
   broken_with P {rules = rules} {image = image} {began = began} {session = session} {story = story} {why = why} told answers ends handed rings held at_request holds =
       broken_noting P (told_unwatched told)
       (tables_here rules story (stop.Breaks why) began.tables_before began.tables told.tables)
       (notes_here (map episode_of story.recoveries) told.episodes answers (sym (append-nil (map episode_of story.recoveries)))) (λ some. absurd (omega (arith, some))) answers.taken answers.steps ends handed rings held at_request holds
 
   pub broken_off : {rules : Rules} {image : Image} {began : Since} {seen : Seen} {session : SessionState R} {story : Story} {why : SessionBreak} → IsTold rules image began seen.told story → AnswersFor began story session
-      → EndsBy rules (account_of story) (stop.Breaks why) → HandedLast rules (account_of story) seen why → HaveRings rules image (keeping_of session) story.earlier story.recoveries → ((IsNoteFault why → ⊥) → HoldsCheckpoints rules image story.earlier (entries story) story.recoveries story.survivor session) → (IsReadFault why → HasHandled rules image (keeping_of session) story.earlier (entries story) story.recoveries story.survivor (story.survivor.now.state.machine.taken + 1) (stands_of session.cpu.slots.saved)) → IsBrokenOff rules image began seen session why
+      → EndsBy rules (account_of story) (stop.Breaks why) → HandedLast rules (account_of story) seen why → HaveRings rules image (keeping_of session) story.earlier story.recoveries → HoldsCheckpoints rules image story.earlier (entries story) story.recoveries story.survivor session → (IsReadFault why → HasHandled rules image (keeping_of session) story.earlier (entries story) story.recoveries story.survivor (story.survivor.now.state.machine.taken + 1) (stands_of session.cpu.slots.saved)) → IsBrokenOff rules image began seen session why
   broken_off told answers ends handed rings held at_request = (broken_with (λ account. Unit {0}) told answers ends handed rings held at_request tt).0

@@ -1,7 +1,6 @@
 -- A checkpoint is saved while the guest waits for an item.
-use Rattle.recovery.proofs.Chains.{survivor_goes}
 use Rattle.session_state.proofs.Lemmas.{requests_saved}
-use Rattle.session_state.proofs.Terms.{Bool, List, [], ap, arith, false, length, refl, subst, suc, sym, take, true, zero, ℕ, ◌∙◌, ◌∷◌, ◌≡◌, ◌≤◌, Entry, Seen, Checkpoints, from_newest, count_true, Log, Ledger, Image, AsksFor, Override, Path, CpuState, items_in, Rules, asks_under_all, taken_later, Keeping, handle, is_far, keeping_by, stands_of, AreBehind, KeepsRing, SavesIf, ring_if, CanGoOn, taken_in, SessionState, HandlesRequests, keeping_of, IsWaitingFor, Since, entries}
+use Rattle.session_state.proofs.Terms.{Bool, List, [], ap, arith, false, length, refl, subst, suc, sym, take, true, zero, ℕ, ◌∙◌, ◌∷◌, ◌≡◌, ◌≤◌, Entry, Seen, Checkpoints, from_newest, count_true, Log, Ledger, Image, AsksFor, Override, Path, CpuState, items_in, Rules, asks_under_all, taken_later, survivor_goes, Keeping, handle, is_far, keeping_by, stands_of, AreBehind, KeepsRing, SavesIf, ring_if, CanGoOn, taken_in, SessionState, HandlesRequests, keeping_of, IsWaitingFor, Since, entries}
 
 -- the newest checkpoints of some that used so many answers of the allocator
 behind_take : (count number : ℕ) (ring : List Path) → AreBehind count ring → AreBehind count (take number ring)

@@ -2,8 +2,8 @@
 use Rattle.session_history.specs.declared.ends.SessionBreak.TheVariants as session_break
 use Rattle.session_history.specs.declared.ends.SessionEnd.TheVariants as session_end
 use Rattle.guest_cpu.specs.declared.event.Event.TheVariants as step
-use Rattle.session_state.proofs.Terms.{Bool, List, Ok, [], ap, arith, subst, sym, ℕ, ◌++◌, ◌+◌, ◌∙◌, ◌∷◌, ◌≡◌, Item, Seen, Choice, Ledger, with_send, Image, Cause, Limits, Override, Path, Event, CpuState, live_of, with_live, Live, Standing, RunsWriting, Rules, SessionState, keeping_of, IsBetween, IsBrokenOff, IsEnding, IsFailing, IsGoing, IsWaitingFor, Since, HasRun, IsCounted}
-use Rattle.session_state.proofs.standing.HeldLemmas.{rings_kept}
+use Rattle.session_state.proofs.Terms.{Bool, List, Ok, [], ap, arith, subst, sym, ℕ, ◌++◌, ◌+◌, ◌∙◌, ◌∷◌, ◌≡◌, Item, Seen, Choice, Ledger, with_send, Image, Cause, Limits, Override, Path, Event, CpuState, live_of, with_live, Live, Standing, RunsWriting, Rules, SessionState, keeping_of, IsBetween, IsBrokenOff, IsEnding, IsFailing, IsGoing, IsWaitingFor, Since, entries, HasRun, IsCounted}
+use Rattle.session_state.proofs.standing.HeldLemmas.{held_by, held_of}
 use Rattle.session_state.proofs.standing.CheckpointLemmas.{HasSameSide}
 use Rattle.session_state.proofs.guest.GuestLemmas.{HasSameParts, answers_as, broken_running, chooses_between, asks_waits, exits_ending, fails_failing}
 use Rattle.session_state.proofs.guest.SendLemmas.{emits_going}
@@ -19,18 +19,22 @@ module _ {R : Type 0} where
   run_kept h =
       λ i. record { ring = (h.same i).ring.capacity; every = (h.same i).options.every; pages = (h.cpu i).slots.pages; frames = (h.cpu i).slots.frames }
 
+  -- and the saved slots
+  run_saved : {rules : Rules} {image : Image} {began : Since} {seen : Seen} {happened : Event} {session : SessionState R} (h : HasRun rules image began seen happened session) → session.cpu.slots.saved ≡ h.before.cpu.slots.saved
+  run_saved h = ap (λ (cpu : CpuState R). cpu.slots.saved) h.cpu
+
   -- memory ran out behind the event: the session answers for the run before it
-  pub run_breaks : {rules : Rules} {image : Image} {began : Since} {seen : Seen} {happened : Event} {session after : SessionState R} {lost : ℕ} → HasRun rules image began seen happened session → keeping_of after ≡ keeping_of session
+  pub run_breaks : {rules : Rules} {image : Image} {began : Since} {seen : Seen} {happened : Event} {session after : SessionState R} {lost : ℕ} → HasRun rules image began seen happened session → keeping_of after ≡ keeping_of session → after.cpu.slots.saved ≡ session.cpu.slots.saved
       → after.recorded ≡ session.recorded → after.choices ≡ session.choices → after.taken ≡ session.taken → after.steps ≡ session.steps → lost + after.steps ≡ began.lost + session.cpu.slots.live.steps
       → IsBrokenOff rules image (record began { lost = lost }) seen after session_break.Memory
-  run_breaks {session = session} {after = after} h kept recorded choices taken steps counts =
+  run_breaks {rules = rules} {image = image} {session = session} {after = after} h kept saved recorded choices taken steps counts =
       let going = h.between.going in
       let runs = h.runs.ran in
       let answers : session.steps ≡ going.story.survivor.now.steps = ap (λ (s : SessionState R). s.steps) h.same ∙ going.answers.steps in
       let there : runs.now.steps ≡ session.cpu.slots.live.steps = ap (λ (s : Standing). s.steps) runs.stands in
       broken_running runs.now going.told
       (answers_as (recorded ∙ ap (λ (s : SessionState R). s.recorded) h.same) (choices ∙ ap (λ (s : SessionState R). s.choices) h.same) (taken ∙ ap (λ (s : SessionState R). s.taken) h.same)
-      (steps ∙ ap (λ (s : SessionState R). s.steps) h.same) going.answers) (rings_kept after (kept ∙ run_kept h) going.saved) runs.goes.served runs.goes.later (omega (arith, counts, steps, answers, there))
+      (steps ∙ ap (λ (s : SessionState R). s.steps) h.same) going.answers) (held_by rules image going.story.earlier (entries going.story) going.story.recoveries going.story.survivor h.before after (saved ∙ run_saved h) (kept ∙ run_kept h) (held_of going.saved)) runs.goes.served runs.goes.later (omega (arith, counts, steps, answers, there))
 
   -- all but the replies, the answers of the allocator and the counts is the same
   abbrev pub IsSameBut : SessionState R → SessionState R → Type 0

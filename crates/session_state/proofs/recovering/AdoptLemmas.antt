@@ -7,8 +7,8 @@ use Rattle.session_history.specs.declared.ends.SessionEnd.TheVariants as session
 use Rattle.trials.specs.EpisodeLaws.{GoesOnAs}
 use Rattle.trials.proofs.Recovered.{recovery_adopts}
 use Rattle.recovery.specs.Walking.{HasSameBytes, HasBegun}
-use Rattle.session_state.proofs.Terms.{List, None, Option, Some, [], ap, append-nil, arith, drop, inl, inr, length, map, refl, subst, suc, sym, take, zero, ℕ, ◌++◌, ◌+◌, ◌-◌, ◌<◌, ◌^◌, ◌∙◌, ◌∷◌, ◌≡◌, ◌≤◌, ◌⊎◌, map-append, none-some, option_map, sum, Entry, grew_more, Grew, Tells, Told, events_in, Seen, Choice, Env, Checkpoints, Ledger, Image, Cause, Fails, Wants, AsksFor, FailsBy, Limits, Override, Path, CpuState, Standing, SessionBreak, served_same, entries_of-then, serving_account, serving_adopts, heeded, items_in, received, KeepsItems, KeepsPhases, KeepsReplies, LeavesNothing, Rules, Survivor, entries_of, opens, first_survivor, Episode, Try, Noted, noted, asks_under_all, steps_later, recovered_then, AreChained, AreRecovered, IsRecovery, Recovery, adopted_by, episode_of, Trial, survivor_in, table, Recovered, Adopted, handled_adopts, has_ring, stands_up_to, ring_fails, HasHandled, HaveRings, Keeping, keeping_by, stands_of, HasAdoptedRun, HasRecovery, HasToRecover, KeepsSlots, LeavesRun, recovery_of, AreBehind, IsInForce, KeepsRing, Failure, steps_of, TellsMore, TellsTable, SessionState, AllAnswered, AreTables, HasGivenUp, IsNoteFault, TriedOn, Walk, spent, walk_behind, keeping_of, AnswersFor, HasMissed, HasNotedMore, HasUnanswered, IsBrokenOff, IsEnding, IsFailing, IsGoing, IsTold, Since, Story, entries, sends, unwatched, Adopting, AdoptsTo, end_of}
-use Rattle.session_state.proofs.standing.HeldLemmas.{held_by, held_of, rings_of, rings_kept, note_at_none}
+use Rattle.session_state.proofs.Terms.{List, None, Option, Some, [], ap, append-nil, arith, drop, inl, inr, length, map, refl, subst, suc, sym, take, zero, ℕ, ◌++◌, ◌+◌, ◌-◌, ◌<◌, ◌^◌, ◌∙◌, ◌∷◌, ◌≡◌, ◌≤◌, ◌⊎◌, map-append, none-some, option_map, sum, Entry, grew_more, Grew, Tells, Told, events_in, Seen, Choice, Env, Checkpoints, Ledger, Image, Cause, Fails, Wants, AsksFor, FailsBy, Limits, Override, Path, CpuState, Standing, SessionBreak, served_same, entries_of-then, serving_account, serving_adopts, heeded, items_in, received, KeepsItems, KeepsPhases, KeepsReplies, LeavesNothing, Rules, Survivor, entries_of, opens, first_survivor, Episode, Try, Noted, noted, asks_under_all, steps_later, recovered_then, AreChained, AreRecovered, IsRecovery, Recovery, adopted_by, episode_of, Trial, survivor_in, table, Recovered, Adopted, handled_adopts, has_ring, stands_up_to, ring_fails, HasHandled, Keeping, keeping_by, stands_of, HasAdoptedRun, HasRecovery, HasToRecover, KeepsSlots, LeavesRun, recovery_of, AreBehind, IsInForce, KeepsRing, Failure, steps_of, TellsMore, TellsTable, SessionState, AllAnswered, AreTables, HasGivenUp, IsNoteFault, TriedOn, Walk, spent, walk_behind, HoldsCheckpoints, keeping_of, AnswersFor, HasMissed, HasNotedMore, HasUnanswered, IsBrokenOff, IsEnding, IsFailing, IsGoing, IsTold, Since, Story, entries, sends, unwatched, Adopting, AdoptsTo, end_of}
+use Rattle.session_state.proofs.standing.HeldLemmas.{held_by, held_of, rings_held, rings_of, note_at_none}
 use Rattle.session_state.proofs.recovering.TableLemmas.{TellsOne, told_unwatched, tables_here, tables_memory, tables_given_up, tables_then}
 use Rattle.session_state.proofs.guest.GuestLemmas.{none_lost, none_noted, answers_as, notes_here, notes_missed, received_is, broken_counting, broken_noting}
 use Rattle.session_state.proofs.standing.StoryLemmas.{account_of, journal_of_story, owes_nothing}
@@ -208,6 +208,11 @@ module _ {R : Type 0} where
         gave_up = refl;
       }
 
+  -- a session holds the checkpoints of a trial that it goes on as
+  abbrev HoldsAdopted : Rules → Image → Story → Recovery → Trial → SessionState R → Type 0
+  HoldsAdopted rules image story recovery trial session =
+      HoldsCheckpoints rules image (adopted_story story recovery trial).earlier (entries (adopted_story story recovery trial)) (adopted_story story recovery trial).recoveries (adopted_story story recovery trial).survivor session
+
   -- what stands behind a recovery that adopted a trial
   adopted_requests : {rules : Rules} {image : Image} {began : Since} {seen : Seen} {cause : Cause} {old : SessionState R} {cpu : CpuState R} {ring : Checkpoints} {replies : Ledger} {choices : List Choice} {adopted : Adopted}
       (f : IsFailing rules image began seen cause old) {trials : List Trial} {trial : Trial} → survivor_in trials ≡ Some trial
@@ -280,6 +285,26 @@ module _ {R : Type 0} where
         latest = λ last found. absurd (none-some last found);
       }
 
+  -- it holds the checkpoints up to its own
+  adopted_held : {rules : Rules} {image : Image} {began : Since} {seen : Seen} {cause : Cause} {old : SessionState R} {cpu : CpuState R} {ring : Checkpoints} {replies : Ledger} {choices : List Choice} {adopted : Adopted}
+      (f : IsFailing rules image began seen cause old) {trials : List Trial} {trial : Trial} → survivor_in trials ≡ Some trial
+      → HasAdoptedRun (failure_of rules image f.going.story f.going.saved.paths) (recovery_of (failure_of rules image f.going.story f.going.saved.paths) f.going.story.survivor.begun cause trials) trial adopted cpu ring old.recorded choices old.log replies
+      → KeepsSlots (Some adopted) old.cpu cpu → keeping_by ring.capacity old.options.every cpu.slots ≡ keeping_of old
+      → HoldsAdopted rules image f.going.story (recovery_of (failure_of rules image f.going.story f.going.saved.paths) f.going.story.survivor.begun cause trials) trial (goes_as old cpu ring replies choices adopted.env (old.taken + 4))
+  adopted_held {rules = rules} {image = image} {cause = cause} {adopted = adopted} f {trials = trials} {trial = trial} found run slots keeping =
+      let g = f.going in
+      let story : Story = g.story in
+      let recovery : Recovery = recovery_of (failure_of rules image story g.saved.paths) story.survivor.begun cause trials in
+      record {
+        paths = drop adopted.index g.saved.paths;
+        some = run.ring.some;
+        chained = subst (λ es. AreChained rules.limits (items_in rules.bounds es) (adopted_by recovery trial).plan image trial.path (drop adopted.index g.saved.paths)) (sym (same_entries story recovery trial)) run.ring.chained;
+        are = run.ring.are;
+        as_many = run.ring.as_many;
+        saved = run.ring.saved;
+        requests = inl (adopted_requests f found run slots keeping);
+      }
+
   -- the trial ended itself
   pub adopts_ending : {rules : Rules} {image : Image} {began : Since} {seen : Seen} {cause : Cause} {old : SessionState R} {cpu : CpuState R} {ring : Checkpoints} {replies : Ledger} {choices : List Choice}
       {adopted : Adopted} {code : ℕ} (f : IsFailing rules image began seen cause old) {trials : List Trial} {trial : Trial} {lost : ℕ}
@@ -311,15 +336,7 @@ module _ {R : Type 0} where
         replies = subst (λ es. KeepsReplies rules.bounds es None trial.path.state.sends replies) (sym same) run.replies;
         no_trial = bytes.no_trial;
         closed = λ send stands closing owed. absurd owed;
-        holds = record {
-          paths = drop adopted.index g.saved.paths;
-          some = run.ring.some;
-          chained = subst (λ es. AreChained rules.limits (items_in rules.bounds es) (adopted_by recovery trial).plan image trial.path (drop adopted.index g.saved.paths)) (sym same) run.ring.chained;
-          are = run.ring.are;
-          as_many = run.ring.as_many;
-          saved = run.ring.saved;
-          requests = inl (adopted_requests f found run slots keeping);
-        };
+        holds = adopted_held f found run slots keeping;
         handled = λ is. absurd is;
         live = run.stands;
         stands = sym run.code_is ∙ exits;
@@ -330,16 +347,16 @@ module _ {R : Type 0} where
   -- the episode of a recovery that adopted isn't noted: the session is broken off as the trial
   adopted_unnoted : {rules : Rules} {image : Image} {began : Since} {seen : Seen} {story : Story} {recovery : Recovery} {trial : Trial} {lost : ℕ} {session : SessionState R} {fault : SessionBreak} {tables : Option (List (List Try))} → IsTold rules image began seen.told story → LeavesNothing rules (entries_of story.earlier) story.since story.survivor
       → recovery.survivor ≡ story.survivor → IsRecovery rules image (entries story) recovery → survivor_in recovery.trials ≡ Some trial → lost + trial.path.steps ≡ began.lost + story.survivor.now.steps + steps_of recovery.trials
-      → AnswersFor (record began { lost = lost }) (adopted_story story recovery trial) session → HaveRings rules image (keeping_of session) (story.earlier ++ record { survivor = story.survivor; entries = story.since } ∷ []) (story.recoveries ++ recovery ∷ []) → IsNoteFault fault → TellsOne rules (entries story) recovery began.tables tables
+      → AnswersFor (record began { lost = lost }) (adopted_story story recovery trial) session → HoldsAdopted rules image story recovery trial session → IsNoteFault fault → TellsOne rules (entries story) recovery began.tables tables
       → (noted : Noted) → HasMissed began.noted noted (episode_of recovery) → IsBrokenOff rules image (record began { lost = lost; noted = noted; tables = tables }) seen session fault
-  adopted_unnoted {rules = rules} {image = image} {began = began} {seen = seen} {story = story} {recovery = recovery} {trial = trial} {lost = lost} {session = session} {fault = fault} {tables = tables} told leaves is was found counts answers rings note one now missed =
+  adopted_unnoted {rules = rules} {image = image} {began = began} {seen = seen} {story = story} {recovery = recovery} {trial = trial} {lost = lost} {session = session} {fault = fault} {tables = tables} told leaves is was found counts answers held note one now missed =
       let next : Story = adopted_story story recovery trial in
       let nobody : Noted = noted None None None in
       let then = told_adopted {began = unwatched (record began { noted_before = nobody; noted = nobody })}
       (record { serving = told.serving; way = told.way; tells = told.tells; counted = told.counted; recovered = told.recovered; episodes = tt; tables = refl }) leaves is was found counts tt refl in
       (broken_noting (λ account. Unit {0}) {began = record began { lost = lost; noted = now; tables = tables }} {before = nobody} {noted = nobody} then
       (tables_here rules next (stop.Breaks fault) began.tables_before tables (tables_then rules story recovery began.tables_before began.tables tables told.tables one))
-      (notes_missed (map episode_of story.recoveries) (episode_of recovery) told.episodes answers (map-append episode_of story.recoveries (recovery ∷ [])) note missed) (λ some. refl) answers.taken answers.steps (note_ends rules (account_of next) fault note) (note_handed rules (account_of next) seen fault refl note) rings (λ never. absurd (never note)) (λ is. absurd (note_at_none fault note is)) tt).0
+      (notes_missed (map episode_of story.recoveries) (episode_of recovery) told.episodes answers (map-append episode_of story.recoveries (recovery ∷ [])) note missed) (λ some. refl) answers.taken answers.steps (note_ends rules (account_of next) fault note) (note_handed rules (account_of next) seen fault refl note) (rings_held held) held (λ is. absurd (note_at_none fault note is)) tt).0
 
   -- by another count of instructions that is the same
   abbrev pub off_lost : (rules : Rules) (image : Image) (began : Since) (seen : Seen) (session : SessionState R) (why : SessionBreak) (lost : ℕ) → lost ≡ began.lost → IsBrokenOff rules image began seen session why
@@ -364,15 +381,16 @@ module _ {R : Type 0} where
 
   -- memory ran out: the session answers for the run that failed
   pub adopt_breaks : {rules : Rules} {image : Image} {began : Since} {seen : Seen} {cause : Cause} {old : SessionState R} {cpu : CpuState R} {ring : Checkpoints} {replies : Ledger} {choices : List Choice} {lost : ℕ} {tables : Option (List (List Try))}
-      → (f : IsFailing rules image began seen cause old) → keeping_by ring.capacity old.options.every cpu.slots ≡ keeping_of old → choices ≡ old.choices → {before after : ℕ}
+      → (f : IsFailing rules image began seen cause old) → cpu.slots.saved ≡ old.cpu.slots.saved → keeping_by ring.capacity old.options.every cpu.slots ≡ keeping_of old → choices ≡ old.choices → {before after : ℕ}
       → HasBegun (failure_of rules image f.going.story f.going.saved.paths) f.going.story.survivor.now.state.machine.taken (table f.going.saved.paths) before after → lost + old.steps + before ≡ began.lost + old.steps + after → (tables ≡ began.tables) ⊎ TellsTable (failure_of rules image f.going.story f.going.saved.paths) old.taken began.tables tables
       → IsBrokenOff rules image (record began { lost = lost; tables = tables }) seen (walked old cpu ring replies choices) session_break.Memory
-  adopt_breaks {rules = rules} {image = image} {began = began} {seen = seen} {cause = cause} {old = old} {cpu = cpu} {ring = ring} {replies = replies} {choices = choices} {lost = lost} {tables = tables} f keeping chose b counts looked =
+  adopt_breaks {rules = rules} {image = image} {began = began} {seen = seen} {cause = cause} {old = old} {cpu = cpu} {ring = ring} {replies = replies} {choices = choices} {lost = lost} {tables = tables} f stay keeping chose b counts looked =
       let story : Story = f.going.story in
       let k = f.going.saved.ring in
       let told = f.going.told in
       let answers = answers_as {new = walked old cpu ring replies choices} refl chose refl refl f.going.answers in
       let all : List Episode = map episode_of story.recoveries in
+      let held = held_by rules image story.earlier (entries story) story.recoveries story.survivor old (walked old cpu ring replies choices) stay keeping (held_of f.going.saved) in
       (broken_counting (λ account. Unit {0}) {began = record began { lost = lost; tables = tables }} {before = began.noted_before} {noted = began.noted} {earlier = began.lost} (told_unwatched told) (λ others. absurd (others refl))
       (λ memory. record {
         rest = TriedOn cause f.going.saved.paths b.unfinished;
@@ -395,7 +413,7 @@ module _ {R : Type 0} where
         | inl same ↦ tables_here rules story (stop.Breaks session_break.Memory) began.tables_before tables (subst (λ (t : Option (List (List Try))). TellsMore began.tables_before t (AreTables rules [] story.earlier story.recoveries)) (sym same) told.tables)
         | inr more ↦ tables_memory rules story (recovery_of (failure_of rules image story f.going.saved.paths) story.survivor.begun cause []) began.tables_before began.tables tables told.tables (table_of f [] began.tables tables more)
       ])
-      (notes_here {began = began} all told.episodes answers (sym (append-nil all))) (λ some. absurd (omega (arith, some))) answers.taken answers.steps tt (λ some. absurd (some refl)) (rings_kept (walked old cpu ring replies choices) keeping f.going.saved) (λ never. absurd (never tt)) (λ is. absurd is) tt).0
+      (notes_here {began = began} all told.episodes answers (sym (append-nil all))) (λ some. absurd (omega (arith, some))) answers.taken answers.steps tt (λ some. absurd (some refl)) (rings_held held) held (λ is. absurd is) tt).0
 
   -- behind a failure the number is higher, up to which an environment is in force
   pub adopted_later : {rules : Rules} {image : Image} {began : Since} {seen : Seen} {cause : Cause} {old : SessionState R} → IsFailing rules image began seen cause old → (old.until < old.taken + 4) × (old.taken ≤ rules.bounds.max_items)
@@ -430,10 +448,10 @@ module _ {R : Type 0} where
 
   -- no trial survived, and the episode isn't noted
   gave_up_unnoted : {rules : Rules} {image : Image} {began : Since} {seen : Seen} {story : Story} (walk : Walk) {lost : ℕ} {session : SessionState R} {fault : SessionBreak} {tables : Option (List (List Try))} → IsTold rules image began seen.told story
-      → HasGivenUp rules image (keeping_of session) story walk → lost ≡ began.lost + steps_of walk.trials → AnswersFor began story session → IsNoteFault fault
+      → HasGivenUp rules image (keeping_of session) story walk → lost ≡ began.lost + steps_of walk.trials → AnswersFor began story session → HoldsCheckpoints rules image story.earlier (entries story) story.recoveries story.survivor session → IsNoteFault fault
       → TellsOne rules (entries story) (walk_behind story.survivor walk) began.tables tables → (noted : Noted) → HasMissed began.noted noted (episode_of (walk_behind story.survivor walk))
       → IsBrokenOff rules image (record began { lost = lost; noted = noted; tables = tables }) seen session fault
-  gave_up_unnoted {rules = rules} {image = image} {began = began} {seen = seen} {story = story} walk {fault = fault} {tables = tables} told given_up counts answers note one noted missed =
+  gave_up_unnoted {rules = rules} {image = image} {began = began} {seen = seen} {story = story} walk {fault = fault} {tables = tables} told given_up counts answers held note one noted missed =
       record {
         telling = record { account = account_of story; recoveries = story.recoveries; walk = Some walk };
         is = record {
@@ -446,7 +464,7 @@ module _ {R : Type 0} where
         none_came = refl;
         tells = subst (Tells began.told seen.told) (sym (journal_of_story story)) told.tells;
         handed = note_handed rules (account_of story) seen fault refl note;
-        holds = λ never. absurd (never note);
+        holds = held;
         handled = λ is. absurd (note_at_none fault note is);
         notes = notes_missed {began = began} (map episode_of story.recoveries) (episode_of (walk_behind story.survivor walk)) told.episodes answers refl note missed;
         unnoted = λ some. ((refl, refl, refl), tt);
@@ -480,7 +498,8 @@ module _ {R : Type 0} where
             (subst (λ (e : Episode). HasNotedMore began.noted noted [] (e ∷ [])) h.episode_is more) one);
         breaks = λ fault note noted missed.
             gave_up_unnoted walk g.told given_up (omega (arith, counted, counts))
-            (answers_as refl leaves.2 refl refl g.answers) note one noted (subst (HasMissed began.noted noted) h.episode_is missed);
+            (answers_as refl leaves.2 refl refl g.answers)
+            (held_by rules image story.earlier (entries story) story.recoveries story.survivor old (walked old cpu ring replies choices) stay keeping (held_of g.saved)) note one noted (subst (HasMissed began.noted noted) h.episode_is missed);
       }
 
   pub adopt_some : {rules : Rules} {image : Image} {began : Since} {seen : Seen} {cause : Cause} {old : SessionState R} {cpu : CpuState R} {ring : Checkpoints} {replies : Ledger} {choices : List Choice} {recovered : Recovered} {adopted : Adopted}
@@ -512,8 +531,7 @@ module _ {R : Type 0} where
               taken = ap (λ (s : Standing). s.guest.machine.taken) run.stands;
               steps = ap (λ (s : Standing). s.steps) run.stands;
             })
-            (rings_of
-            (adopted_requests f leaves.1 run (subst (λ (a : Option Adopted). KeepsSlots a old.cpu cpu) is slots) keeping)) note (table_of f h.trials began.tables tables told) noted (subst (HasMissed began.noted noted) h.episode_is missed);
+            (adopted_held f leaves.1 run (subst (λ (a : Option Adopted). KeepsSlots a old.cpu cpu) is slots) keeping) note (table_of f h.trials began.tables tables told) noted (subst (HasMissed began.noted noted) h.episode_is missed);
       }
     where
       of_code : (code : Option ℕ) → adopted.code ≡ code → (noted : Noted) → HasNotedMore began.noted noted [] (told_of f.going.story.survivor cause h.trials ∷ [])

@@ -2,7 +2,7 @@
 use Rattle.session_history.specs.declared.ends.SessionBreak.TheVariants as session_break
 use Rattle.session_history.specs.declared.ends.SessionEnd.TheVariants as session_end
 use Rattle.circular_buffer.proofs.Places.{slice_get-take}
-use Rattle.session_state.proofs.Terms.{List, None, Option, Some, [], ap, append-nil, arith, false, inl, inr, length, refl, subst, sym, ℕ, ◌++◌, ◌+◌, ◌-◌, ◌∙◌, ◌≡◌, ◌≤◌, IfSome, option_map, slice_get, Item, Entry, LinkEvent, Seen, Checkpoints, from_newest, Saved, count_true, items_of, Log, Ledger, Image, AsksFor, Path, Served, CpuState, Standing, SessionBreak, SessionEnd, served_same, AreGiven, heeded, items_in, Chapter, Rules, Survivor, gone_on, asks_under_all, past_request, AreChained, Recovery, Adopted, handled_near, handled_on, handled_save, near_handles, HasHandled, HaveRings, Keeping, Stand, handle, is_far, stands_of, KeepsSlots, KeepsRing, SessionState, IsNoteFault, HandlesRequests, HoldsCheckpoints, IsHandled, IsReadFault, IsTrimmed, KeepsOldest, UnlessGaveUp, keeping_of, IsWaitingFor, KeepsCheckpoints, Since, Story, entries, then_story, HasSameGuest}
+use Rattle.session_state.proofs.Terms.{List, None, Option, Some, [], ap, append-nil, arith, false, inl, inr, length, refl, subst, sym, ℕ, ◌++◌, ◌+◌, ◌-◌, ◌∙◌, ◌≡◌, ◌≤◌, IfSome, option_map, slice_get, Item, Entry, LinkEvent, Seen, Checkpoints, from_newest, Saved, count_true, items_of, Log, Ledger, Image, AsksFor, Path, Served, CpuState, Standing, SessionBreak, SessionEnd, served_same, AreGiven, heeded, items_in, Chapter, Rules, Survivor, gone_on, asks_under_all, past_request, AreChained, Recovery, Adopted, chained_with, handled_near, handled_on, handled_save, near_handles, HasHandled, HaveRings, Keeping, Stand, handle, is_far, stands_of, KeepsSlots, KeepsRing, SessionState, IsNoteFault, HandlesRequests, HoldsCheckpoints, IsHandled, IsReadFault, IsTrimmed, KeepsOldest, UnlessGaveUp, keeping_of, IsWaitingFor, KeepsCheckpoints, Since, Story, entries, then_story, HasSameGuest}
 use Rattle.session_state.proofs.passing.GivenLemmas.{events_in-story}
 
 -- what holds anyhow, holds unless a session gave up
@@ -123,19 +123,23 @@ module _ {R : Type 0} where
     requests = requests_by rules image chapters entries recoveries survivor old new same keeping h.requests;
   }
 
-  -- behind entries that brought the same items
-  pub held_as : {rules : Rules} {image : Image} {chapters : List Chapter} {before after : List Entry} {recoveries : List Recovery} {survivor : Survivor} {session : SessionState R} → items_in rules.bounds after ≡ items_in rules.bounds before
+  -- behind entries that brought more items
+  pub held_more : {rules : Rules} {image : Image} {chapters : List Chapter} {before after : List Entry} (more : List Item) {recoveries : List Recovery} {survivor : Survivor} {session : SessionState R} → items_in rules.bounds after ≡ items_in rules.bounds before ++ more
       → HoldsCheckpoints rules image chapters before recoveries survivor session → HoldsCheckpoints rules image chapters after recoveries survivor session
-  held_as {rules = rules} {image = image} {before = before} {survivor = survivor} same h = record {
+  held_more {rules = rules} {image = image} {before = before} more {survivor = survivor} grown h = record {
     paths = h.paths;
     some = h.some;
-    chained = subst (λ (items : List Item). AreChained rules.limits items survivor.plan image survivor.now h.paths) (sym same) h.chained;
+    chained = subst (λ (items : List Item). AreChained rules.limits items survivor.plan image survivor.now h.paths) (sym grown) (chained_with rules.limits (items_in rules.bounds before) more survivor.plan image survivor.now h.paths h.chained);
     are = h.are;
     as_many = h.as_many;
     saved = h.saved;
-    requests =
-        requests_more [] (same ∙ sym (append-nil (items_in rules.bounds before))) h.requests;
+    requests = requests_more more grown h.requests;
   }
+
+  -- or the same items
+  pub held_as : {rules : Rules} {image : Image} {chapters : List Chapter} {before after : List Entry} {recoveries : List Recovery} {survivor : Survivor} {session : SessionState R} → items_in rules.bounds after ≡ items_in rules.bounds before
+      → HoldsCheckpoints rules image chapters before recoveries survivor session → HoldsCheckpoints rules image chapters after recoveries survivor session
+  held_as {rules = rules} {before = before} same h = held_more [] (same ∙ sym (append-nil (items_in rules.bounds before))) h
 
   -- where the guest waits, its request is handled
   pub waits_handled : {rules : Rules} {image : Image} {began : Since} {seen : Seen} {session : SessionState R} (w : IsWaitingFor rules image began seen session) → IsHandled session

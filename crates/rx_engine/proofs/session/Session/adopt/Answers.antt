@@ -68,7 +68,7 @@ returns-in-Err-clause-adopts g c image began seen lost fails counts =
     let has = subst (λ n. HasToRecover (record { point = c.self.inside.taken; cause = c.args.cause; pc = n }) (failure_of the_rules image f.going.story f.going.saved.paths) c.self.inside.cpu c.self.inside.ring c.self.inside.recorded c.self.inside.choices.items c.self.inside.log c.self.inside.replies) (sym c.pc-pc.ensures)
     (to_recover f budget (subst (λ (s : SessionState _). s.options.max_items ≤ 2 ^ 20) c.self.view_is c.self.invariant.few_items)) in
     let counted : c.args.self.now.steps ≡ c.self.inside.steps = sym (ap (λ (s : SessionState _). s.steps) c.self.view_is) in
-    adopt_breaks f (c.in-Err.ensures.keeping c.self.inside.options.every) c.in-Err.ensures.rest.1
+    adopt_breaks f c.in-Err.ensures.rest.2.saved (c.in-Err.ensures.keeping c.self.inside.options.every) c.in-Err.ensures.rest.1
     (c.in-Err.ensures.recovers (failure_of the_rules image f.going.story f.going.saved.paths) f.going.story.survivor.begun under has) (counts_seen lost began.lost _ _ counts refl counted)
     (c.in-Err.ensures.watched (failure_of the_rules image f.going.story f.going.saved.paths) under has)
 

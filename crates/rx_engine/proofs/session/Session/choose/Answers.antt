@@ -3,7 +3,7 @@ use Rattle.rx_engine.proofs.session.Session.choose.Goals as goal
 
 pub returns-in-Err-clause-turns : goal.returns-in-Err-clause-turns
 returns-in-Err-clause-turns g c image began seen lost takes h counts = (
-  run_breaks h (ap (λ (s : SessionState _). keeping_of s) c.self.view_is) (ap (λ (s : SessionState _). s.recorded) c.self.view_is) (c.in-Err.ensures.items ∙ ap (λ (s : SessionState _). s.choices) c.self.view_is) (ap (λ (s : SessionState _). s.taken) c.self.view_is)
+  run_breaks h (ap (λ (s : SessionState _). keeping_of s) c.self.view_is) (ap (λ (s : SessionState _). s.cpu.slots.saved) c.self.view_is) (ap (λ (s : SessionState _). s.recorded) c.self.view_is) (c.in-Err.ensures.items ∙ ap (λ (s : SessionState _). s.choices) c.self.view_is) (ap (λ (s : SessionState _). s.taken) c.self.view_is)
       (ap (λ (s : SessionState _). s.steps) c.self.view_is) counts,
   λ none. still_takes _ takes none,
 )

@@ -85,8 +85,8 @@ returns-in-Err-Breaks-clause-served g c = record {
         (served_off (λ telling. UnlessNoteFault (Breaks c.in-Err-Breaks.why) (HasLeft the_rules image telling c.turn.new.self (Breaks c.in-Err-Breaks.why))) (told_since (g.K.Link.seen c.args.link.now).told (g.N.Notes.shown c.args.notes.now).told (g.N.Notes.shown c.turn.new.notes).told (g.W.Watch.tables c.args.watch.now) (g.W.Watch.tables c.turn.new.watch) (lost_then c.turns.invariant.lost c.turns.self.cpu.slots.live.steps c.turn.new.self.steps (g.W.Watch.ran c.turn.new.watch + c.turns.steps) (g.W.Watch.ran c.turns.watch + c.turn.new.steps))) {first = g.K.Link.seen c.args.link.now} off.0 off.1 (omega (arith, all))
         (unless_note c.in-Err-Breaks.why _ (λ never.
         left_off
-        (trimmed_unless c.in-Err-Breaks.why (IsTrimmed c.turn.new.self) never (subst (λ (why : Stop). UnlessNoteStop (Err why) (IsTrimmed c.turn.new.self)) c.in-Err-Breaks.field-0-is (c.in-Err-Breaks.ensures.keeps.trimmed c.turns.invariant.trimmed))) (off.0.holds never)
-        (off_requests c.in-Err-Breaks.why (off.0.holds never).requests off.0.handled never))))
+        (trimmed_unless c.in-Err-Breaks.why (IsTrimmed c.turn.new.self) never (subst (λ (why : Stop). UnlessNoteStop (Err why) (IsTrimmed c.turn.new.self)) c.in-Err-Breaks.field-0-is (c.in-Err-Breaks.ensures.keeps.trimmed c.turns.invariant.trimmed))) off.0.holds
+        (off_requests c.in-Err-Breaks.why off.0.holds.requests off.0.handled never))))
 
 pub finish-requires : goal.finish-requires
 finish-requires g c =

@@ -1,7 +1,7 @@
 use Rattle.session_history.specs.declared.ends.SessionBreak.TheVariants as session_break
 use Rattle.session_history.specs.declared.ends.SessionEnd.TheVariants as session_end
 use Rattle.session_history.specs.declared.ends.Stop.TheVariants as stop
-use Rattle.rx_engine.proofs.Terms.{Err, ap, arith, refl, rules, subst, sym, ◌+◌, ◌<◌, ◌∙◌, ◌≡◌, ◌≤◌, Ledger, CpuState, Rules, CanGive, unnoted_passing, chosen_serves, exited_serves, memory_serves, passing_serves, unnoted_chosen, unnoted_serves, asks_now, breaks_now, chooses_later, comes_under, emits_later, exits_now, fails_now, fails_under, further_adopted, further_ok, has_run, later_ok, lost_cut, lost_failed, lost_none, ran_frame, ran_keeping, ran_later, ran_low, run_under, if_ok, waits_under, comes_lost, same_rules, still_takes, rules_of, MayServe, rules_by, SessionState, Since}
+use Rattle.rx_engine.proofs.Terms.{Err, ap, arith, refl, rules, subst, sym, ◌+◌, ◌<◌, ◌∙◌, ◌≡◌, ◌≤◌, Ledger, CpuState, Rules, CanGive, unnoted_passing, chosen_serves, exited_serves, memory_serves, passing_serves, unnoted_chosen, unnoted_serves, asks_now, breaks_now, chooses_later, comes_under, emits_later, exits_now, fails_now, fails_under, further_adopted, further_ok, has_run, later_ok, lost_cut, lost_failed, lost_none, ran_frame, ran_keeping, ran_later, ran_low, ran_saved, run_under, if_ok, waits_under, comes_lost, same_rules, still_takes, rules_of, MayServe, rules_by, SessionState, Since}
 use Rattle.rx_engine.proofs.session.Session.turn.Goals as goal
 
 pub ask-requires : goal.ask-requires
@@ -89,7 +89,7 @@ returns-in-Err-clause-turns g c image began lost b counts =
     let view = ap (λ (s : SessionState _). s.cpu.slots.live.steps) c.self.view_is in
     let counted = c.run_to_event.ensures.counted in
     let run_counts : c.run_to_event.new.steps + c.args.self.now.cpu.slots.live.steps ≡ c.args.steps.now + c.run_to_event.new.self.slots.live.steps = omega (arith, view, counted) in (
-      breaks_now g.R.AccessRule.rule c.run_to_event.result c.env_now-env.ensures c.self.view_is (ran_keeping c.self.view_is c.run_to_event.ensures.kept) b c.run_to_event.ensures.event
+      breaks_now g.R.AccessRule.rule c.run_to_event.result c.env_now-env.ensures c.self.view_is (ran_keeping c.self.view_is c.run_to_event.ensures.kept) (ran_saved c.self.view_is c.run_to_event.ensures.kept) b c.run_to_event.ensures.event
           (lost_cut (g.W.Watch.ran c.args.watch.now) lost began.lost c.self.inside.steps c.args.steps.now c.run_to_event.new.steps c.args.self.now.cpu.slots.live.steps c.run_to_event.new.self.slots.live.steps counts run_counts),
       λ none. still_takes _ c.requires.may.takes none,
     )
