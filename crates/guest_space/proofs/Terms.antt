@@ -11,6 +11,7 @@ pub use Rattle.cow_pages.proofs.Runs.{reaches-here, reaches-other, refill}
 pub use Rattle.guest_space.specs.Terms.{All, AllPairs, Area, Image, IsLawful, IsMade, IsPlaced, IsTableOf, NumberAfter, PAGE, Pages, STACK, Segment, Space, StandsAt, Table, Writes, base, blank_area, byte_at, bytes_at, copied_pages, covers, each_covered, has, heap_end, heap_start, is_shared, little_bytes, little_number, memory_of, put_at, put_byte, put_bytes, reaches, saved_numbers, segment_area, share_byte, slot_at, stack_top, used_of, word_in}
 unfoldable pub use Rattle.guest_space.specs.Terms.{permitted, zeros}
 pub use Rattle.guest_space.specs.declared.stretch.Stretch.{Stretch}
+pub use Rattle.guest_space.specs.declared.window.RegisterWindows.{RegisterWindows}
 pub use Rattle.guest_space.specs.declared.window.Window.{Window}
 pub use Rattle.guest_space.specs.declared.window.Windows.{Windows}
 pub use Rattle.guest_space.specs.Space.{AreApart, GuestPages, IsLawfulSpace, LiesIn, Span, area_of, blank_span, flat, guest_pages, meet, segment_span, spans_of}
@@ -20,4 +21,4 @@ pub use Rattle.guest_space.specs.Ranges.{AreHeld, IsCode, has_address, has_range
 pub use Rattle.guest_space.specs.Code.{HasCode, KeepsCode, code_bytes, word_count}
 pub use Rattle.guest_space.specs.Filling.{FilesIn, Fills, IsFilled, filled_bytes}
 pub use Rattle.guest_space.specs.Stretches.{IsIn, IsOpen}
-pub use Rattle.guest_space.specs.Windows.{AreWindows, IsLoadWindow, IsOfPage, IsStoreWindow, IsWindow}
+pub use Rattle.guest_space.specs.Windows.{AreWindows, EachIs, IsLoadWindow, IsOfPage, IsStoreWindow, IsWindow, window_of}

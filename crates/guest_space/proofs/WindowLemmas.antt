@@ -1,5 +1,5 @@
 -- Windows of a memory.
-use Rattle.guest_space.proofs.Terms.{Bool, List, MatchBool, ap, arith, cond, false, get_or, inl, inr, length, refl, subst, sym, true, ℕ, ◌%◌, ◌&&◌, ◌*◌, ◌+◌, ◌-◌, ◌/◌, ◌<◌, ◌^◌, ◌∙◌, ◌≡◌, ◌≤◌, cases_eq, cases_lt, get_or_past, All-get_or, All-weaker, All, slice_index, PAGE, shared_after, reaches-here, reaches-other, Pages, has, saved_numbers, NumberAfter, StandsAt, Writes, is_shared, reaches, little_bytes, Table, permitted, Stretch, Window, Windows, GuestPages, IsLawfulSpace, Span, flat, guest_pages, Puts, AreHeld, IsOpen, AreWindows, IsLoadWindow, IsOfPage, IsStoreWindow, IsWindow}
+use Rattle.guest_space.proofs.Terms.{Bool, List, MatchBool, ap, arith, cond, false, get_or, if◌then◌else◌, inl, inr, length, refl, replicate, subst, sym, true, ℕ, ◌%◌, ◌&&◌, ◌*◌, ◌+◌, ◌-◌, ◌/◌, ◌<◌, ◌==◌, ◌^◌, ◌∙◌, ◌≡◌, ◌≤◌, cases_eq, cases_lt, get_or-replicate, get_or_past, length-replicate, All-get_or, All-weaker, All, slice_index, PAGE, shared_after, reaches-here, reaches-other, Pages, has, saved_numbers, NumberAfter, StandsAt, Writes, is_shared, reaches, little_bytes, Table, permitted, Stretch, RegisterWindows, Window, Windows, GuestPages, IsLawfulSpace, Span, flat, guest_pages, Puts, AreHeld, IsOpen, AreWindows, EachIs, IsLoadWindow, IsOfPage, IsStoreWindow, IsWindow, window_of}
 use Rattle.guest_space.proofs.SpaceLemmas.{is_inside, length-little_bytes}
 
 -- fewer bytes
@@ -112,31 +112,34 @@ page_within : (near pages : ℕ) → near < PAGE * pages → near / PAGE < pages
 page_within near pages inside = omega arith
 
 module _ (old new : GuestPages) (at : ℕ) (bytes : List ℕ) where
-  pub store_windows_stay : (windows : List Window) → Puts old at bytes new → All (IsStoreWindow old) windows → All (IsStoreWindow new) windows
-  store_windows_stay windows put all = All-weaker (IsStoreWindow old) (IsStoreWindow new) one windows all
-    where
-      one : (window : Window) → IsStoreWindow old window → IsStoreWindow new window
-      one window so =
-          let wrote = put.pages in
-          let less : (away : ℕ) → away < window.count → (window.start + away - old.base) / PAGE < old.store.pages = λ away within. page_within (window.start + away - old.base) old.store.pages (so.window_is.stands away within).inside in
-          let moved : IsWindow 2 old.base old.spans new.store window = window_stays old.store new.store (at - old.base) bytes 2 old.base old.spans window wrote.pages
-          (λ away within. number_stays old.store new.store (at - old.base) bytes ((window.start + away - old.base) / PAGE) wrote (less away within) (so.own away within)) so.window_is in
-          record {
-            window_is = subst (λ n. IsWindow 2 n new.spans new.store window) (sym put.base_stays) (subst (λ xs. IsWindow 2 old.base xs new.store window) (sym put.spans_stay) moved);
-            own = λ away within.
-                subst (λ n. is_shared new.store ((window.start + away - n) / PAGE) ≡ false) (sym put.base_stays)
-                (own_stays old.store new.store (at - old.base) bytes ((window.start + away - old.base) / PAGE) wrote (less away within) (so.own away within));
-          }
+  pub store_window_stays : Puts old at bytes new → (window : Window) → IsStoreWindow old window → IsStoreWindow new window
+  store_window_stays put window so =
+      let wrote = put.pages in
+      let less : (away : ℕ) → away < window.count → (window.start + away - old.base) / PAGE < old.store.pages = λ away within. page_within (window.start + away - old.base) old.store.pages (so.window_is.stands away within).inside in
+      let moved : IsWindow 2 old.base old.spans new.store window = window_stays old.store new.store (at - old.base) bytes 2 old.base old.spans window wrote.pages
+      (λ away within. number_stays old.store new.store (at - old.base) bytes ((window.start + away - old.base) / PAGE) wrote (less away within) (so.own away within)) so.window_is in
+      record {
+        window_is = subst (λ n. IsWindow 2 n new.spans new.store window) (sym put.base_stays) (subst (λ xs. IsWindow 2 old.base xs new.store window) (sym put.spans_stay) moved);
+        own = λ away within.
+            subst (λ n. is_shared new.store ((window.start + away - n) / PAGE) ≡ false) (sym put.base_stays)
+            (own_stays old.store new.store (at - old.base) bytes ((window.start + away - old.base) / PAGE) wrote (less away within) (so.own away within));
+      }
 
-  pub load_windows_stay : (windows : List Window) → Puts old at bytes new → ((page : ℕ) → page < old.store.pages → slice_index new.store.live.numbers page ≡ slice_index old.store.live.numbers page) → All (IsLoadWindow old) windows → All (IsLoadWindow new) windows
-  load_windows_stay windows put same all = All-weaker (IsLoadWindow old) (IsLoadWindow new) one windows all
-    where
-      one : (window : Window) → IsLoadWindow old window → IsLoadWindow new window
-      one window so =
-          let wrote = put.pages in
-          let moved : IsWindow 4 old.base old.spans new.store window = window_stays old.store new.store (at - old.base) bytes 4 old.base old.spans window wrote.pages
-          (λ away within. same ((window.start + away - old.base) / PAGE) (page_within (window.start + away - old.base) old.store.pages (so.stands away within).inside)) so in
-          subst (λ n. IsWindow 4 n new.spans new.store window) (sym put.base_stays) (subst (λ xs. IsWindow 4 old.base xs new.store window) (sym put.spans_stay) moved)
+  pub load_window_stays : Puts old at bytes new → ((page : ℕ) → page < old.store.pages → slice_index new.store.live.numbers page ≡ slice_index old.store.live.numbers page) → (window : Window) → IsLoadWindow old window → IsLoadWindow new window
+  load_window_stays put same window so =
+      let wrote = put.pages in
+      let moved : IsWindow 4 old.base old.spans new.store window = window_stays old.store new.store (at - old.base) bytes 4 old.base old.spans window wrote.pages
+      (λ away within. same ((window.start + away - old.base) / PAGE) (page_within (window.start + away - old.base) old.store.pages (so.stands away within).inside)) so in
+      subst (λ n. IsWindow 4 n new.spans new.store window) (sym put.base_stays) (subst (λ xs. IsWindow 4 old.base xs new.store window) (sym put.spans_stay) moved)
+
+  -- the windows after a write that moved no page
+  pub windows_stay : (windows : Windows) → Puts old at bytes new → ((page : ℕ) → page < old.store.pages → slice_index new.store.live.numbers page ≡ slice_index old.store.live.numbers page) → AreWindows old windows → AreWindows new windows
+  windows_stay windows put same so = record {
+    loads = λ register. load_window_stays put same (window_of windows.loads register) (so.loads register);
+    stores = λ register. store_window_stays put (window_of windows.stores register) (so.stores register);
+    recent_loads = All-weaker (IsLoadWindow old) (IsLoadWindow new) (load_window_stays put same) windows.recent_loads so.recent_loads;
+    recent_stores = All-weaker (IsStoreWindow old) (IsStoreWindow new) (store_window_stays put) windows.recent_stores so.recent_stores;
+  }
 
 -- an address that a window has
 pub held_here : (flag base : ℕ) (spans : List Span) (store : Pages) (window : Window) (at : ℕ) → IsWindow flag base spans store window → window.start ≤ at → at < window.start + window.count → AreHeld flag spans at 4
@@ -154,9 +157,9 @@ own_here space window at so from to =
     let e : window.start + (at - window.start) ≡ at = omega arith in
     subst (λ n. is_shared space.store ((n - space.base) / PAGE) ≡ false) e (so.own (at - window.start) (omega arith))
 
--- the window of a register, or that of no address
-window_of : (P : Window → Type 0) (windows : List Window) (i : ℕ) → P record { start = 0; count = 0; place = 0 } → All P windows → P (get_or windows i record { start = 0; count = 0; place = 0 })
-window_of P windows i none all = elim (cases_lt i (length windows)) [
+-- the window at a place of some, or that of no address
+window_at : (P : Window → Type 0) (windows : List Window) (i : ℕ) → P record { start = 0; count = 0; place = 0 } → All P windows → P (get_or windows i record { start = 0; count = 0; place = 0 })
+window_at P windows i none all = elim (cases_lt i (length windows)) [
   | inl less ↦ All-get_or P windows i record { start = 0; count = 0; place = 0 } less all
   | inr past ↦ subst P (sym (get_or_past windows i record { start = 0; count = 0; place = 0 } past)) none
 ]
@@ -165,19 +168,37 @@ none_is : (flag base : ℕ) (spans : List Span) (store : Pages) → IsWindow fla
 none_is flag base spans store = record { below = omega arith; small = omega arith; held = λ away within. absurd (omega (arith, within)); stands = λ away within. absurd (omega (arith, within)) }
 
 pub load_window_is : (space : GuestPages) (windows : List Window) (i : ℕ) → All (IsLoadWindow space) windows → IsLoadWindow space (get_or windows i record { start = 0; count = 0; place = 0 })
-load_window_is space windows i all = window_of (IsLoadWindow space) windows i (none_is 4 space.base space.spans space.store) all
+load_window_is space windows i all = window_at (IsLoadWindow space) windows i (none_is 4 space.base space.spans space.store) all
+
+no_store_window : (space : GuestPages) → IsStoreWindow space record { start = 0; count = 0; place = 0 }
+no_store_window space = record { window_is = none_is 2 space.base space.spans space.store; own = λ away within. absurd (omega (arith, within)) }
 
 pub store_window : (space : GuestPages) (windows : List Window) (i : ℕ) → All (IsStoreWindow space) windows → IsStoreWindow space (get_or windows i record { start = 0; count = 0; place = 0 })
-store_window space windows i all = window_of (IsStoreWindow space) windows i record { window_is = none_is 2 space.base space.spans space.store; own = λ away within. absurd (omega (arith, within)) } all
+store_window space windows i all = window_at (IsStoreWindow space) windows i (no_store_window space) all
 
--- the windows after a store by one of them
-pub windows_stay : (old new : GuestPages) (at : ℕ) (bytes : List ℕ) (windows : Windows) → Puts old at bytes new → new.store.live.numbers ≡ old.store.live.numbers → AreWindows old windows → AreWindows new windows
-windows_stay old new at bytes windows put same so = record {
-  loads = load_windows_stay old new at bytes windows.loads put (λ page less. ap (λ xs. slice_index xs page) same) so.loads;
-  stores = store_windows_stay old new at bytes windows.stores put so.stores;
-  recent_loads = load_windows_stay old new at bytes windows.recent_loads put (λ page less. ap (λ xs. slice_index xs page) same) so.recent_loads;
-  recent_stores = store_windows_stay old new at bytes windows.recent_stores put so.recent_stores;
-}
+same_window : (one other : Window) → one.start ≡ other.start → one.count ≡ other.count → one.place ≡ other.place → one ≡ other
+same_window one other starts counts places =
+    ap (λ n. record { start = n; count = one.count; place = one.place }) starts ∙ ap (λ n. record { start = other.start; count = n; place = one.place }) counts ∙ ap (λ n. record { start = other.start; count = other.count; place = n }) places
+
+zero_at : (n i : ℕ) → slice_index (replicate n 0) i ≡ 0
+zero_at n i = elim (cases_lt i n) [
+  | inl less ↦ get_or-replicate n i 0 0 less
+  | inr past ↦ get_or_past (replicate n 0) i 0 (subst (λ k. k ≤ i) (sym (length-replicate n 0)) past)
+]
+
+-- no register has a window
+module _ (windows : RegisterWindows) where
+  none_of : windows.starts ≡ replicate 32 0 → windows.counts ≡ replicate 32 0 → windows.places ≡ replicate 32 0 → (register : ℕ) → record { start = 0; count = 0; place = 0 } ≡ window_of windows register
+  none_of starts counts places register = sym (same_window (window_of windows register) record { start = 0; count = 0; place = 0 } (zero_of windows.starts starts) (zero_of windows.counts counts) (zero_of windows.places places))
+    where
+      zero_of : (parts : List ℕ) → parts ≡ replicate 32 0 → slice_index parts register ≡ 0
+      zero_of parts is = ap (λ xs. slice_index xs register) is ∙ zero_at 32 register
+
+  pub no_loads : windows.starts ≡ replicate 32 0 → windows.counts ≡ replicate 32 0 → windows.places ≡ replicate 32 0 → (space : GuestPages) → EachIs (IsLoadWindow space) windows
+  no_loads starts counts places space register = subst (IsLoadWindow space) (none_of starts counts places register) (none_is 4 space.base space.spans space.store)
+
+  pub no_stores : windows.starts ≡ replicate 32 0 → windows.counts ≡ replicate 32 0 → windows.places ≡ replicate 32 0 → (space : GuestPages) → EachIs (IsStoreWindow space) windows
+  no_stores starts counts places space register = subst (IsStoreWindow space) (none_of starts counts places register) (no_store_window space)
 
 module _ (old new : GuestPages) (at size value : ℕ) where
   -- the window that is made after a store
@@ -197,12 +218,7 @@ module _ (old new : GuestPages) (at size value : ℕ) where
   pub windows_kept : (windows : Windows) → Puts old at (little_bytes size value) new → (at - old.base) % PAGE + size ≤ PAGE → slice_index new.store.live.numbers ((at - old.base) / PAGE) ≡ slice_index old.store.live.numbers ((at - old.base) / PAGE) → AreWindows old windows → AreWindows new windows
   windows_kept windows put within same so =
       let many = length-little_bytes size value in
-      record {
-        loads = load_windows_stay old new at (little_bytes size value) windows.loads put (numbers_stay old.store new.store (at - old.base) (little_bytes size value) put.pages (omega (arith, many, within)) same) so.loads;
-        stores = store_windows_stay old new at (little_bytes size value) windows.stores put so.stores;
-        recent_loads = load_windows_stay old new at (little_bytes size value) windows.recent_loads put (numbers_stay old.store new.store (at - old.base) (little_bytes size value) put.pages (omega (arith, many, within)) same) so.recent_loads;
-        recent_stores = store_windows_stay old new at (little_bytes size value) windows.recent_stores put so.recent_stores;
-      }
+      windows_stay old new at (little_bytes size value) windows put (numbers_stay old.store new.store (at - old.base) (little_bytes size value) put.pages (omega (arith, many, within)) same) so
 
 -- what is known of two spaces that are seen as their parts
 module _ (old new : GuestPages) (base other : ℕ) (spans more : List Span) (store after : Pages) (code table : Table) where
@@ -216,5 +232,13 @@ module _ (old new : GuestPages) (base other : ℕ) (spans more : List Span) (sto
       (subst (λ (n : GuestPages). slice_index n.store.live.numbers ((at - base) / PAGE) ≡ slice_index store.live.numbers ((at - base) / PAGE)) is (omega (arith, first, last, same)))
 
 pub windows_after : (old new : GuestPages) (at size value : ℕ) (windows : Windows) (b : Bool) → MatchBool b ((permitted 2 (flat old) at size ≡ true) × Puts old at (little_bytes size value) new) (new ≡ old) → new.store.live.numbers ≡ old.store.live.numbers → AreWindows old windows → AreWindows new windows
-windows_after old new at size value windows true stored same so = windows_stay old new at (little_bytes size value) windows stored.1 same so
+windows_after old new at size value windows true stored same so = windows_stay old new at (little_bytes size value) windows stored.1 (λ page less. ap (λ xs. slice_index xs page) same) so
 windows_after old new at size value windows false stored same so = subst (λ (s : GuestPages). AreWindows s windows) (sym stored) so
+
+-- a window that becomes that of a register
+pub each_set : (Is : Window → Type 0) (old new : RegisterWindows) (register : ℕ) (window : Window) → ((other : ℕ) → window_of new other ≡ (if other == register then window else window_of old other)) → Is window → EachIs Is old → EachIs Is new
+each_set Is old new register window set one all other = subst Is (sym (set other)) (either (other == register))
+  where
+    either : (b : Bool) → Is (if b then window else window_of old other)
+    either true = one
+    either false = all other

@@ -1,7 +1,8 @@
 -- Addresses whose bytes are found without the tables of pages.
-use Rattle.std.specs.Prelude.{◌≡◌, ℕ, ◌+◌, ◌-◌, ◌/◌, ◌^◌, ◌<◌, ◌≤◌, false, List, slice_index_or}
+use Rattle.std.specs.Prelude.{◌≡◌, ℕ, ◌+◌, ◌-◌, ◌/◌, ◌^◌, ◌<◌, ◌≤◌, false, List, slice_index}
 use Rattle.guest_space.specs.Terms.{All, PAGE, Pages, StandsAt, is_shared}
 use Rattle.guest_space.specs.declared.window.Window.{Window}
+use Rattle.guest_space.specs.declared.window.RegisterWindows.{RegisterWindows}
 use Rattle.guest_space.specs.declared.window.Windows.{Windows}
 use Rattle.guest_space.specs.Space.{GuestPages, Span}
 use Rattle.guest_space.specs.Ranges.{AreHeld}
@@ -30,13 +31,21 @@ IsOfPage space at window = (away : ℕ) → away < window.count → (window.star
 abbrev pub HasAddress : Window → ℕ → Type 0
 HasAddress window at = (window.start ≤ at) × (at < window.start + window.count)
 
+-- the window of a register; past the last one that of no address
+abbrev pub window_of : RegisterWindows → ℕ → Window
+window_of windows register = record { start = slice_index windows.starts register; count = slice_index windows.counts register; place = slice_index windows.places register }
+
+-- the window of each register is so
+abbrev pub EachIs : (Window → Type 0) → RegisterWindows → Type 0
+EachIs Is windows = (register : ℕ) → Is (window_of windows register)
+
 -- the window of a register for loads
 abbrev pub load_window : Windows → ℕ → Window
-load_window windows register = slice_index_or windows.loads register record { start = 0; count = 0; place = 0 }
+load_window windows register = window_of windows.loads register
 
 -- the windows of loads and of stores, for each register as a base and those that were found of late
 pub record AreWindows (space : GuestPages) (windows : Windows) : Type 0 where
-  pub loads : All (IsLoadWindow space) windows.loads
-  pub stores : All (IsStoreWindow space) windows.stores
+  pub loads : EachIs (IsLoadWindow space) windows.loads
+  pub stores : EachIs (IsStoreWindow space) windows.stores
   pub recent_loads : All (IsLoadWindow space) windows.recent_loads
   pub recent_stores : All (IsStoreWindow space) windows.recent_stores

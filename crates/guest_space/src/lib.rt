@@ -22,4 +22,4 @@ pub use access_rule::{AccessRule, AllMapped};
 pub use bad_access::BadAccess;
 pub use space::GuestSpace;
 pub use stretch::{Stretch, Stretches};
-pub use window::{Window, Windows};
+pub use window::{RegisterWindows, Window, Windows};

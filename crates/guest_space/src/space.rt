@@ -16,7 +16,7 @@ use crate::filling::{fill, spans_of};
 use crate::span::{
     EXECUTE, READ, Span, WRITE, are_held, each_has, one_has, stretch_at, stretch_of,
 };
-use crate::{BadAccess, Stretch, Window, Windows};
+use crate::{BadAccess, RegisterWindows, Stretch, Window, Windows};
 use code_table::CodeTable;
 use cow_pages::{MAX_FRAMES_PER_PAGE, MAX_SLOTS, PAGE, PageStore};
 use elf_image::Image;
@@ -222,7 +222,7 @@ impl GuestSpace {
         if !self.finds(windows, register, at) {
             return None;
         }
-        let window = windows.loads[register as usize];
+        let window = windows.loads.of(register);
         self.number_from(at, size, (window.place + (at - window.start)) as usize)
     }
 
@@ -243,7 +243,7 @@ impl GuestSpace {
         ensures holds { AreWindows self.new windows.new }
         ensures stored { MatchBool result ((permitted 2 (flat self.old) at size ≡ true) × Puts self.old at (little_bytes size value) self.new) (self.new ≡ self.old) }
     {
-        let window = windows.stores[register as usize];
+        let window = windows.stores.of(register);
         if !window.has(at) {
             return self.store_elsewhere(windows, register, at, size, value);
         }
@@ -551,7 +551,7 @@ impl GuestSpace {
         ensures holds { AreWindows self.now windows.new }
         ensures has { OnTrue result (HasAddress (load_window windows.new register) at) }
     {
-        if windows.loads[register as usize].has(at) {
+        if windows.loads.of(register).has(at) {
             return true;
         }
         self.finds_elsewhere(windows, register, at)
@@ -570,7 +570,7 @@ impl GuestSpace {
         if !recent.has(at) {
             return self.finds_anew(windows, register, at);
         }
-        windows.loads[register as usize] = recent;
+        windows.loads.set(register, recent);
         true
     }
 
@@ -587,7 +587,7 @@ impl GuestSpace {
             return false;
         };
         let window = self.window_in(READ, stretch, at);
-        windows.loads[register as usize] = window;
+        windows.loads.set(register, window);
         windows.recent_loads[(at / PAGE % 8) as usize] = window;
         window.has(at)
     }
@@ -633,7 +633,7 @@ impl GuestSpace {
         if !recent.has(at) {
             return self.store_anew(windows, register, at, size, value);
         }
-        windows.stores[register as usize] = recent;
+        windows.stores.set(register, recent);
         self.put_from(
             at,
             size,
@@ -674,11 +674,11 @@ impl GuestSpace {
             return false;
         }
         if self.store.place(near) != before {
-            windows.loads = [Window::none(); 32];
+            windows.loads = RegisterWindows::none();
             windows.recent_loads = [Window::none(); 8];
         }
         let window = self.window_in(WRITE, stretch, at);
-        windows.stores[register as usize] = window;
+        windows.stores.set(register, window);
         windows.recent_stores[(at / PAGE % 8) as usize] = window;
         true
     }

@@ -1,5 +1,5 @@
-use Rattle.guest_space.proofs.WindowLemmas.{load_window_is}
+use Rattle.guest_space.proofs.Terms.{subst, sym, IsLoadWindow}
 use Rattle.guest_space.proofs.space.GuestSpace.finds.Goals as goal
 
 pub has-requires : goal.has-requires
-has-requires c = (load_window_is c.args.self.now c.args.windows.now.loads c.args.register c.requires.holds.loads).below
+has-requires c = (subst (IsLoadWindow c.args.self.now) (sym c.of.ensures) (c.requires.holds.loads c.args.register)).below

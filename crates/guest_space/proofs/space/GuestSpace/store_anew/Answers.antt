@@ -1,7 +1,7 @@
-use Rattle.guest_space.proofs.Terms.{arith, subst, sym, ◌%◌, ◌+◌, ◌-◌, ◌/◌, ◌≤◌, All-replicate, All-set, PAGE, little_bytes, GuestPages, IsLawfulSpace, AreWindows, IsLoadWindow, IsStoreWindow}
+use Rattle.guest_space.proofs.Terms.{arith, subst, sym, ◌%◌, ◌+◌, ◌-◌, ◌/◌, ◌≤◌, All-replicate, All-set, All-weaker, PAGE, little_bytes, GuestPages, IsLawfulSpace, AreWindows, IsLoadWindow, IsStoreWindow}
 use Rattle.guest_space.proofs.StretchLemmas.{parts_open}
 use Rattle.guest_space.proofs.SpaceLemmas.{parts_place}
-use Rattle.guest_space.proofs.WindowLemmas.{parts_number, parts_stay, store_windows_stay, window_after, windows_kept}
+use Rattle.guest_space.proofs.WindowLemmas.{each_set, parts_number, parts_stay, store_window_stays, window_after, windows_kept}
 use Rattle.guest_space.proofs.space.GuestSpace.store_anew.Goals as goal
 use Rattle.guest_space.proofs.space.GuestSpace.store_anew.Goals.{then-place-before, else-place-before}
 
@@ -27,10 +27,10 @@ returns-clause-holds c =
     let within : (c.args.at - c.args.self.now.base) % PAGE + c.args.size ≤ PAGE = subst (λ (s : GuestPages). (c.args.at - s.base) % PAGE + c.args.size ≤ PAGE) c.self.view_is fits in
     let after : AreWindows c.put_number.new.self c.if-place-before.windows = elim c.if-place-before.branch [
       | then-place-before w ↦ subst (AreWindows c.put_number.new.self) (sym w.windows-is) record {
-        loads = All-replicate (IsLoadWindow c.put_number.new.self) 32 w.none-windows.result (w.none-windows.ensures.any 4 c.put_number.new.self.base c.put_number.new.self.spans c.put_number.new.self.store);
-        stores = store_windows_stay c.args.self.now c.put_number.new.self c.args.at (little_bytes c.args.size c.args.value) c.args.windows.now.stores put c.requires.holds.stores;
+        loads = w.none-windows.ensures.loads c.put_number.new.self;
+        stores = λ register. store_window_stays c.args.self.now c.put_number.new.self c.args.at (little_bytes c.args.size c.args.value) put _ (c.requires.holds.stores register);
         recent_loads = All-replicate (IsLoadWindow c.put_number.new.self) 8 w.none-windows-then-place-before.result (w.none-windows-then-place-before.ensures.any 4 c.put_number.new.self.base c.put_number.new.self.spans c.put_number.new.self.store);
-        recent_stores = store_windows_stay c.args.self.now c.put_number.new.self c.args.at (little_bytes c.args.size c.args.value) c.args.windows.now.recent_stores put c.requires.holds.recent_stores;
+        recent_stores = All-weaker (IsStoreWindow c.args.self.now) (IsStoreWindow c.put_number.new.self) (store_window_stays c.args.self.now c.put_number.new.self c.args.at (little_bytes c.args.size c.args.value) put) c.args.windows.now.recent_stores c.requires.holds.recent_stores;
       }
       | else-place-before w ↦ subst (AreWindows c.put_number.new.self) (sym w.windows-is)
           (windows_kept c.args.self.now c.put_number.new.self c.args.at c.args.size c.args.value c.args.windows.now put within
@@ -41,7 +41,7 @@ returns-clause-holds c =
     window_after c.args.self.now c.put_number.new.self c.args.at c.args.size c.args.value c.window_in-window.result so put ((parts_open 2 c.self.inside.base c.self.inside.spans.items _ c.self.inside.store c.self.inside.code.value c.args.self.now _ c.self.view_is c.deref.ensures.value c.in-Some.ensures.open).held c.args.at c.in-Some.ensures.has.0 c.in-Some.ensures.has.1) (omega arith) within c.window_in-window.ensures.window c.window_in-window.ensures.page in
     record {
       loads = after.loads;
-      stores = All-set (IsStoreWindow c.put_number.new.self) c.if-place-before.windows.stores c.args.register c.window_in-window.result is after.stores;
+      stores = each_set (IsStoreWindow c.put_number.new.self) c.if-place-before.windows.stores _ c.args.register c.window_in-window.result c.set.ensures is after.stores;
       recent_loads = after.recent_loads;
       recent_stores = All-set (IsStoreWindow c.put_number.new.self) c.if-place-before.windows.recent_stores (c.args.at / PAGE % 8) c.window_in-window.result is after.recent_stores;
     }

@@ -1,5 +1,5 @@
-use Rattle.guest_space.proofs.Terms.{◌%◌, ◌/◌, All-set, PAGE, IsStoreWindow}
-use Rattle.guest_space.proofs.WindowLemmas.{held_here, stands_here, own_here, store_window, windows_after}
+use Rattle.guest_space.proofs.Terms.{◌%◌, ◌/◌, PAGE, IsStoreWindow}
+use Rattle.guest_space.proofs.WindowLemmas.{each_set, held_here, stands_here, own_here, store_window, windows_after}
 use Rattle.guest_space.proofs.space.GuestSpace.store_elsewhere.Goals as goal
 
 pub has-requires : goal.has-requires
@@ -26,7 +26,7 @@ returns-clause-holds c =
     windows_after c.args.self.now c.put_from.new.self c.args.at c.args.size c.args.value _ c.put_from.result c.put_from.ensures.stored c.put_from.ensures.numbers
     record {
       loads = c.requires.holds.loads;
-      stores = All-set (IsStoreWindow c.args.self.now) c.args.windows.now.stores c.args.register _ so c.requires.holds.stores;
+      stores = each_set (IsStoreWindow c.args.self.now) c.args.windows.now.stores _ c.args.register _ c.set.ensures so c.requires.holds.stores;
       recent_loads = c.requires.holds.recent_loads;
       recent_stores = c.requires.holds.recent_stores;
     }

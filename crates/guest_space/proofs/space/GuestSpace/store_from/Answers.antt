@@ -1,22 +1,23 @@
-use Rattle.guest_space.proofs.WindowLemmas.{held_here, stands_here, own_here, store_window, windows_after}
+use Rattle.guest_space.proofs.Terms.{subst, sym, IsStoreWindow}
+use Rattle.guest_space.proofs.WindowLemmas.{held_here, stands_here, own_here, windows_after}
 use Rattle.guest_space.proofs.space.GuestSpace.store_from.Goals as goal
 
 pub has-requires : goal.has-requires
-has-requires c = (store_window c.args.self.now c.args.windows.now.stores c.args.register c.requires.holds.stores).window_is.below
+has-requires c = (subst (IsStoreWindow c.args.self.now) (sym c.of-window.ensures) (c.requires.holds.stores c.args.register)).window_is.below
 
 pub put_from-requires-clause-held : goal.put_from-requires-clause-held
 put_from-requires-clause-held c =
-    let so = store_window c.args.self.now c.args.windows.now.stores c.args.register c.requires.holds.stores in
+    let so = subst (IsStoreWindow c.args.self.now) (sym c.of-window.ensures) (c.requires.holds.stores c.args.register) in
     held_here 2 c.args.self.now.base c.args.self.now.spans c.args.self.now.store _ c.args.at so.window_is c.if-not-has.ensures.0 c.if-not-has.ensures.1
 
 pub put_from-requires-clause-stands : goal.put_from-requires-clause-stands
 put_from-requires-clause-stands c =
-    let so = store_window c.args.self.now c.args.windows.now.stores c.args.register c.requires.holds.stores in
+    let so = subst (IsStoreWindow c.args.self.now) (sym c.of-window.ensures) (c.requires.holds.stores c.args.register) in
     stands_here 2 c.args.self.now.base c.args.self.now.spans c.args.self.now.store _ c.args.at so.window_is c.if-not-has.ensures.0 c.if-not-has.ensures.1
 
 pub put_from-requires-clause-own : goal.put_from-requires-clause-own
 put_from-requires-clause-own c =
-    let so = store_window c.args.self.now c.args.windows.now.stores c.args.register c.requires.holds.stores in
+    let so = subst (IsStoreWindow c.args.self.now) (sym c.of-window.ensures) (c.requires.holds.stores c.args.register) in
     own_here c.args.self.now _ c.args.at so c.if-not-has.ensures.0 c.if-not-has.ensures.1
 
 pub returns-clause-holds : goal.returns-clause-holds

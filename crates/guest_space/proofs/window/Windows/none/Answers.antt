@@ -3,8 +3,8 @@ use Rattle.guest_space.proofs.window.Windows.none.Goals as goal
 
 pub returns : goal.returns
 returns c = λ space. record {
-  loads = All-replicate (IsLoadWindow space) 32 c.none.result (c.none.ensures.any 4 space.base space.spans space.store);
-  stores = All-replicate (IsStoreWindow space) 32 c.none-2.result (c.none-2.ensures.stores space);
+  loads = c.none.ensures.loads space;
+  stores = c.none-2.ensures.stores space;
   recent_loads = All-replicate (IsLoadWindow space) 8 c.none-3.result (c.none-3.ensures.any 4 space.base space.spans space.store);
   recent_stores = All-replicate (IsStoreWindow space) 8 c.none-4.result (c.none-4.ensures.stores space);
 }
