@@ -63,3 +63,9 @@ MetLasts (Ok (Some (met.Exits code))) old old_space new new_space = new.ended �
 MetLasts (Ok (Some (met.Allocates ask))) old old_space new new_space = (new ≡ old) × (new_space ≡ old_space)
 MetLasts (Ok (Some (met.Frees at))) old old_space new new_space = (new ≡ old) × (new_space ≡ old_space) × (at ≡ slice_index new.regs.x 10)
 MetLasts _ old old_space new new_space = new.ended ≡ old.ended
+
+-- where an item is asked for, and behind a send, the memory is as it was
+abbrev pub MetStays : Result (Option Met) AllocError → GuestPages → GuestPages → Type 0
+MetStays (Ok (Some met.Asks)) old new = new ≡ old
+MetStays (Ok (Some (met.Emits conn bytes))) old new = new ≡ old
+MetStays _ old new = Unit {0}

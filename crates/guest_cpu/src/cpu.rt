@@ -23,7 +23,7 @@ use crate::turning::advance;
 use crate::{Event, Marks, Question};
 use alloc_env::Env;
 use block_book::{Ask, Book, Choice};
-use guest_space::{AccessRule, AllMapped, GuestSpace};
+use guest_space::{AccessRule, AllMapped, GuestSpace, Windows};
 use page_line::SlotLine;
 use run_history::Regs;
 use rx_io::{Item, Steps};
@@ -39,16 +39,19 @@ pub struct Cpu<R: AccessRule> {
     pub(crate) space: GuestSpace,
     pub(crate) saved: Vec<Core>,
     pub(crate) line: SlotLine,
+    /// Where the memory's bytes were found of late.
+    pub(crate) windows: Windows,
 }
 
 impl<R: AccessRule> Model for Cpu<R> {
+    ghost use Rattle.guest_space.specs.Windows.{AreWindows};
     ghost use Rattle.guest_cpu.specs.Cpus.{CpuState, cpu_state, IsCpu};
 
     ghost Value = { CpuState R };
 
     ghost view = { λ c. cpu_state c.rule c.core c.space c.saved.items c.line };
 
-    ghost invariant = { λ c. IsCpu c.core c.space c.saved.items c.line };
+    ghost invariant = { λ c. IsCpu c.core c.space c.saved.items c.line × AreWindows c.space c.windows };
 }
 
 impl<R: AccessRule> Cpu<R> {
@@ -128,7 +131,14 @@ impl<R: AccessRule> Cpu<R> {
         self.space.sound();
         'run: loop {
             let most = u64::from(budget).saturating_sub(self.core.marks.since);
-            go_quietly(&mut self.core, &mut self.space, &self.rule, most, steps);
+            go_quietly(
+                &mut self.core,
+                &mut self.space,
+                &self.rule,
+                most,
+                steps,
+                &mut self.windows,
+            );
             match advance(
                 alloc,
                 &mut self.core,
@@ -137,6 +147,7 @@ impl<R: AccessRule> Cpu<R> {
                 env,
                 budget,
                 steps,
+                &mut self.windows,
             ) {
                 Ok(None) => {}
                 Ok(Some(event)) => return Ok(event),
@@ -155,7 +166,7 @@ impl<R: AccessRule> Cpu<R> {
         ensures counted { steps.new ≡ steps.old + 1 }
     {
         self.space.sound();
-        receive(&mut self.core, &mut self.space, item);
+        receive(&mut self.core, &mut self.space, &mut self.windows, item);
         steps.tick();
     }
 
@@ -176,9 +187,18 @@ impl<R: AccessRule> Cpu<R> {
         ensures counted { steps.new + self.old.slots.live.steps ≡ steps.old + self.new.slots.live.steps }
     {
         self.space.sound();
+        self.windows.forget();
         'run: loop {
             let most = until.saturating_sub(self.core.marks.steps);
-            go_quietly(&mut self.core, &mut self.space, &AllMapped, most, steps);
+            let mut windows = Windows::none();
+            go_quietly(
+                &mut self.core,
+                &mut self.space,
+                &AllMapped,
+                most,
+                steps,
+                &mut windows,
+            );
             match advance_as_recorded(alloc, &mut self.core, &mut self.space, until, steps) {
                 Ok(None) => {}
                 Ok(Some(question)) => return Ok(question),
@@ -205,6 +225,7 @@ impl<R: AccessRule> Cpu<R> {
         ensures counted { MatchBool result (steps.new ≡ steps.old + 1) (steps.new ≡ steps.old) }
     {
         self.space.sound();
+        self.windows.forget();
         if !choose(&mut self.core, &mut self.space, wanted, choice) {
             return false;
         }

@@ -8,7 +8,7 @@ use block_book::Book;
 use call_gate::ConnSet;
 use cow_pages::{MAX_FRAMES_PER_PAGE, MAX_SLOTS, PAGE};
 use elf_image::Image;
-use guest_space::{AccessRule, GuestSpace};
+use guest_space::{AccessRule, GuestSpace, Windows};
 use page_line::SlotLine;
 use run_history::Regs;
 use std::alloc::{AllocError, Global};
@@ -33,6 +33,7 @@ impl<R: AccessRule + Drop> Cpu<R> {
             space: GuestSpace::make(alloc, image, slots, frames)?,
             saved: cores(alloc, image, slots)?,
             line: SlotLine::make(alloc)?,
+            windows: Windows::none(),
         })
     }
 }

@@ -39,6 +39,7 @@ impl<R: AccessRule> Snapshot for Cpu<R> {
 
     fn save_to(&mut self, slot: u32) {
         self.space.sound();
+        self.windows.forget();
         self.space.save(slot);
         self.saved[slot as usize].copy_from(&self.core);
         self.line.push(slot);
@@ -46,6 +47,7 @@ impl<R: AccessRule> Snapshot for Cpu<R> {
 
     fn restore_from(&mut self, slot: u32) {
         self.space.sound();
+        self.windows.forget();
         self.space.restore(slot);
         self.core.copy_from(&self.saved[slot as usize]);
         self.line.stand_on(slot);
@@ -53,6 +55,7 @@ impl<R: AccessRule> Snapshot for Cpu<R> {
 
     fn drop_slot(&mut self, slot: u32) {
         self.space.sound();
+        self.windows.forget();
         if self.line.stands_on_newest() {
             self.space.release(slot);
             self.line.drop_oldest();
@@ -64,6 +67,7 @@ impl<R: AccessRule> Snapshot for Cpu<R> {
 
     fn save_over(&mut self, slot: u32) {
         self.space.sound();
+        self.windows.forget();
         self.space.save_over(slot);
         self.saved[slot as usize].copy_from(&self.core);
         self.line.drop_oldest();

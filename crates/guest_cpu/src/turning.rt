@@ -1,9 +1,10 @@
 // One instruction of a guest, and one in an environment.
 ghost use Rattle.std.specs.Prelude.{◌≡◌, ◌+◌, ◌<◌, Ok, None};
 ghost use Rattle.guest_space.specs.Space.{flat};
+ghost use Rattle.guest_space.specs.Windows.{AreWindows};
 ghost use Rattle.rv_exec.specs.Stepping.{limits_of};
 ghost use Rattle.guest_cpu.specs.Standing.{standing, CanCount, turn};
-ghost use Rattle.guest_cpu.specs.Turns.{TurnsBy, Keeps, Rises, Lasts, MetLasts, HasHeap};
+ghost use Rattle.guest_cpu.specs.Turns.{TurnsBy, Keeps, Rises, Lasts, MetLasts, MetStays, HasHeap};
 ghost use Rattle.guest_cpu.specs.Meeting.{meeting};
 
 use crate::Event;
@@ -11,7 +12,7 @@ use crate::calling::{allocate, free, meet_call};
 use crate::event::Met;
 use crate::guest_core::Core;
 use alloc_env::Env;
-use guest_space::{AccessRule, GuestSpace};
+use guest_space::{AccessRule, GuestSpace, Windows};
 use run_history::Cause;
 use rv_exec::{next_instr, step};
 use rv_isa::Instr;
@@ -33,6 +34,7 @@ pub fn meet<R: AccessRule, L: Ledger>(
     ensures keeps { Keeps core.old core.new }
     ensures rises { Rises core.old result core.new }
     ensures lasts { MetLasts result core.old space.old core.new space.new }
+    ensures stays { MetStays result space.old space.new }
     ensures counted { steps.new + core.old.marks.steps ≡ steps.old + core.new.marks.steps }
 {
     let instr = match next_instr(&core.regs, space) {
@@ -51,7 +53,8 @@ pub fn meet<R: AccessRule, L: Ledger>(
     }
 }
 
-/// Does one instruction in an environment, or meets an event. Hang is tested first.
+/// Does one instruction in an environment, or meets an event. Hang is tested first. The windows are forgotten where the memory
+/// may have changed.
 #[inline(never)]
 pub fn advance<R: AccessRule, L: Ledger>(
     alloc: Global,
@@ -61,9 +64,12 @@ pub fn advance<R: AccessRule, L: Ledger>(
     env: Env,
     budget: u32,
     steps: &mut Steps<L>,
+    windows: &mut Windows,
 ) -> Result<Option<Event>, AllocError>
     requires heap { HasHeap core.old space.old }
     requires counts { CanCount core.old.marks }
+    requires holds { AreWindows space.old windows.old }
+    ensures holds { AreWindows space.new windows.new }
     ensures turned { TurnsBy Event.Emits (turn (limits_of budget (R.rule rule.now)) env (standing core.old (flat space.old))) core.old space.old result core.new space.new }
     ensures keeps { Keeps core.old core.new }
     ensures rises { Rises core.old result core.new }
@@ -75,13 +81,28 @@ pub fn advance<R: AccessRule, L: Ledger>(
         return Ok(Some(Event::Failed(Cause::Hang)));
     }
     match meet(alloc, core, space, rule, steps) {
-        Ok(None) => Ok(None),
+        Ok(None) => {
+            windows.forget();
+            Ok(None)
+        }
         Ok(Some(Met::Asks)) => Ok(Some(Event::Asks)),
         Ok(Some(Met::Emits(conn, bytes))) => Ok(Some(Event::Emits(conn, bytes))),
-        Ok(Some(Met::Allocates(ask))) => Ok(Some(allocate(core, space, env, ask, steps))),
+        Ok(Some(Met::Allocates(ask))) => {
+            windows.forget();
+            Ok(Some(allocate(core, space, env, ask, steps)))
+        }
         Ok(Some(Met::Frees(at))) => Ok(free(core, env, at, steps)),
-        Ok(Some(Met::Exits(code))) => Ok(Some(Event::Exits(code))),
-        Ok(Some(Met::Failed(cause))) => Ok(Some(Event::Failed(cause))),
-        Err(e) => Err(e),
+        Ok(Some(Met::Exits(code))) => {
+            windows.forget();
+            Ok(Some(Event::Exits(code)))
+        }
+        Ok(Some(Met::Failed(cause))) => {
+            windows.forget();
+            Ok(Some(Event::Failed(cause)))
+        }
+        Err(e) => {
+            windows.forget();
+            Err(e)
+        }
     }
 }

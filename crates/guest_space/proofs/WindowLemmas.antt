@@ -1,5 +1,5 @@
 -- Windows of a memory.
-use Rattle.guest_space.proofs.Terms.{Bool, List, MatchBool, ap, arith, cond, false, get_or, if◌then◌else◌, inl, inr, length, refl, replicate, subst, sym, true, ℕ, ◌%◌, ◌&&◌, ◌*◌, ◌+◌, ◌-◌, ◌/◌, ◌<◌, ◌==◌, ◌^◌, ◌∙◌, ◌≡◌, ◌≤◌, cases_eq, cases_lt, get_or-replicate, get_or_past, length-replicate, All-get_or, All-weaker, All, slice_index, PAGE, shared_after, reaches-here, reaches-other, Pages, has, saved_numbers, NumberAfter, StandsAt, Writes, is_shared, reaches, little_bytes, Table, permitted, Stretch, RegisterWindows, Window, Windows, GuestPages, IsLawfulSpace, Span, flat, guest_pages, Puts, AreHeld, IsOpen, AreWindows, EachIs, IsLoadWindow, IsOfPage, IsStoreWindow, IsWindow, window_of}
+use Rattle.guest_space.proofs.Terms.{Bool, List, MatchBool, ap, arith, cond, false, get_or, if◌then◌else◌, inl, inr, length, refl, replicate, subst, sym, true, ℕ, ◌%◌, ◌&&◌, ◌*◌, ◌+◌, ◌-◌, ◌/◌, ◌<◌, ◌==◌, ◌^◌, ◌∙◌, ◌≡◌, ◌≤◌, cases_eq, cases_lt, get_or-replicate, get_or_past, length-replicate, All-get_or, All-weaker, All, slice_index, PAGE, shared_after, reaches-here, reaches-other, Pages, has, saved_numbers, NumberAfter, copied_pages, used_of, suc, zero, StandsAt, Writes, is_shared, reaches, little_bytes, Table, permitted, Stretch, RegisterWindows, Window, Windows, GuestPages, IsLawfulSpace, Span, flat, guest_pages, Puts, AreHeld, IsOpen, AreWindows, EachIs, IsLoadWindow, IsOfPage, IsStoreWindow, IsWindow, window_of}
 use Rattle.guest_space.proofs.SpaceLemmas.{is_inside, length-little_bytes}
 
 -- fewer bytes
@@ -242,3 +242,24 @@ each_set Is old new register window set one all other = subst Is (sym (set other
     either : (b : Bool) → Is (if b then window else window_of old other)
     either true = one
     either false = all other
+
+-- a write that took no frame moved no page
+none_copied : (store : Pages) (at count pages : ℕ) → copied_pages store at count pages ≡ 0 → (page : ℕ) → page < pages → (reaches at count page && is_shared store page) ≡ false
+none_copied store at count zero none page less = absurd (omega (arith, less))
+none_copied store at count (suc last) none page less = elim (cases_eq page last) [
+  | inl here ↦ subst (λ n. (reaches at count n && is_shared store n) ≡ false) (sym here) (not_counted (reaches at count last && is_shared store last) none)
+  | inr other ↦ none_copied store at count last (fewer (reaches at count last && is_shared store last) none) page (omega (arith, less, other))
+]
+  where
+    not_counted : (b : Bool) → copied_pages store at count last + (if b then 1 else 0) ≡ 0 → b ≡ false
+    not_counted true sum = absurd (omega (arith, sum))
+    not_counted false sum = refl
+
+    fewer : (b : Bool) → copied_pages store at count last + (if b then 1 else 0) ≡ 0 → copied_pages store at count last ≡ 0
+    fewer b sum = omega (arith, sum)
+
+pub numbers_kept : (old new : Pages) (at : ℕ) (bytes : List ℕ) → Writes old new at bytes → used_of new ≡ used_of old → (page : ℕ) → page < old.pages → slice_index new.live.numbers page ≡ slice_index old.live.numbers page
+numbers_kept old new at bytes wrote same page less =
+    let taken = wrote.used in
+    let none : copied_pages old at (length bytes) old.pages ≡ 0 = omega (arith, taken, same) in
+    subst (λ b. NumberAfter b old page (slice_index new.live.numbers page)) (none_copied old at (length bytes) old.pages none page less) (wrote.numbers page less)

@@ -282,6 +282,22 @@ impl GuestSpace {
         self.store.write_run(at - self.base, bytes);
     }
 
+    /// The same, with windows, which stay where no page was moved to another frame. Else those of loads are forgotten.
+    pub fn write_bytes_by(&mut self, windows: &mut Windows, at: u32, bytes: &[u8])
+        requires permitted { permitted 2 (flat self.old) at (length bytes.now) ≡ true }
+        requires holds { AreWindows self.old windows.old }
+        ensures holds { AreWindows self.new windows.new }
+        ensures put { Puts self.old at bytes.now self.new }
+    {
+        let before = self.used();
+        self.write_bytes(at, bytes);
+        if self.used() == before {
+            return;
+        }
+        windows.loads = RegisterWindows::none();
+        windows.recent_loads = [Window::none(); 8];
+    }
+
     /// Puts so many zeros from an address on. It requires that all of them may be written, which `allows` tests, and refuses
     /// nothing.
     pub fn zero(&mut self, at: u32, len: u32)

@@ -109,4 +109,15 @@ impl Windows {
             recent_stores: [Window::none(); 8],
         }
     }
+
+    /// Forgets all of them.
+    #[inline(never)]
+    pub fn forget(&mut self)
+        ensures { (space : GuestPages) → AreWindows space self.new }
+    {
+        self.loads = RegisterWindows::none();
+        self.stores = RegisterWindows::none();
+        self.recent_loads = [Window::none(); 8];
+        self.recent_stores = [Window::none(); 8];
+    }
 }

@@ -323,10 +323,13 @@ pub fn run_entries<R: AccessRule, L: Ledger>(
     rule: &R,
     most: u64,
     steps: &mut Steps<L>,
+    windows: &mut Windows,
 ) -> u64
     requires place { IsAt space.old.code.start (word_count space.old.code) first space.old }
     requires counter { regs.old.pc ≡ counter space.old.code.start first }
     requires zero { slice_index regs.old.x 0 ≡ 0 }
+    requires holds { AreWindows space.old windows.old }
+    ensures holds { AreWindows space.new windows.new }
     ensures ran { Ran (R.rule rule.now) book.now result regs.old space.old regs.new space.new }
     ensures within { result ≤ most }
     ensures counted { steps.new ≡ steps.old + result }
@@ -340,20 +343,13 @@ pub fn run_entries<R: AccessRule, L: Ledger>(
     };
     let entries = code.entries();
     let mut x = with_last(&regs.x);
-    let mut windows = Windows::none();
+    // A copy of its own, which is found without a reference.
+    let mut own = *windows;
     let mut number = first;
     let mut left = most;
     'run: while left > 0 {
         match enter(
-            &mut x,
-            entries,
-            start,
-            count,
-            number,
-            space,
-            book,
-            rule,
-            &mut windows,
+            &mut x, entries, start, count, number, space, book, rule, &mut own,
         ) {
             Next::Behind => number += 1,
             Next::To(other) => number = other,
@@ -364,5 +360,6 @@ pub fn run_entries<R: AccessRule, L: Ledger>(
     }
     regs.x = without_last(&x);
     regs.pc = counter_of(start, number);
+    *windows = own;
     most - left
 }

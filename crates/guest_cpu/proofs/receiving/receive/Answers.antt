@@ -2,8 +2,8 @@ use Rattle.guest_cpu.proofs.Terms.{ap, arith, length, refl, rules, ◌∙◌, �
 use Rattle.guest_cpu.proofs.RangeLemmas.{permitted-fewer}
 use Rattle.guest_cpu.proofs.receiving.receive.Goals as goal
 
-pub write_front-requires : goal.write_front-requires
-write_front-requires c =
+pub write_front-requires-clause-permitted : goal.write_front-requires-clause-permitted
+write_front-requires-clause-permitted c =
     let fewer : length c.split_at.result.0.now ≤ slice_index c.args.core.now.regs.x 11 = omega arith in
     permitted-fewer 2 _ _ _ _ fewer c.requires.writable
 

@@ -1,6 +1,6 @@
 use Rattle.guest_cpu.proofs.Terms.{refl, rules, ◌<◌, flat, limits_of, standing}
 use Rattle.guest_cpu.proofs.MeetLemmas.{still}
-use Rattle.guest_cpu.proofs.TurnLemmas.{turn_hangs, turned_in, sends_in}
+use Rattle.guest_cpu.proofs.TurnLemmas.{turn_hangs, turned_in, sends_in, windows_there}
 use Rattle.guest_cpu.proofs.turning.advance.Goals as goal
 
 pub returns-then-core-from-clause-turned : goal.returns-then-core-from-clause-turned
@@ -41,3 +41,28 @@ returns-in-Ok-Some-Frees-clause-turned g c =
 pub returns-in-Err-clause-turned : goal.returns-in-Err-clause-turned
 returns-in-Err-clause-turned g c =
     let early : c.args.core.now.marks.since < c.args.budget = search rules in let lacks = c.in-Err.ensures.turned in (lacks.0, lacks.1, sends_in _ _ _ early lacks.2)
+
+pub returns-in-Ok-Some-Asks-clause-holds : goal.returns-in-Ok-Some-Asks-clause-holds
+returns-in-Ok-Some-Asks-clause-holds g c = windows_there (rw (c.in-Ok-Some-Asks.field-0-is, c.in-Ok-Some-Asks.field-0-0-is) at c.in-Ok-Some-Asks.ensures.stays) c.requires.holds
+
+pub returns-in-Ok-Some-Emits-clause-holds : goal.returns-in-Ok-Some-Emits-clause-holds
+returns-in-Ok-Some-Emits-clause-holds g c = windows_there (rw (c.in-Ok-Some-Emits.field-0-is, c.in-Ok-Some-Emits.field-0-0-is) at c.in-Ok-Some-Emits.ensures.stays) c.requires.holds
+
+pub returns-in-Ok-Some-Frees-clause-holds : goal.returns-in-Ok-Some-Frees-clause-holds
+returns-in-Ok-Some-Frees-clause-holds g c =
+    let stays = rw (c.in-Ok-Some-Frees.field-0-is, c.in-Ok-Some-Frees.field-0-0-is) at c.in-Ok-Some-Frees.ensures.lasts in windows_there stays.1 c.requires.holds
+
+pub returns-in-Ok-None-clause-holds : goal.returns-in-Ok-None-clause-holds
+returns-in-Ok-None-clause-holds g c = c.forget.ensures c.meet.new.space
+
+pub returns-in-Ok-Some-Allocates-clause-holds : goal.returns-in-Ok-Some-Allocates-clause-holds
+returns-in-Ok-Some-Allocates-clause-holds g c = c.forget-in-Ok-Some-Allocates.ensures c.allocate.new.space
+
+pub returns-in-Ok-Some-Exits-clause-holds : goal.returns-in-Ok-Some-Exits-clause-holds
+returns-in-Ok-Some-Exits-clause-holds g c = c.forget-in-Ok-Some-Exits.ensures c.meet.new.space
+
+pub returns-in-Ok-Some-Failed-clause-holds : goal.returns-in-Ok-Some-Failed-clause-holds
+returns-in-Ok-Some-Failed-clause-holds g c = c.forget-in-Ok-Some-Failed.ensures c.meet.new.space
+
+pub returns-in-Err-clause-holds : goal.returns-in-Err-clause-holds
+returns-in-Err-clause-holds g c = c.forget-in-Err.ensures c.meet.new.space

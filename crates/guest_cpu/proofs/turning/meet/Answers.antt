@@ -1,5 +1,5 @@
 use Rattle.guest_cpu.proofs.Terms.{Some, ap, sym, ◌∙◌, flat, machine_of}
-use Rattle.guest_cpu.proofs.MeetLemmas.{still, is_at, meets_unfetched}
+use Rattle.guest_cpu.proofs.MeetLemmas.{still, is_at, meets_unfetched, met_stays}
 use Rattle.guest_cpu.proofs.StepTurns.{stepped, step_failed}
 use Rattle.guest_cpu.proofs.turning.meet.Goals as goal
 
@@ -19,3 +19,6 @@ pub returns-in-Err-step-clause-turned : goal.returns-in-Err-step-clause-turned
 returns-in-Err-step-clause-turned g c =
     step_failed (g.R.AccessRule.rule c.args.rule.now) c.in-Ok.instr c.args.core.now c.step.new.regs c.args.space.now c.step.new.space c.step.result c.in-Err-step.cause
     (sym c.next_instr.ensures.value ∙ c.in-Ok.is) c.in_default.not-Ecall c.in-Err-step.is (c.step.ensures.done (machine_of c.args.core.now (flat c.args.space.now)) 0) c.step.ensures.pages
+
+pub returns-in-Ecall-clause-stays : goal.returns-in-Ecall-clause-stays
+returns-in-Ecall-clause-stays g c = met_stays c.meet_call.result c.args.space.now

@@ -19,7 +19,7 @@ run-init g c =
       zero = first_zero c.with_last-x.result c.args.regs.now.x c.with_last-x.ensures c.requires.zero;
       place = record { start_is = c.code_start-start.ensures; count_is = omega (arith, many); within = let w = place.within in omega (arith, many, w) };
       entries = search rules;
-      holds = c.none-windows.ensures c.args.space.now;
+      holds = c.requires.holds;
       counts = omega arith;
       within = omega arith;
     }

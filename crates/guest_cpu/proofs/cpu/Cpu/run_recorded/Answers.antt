@@ -16,11 +16,11 @@ run-preserved g c =
       c.run.invariant.3,
       omega (arith, c.advance_as_recorded.ensures.counted, c.go_quietly.ensures.counted, c.run.invariant.4),
       rises.2 ∙ (ran_counts _ _ _ _ _ _ c.go_quietly.ensures.ran).ended ∙ c.run.invariant.5,
+      c.run.invariant.6,
     )
 
 pub invariant_of-self : goal.invariant_of-self
-invariant_of-self g c =
-    (reaches _ _ _ _ _ _ _ _ _ _ c.in-Ok-Some.question (goes_recorded c.args.until _ _ _ _ _ _ _ _ _ _ c.run.invariant.0 c.go_quietly.ensures.ran c.saturating_sub-most.ensures) (rw c.in-Ok-Some.field-0-is at c.in-Ok-Some.ensures.turned) c.advance_as_recorded.ensures.keeps).2
+invariant_of-self g c = ((reaches _ _ _ _ _ _ _ _ _ _ c.in-Ok-Some.question (goes_recorded c.args.until _ _ _ _ _ _ _ _ _ _ c.run.invariant.0 c.go_quietly.ensures.ran c.saturating_sub-most.ensures) (rw c.in-Ok-Some.field-0-is at c.in-Ok-Some.ensures.turned) c.advance_as_recorded.ensures.keeps).2, c.run.invariant.6 _)
 
 pub returns-in-Ok-Some-clause-question : goal.returns-in-Ok-Some-clause-question
 returns-in-Ok-Some-clause-question g c =
@@ -45,8 +45,7 @@ pub returns-in-Err-clause-lives : goal.returns-in-Err-clause-lives
 returns-in-Err-clause-lives g c = c.in-Err.ensures.lasts ∙ (ran_counts _ _ _ _ _ _ c.go_quietly.ensures.ran).ended ∙ c.run.invariant.5 ∙ subst (λ (state : CpuState _). state.slots.live.ended ≡ None) (sym c.self.view_is) c.requires.lives
 
 pub invariant_of-self-in-Err : goal.invariant_of-self-in-Err
-invariant_of-self-in-Err g c =
-    (breaks question.Emits _ _ _ _ _ _ _ _ _ _ (goes_recorded c.args.until _ _ _ _ _ _ _ _ _ _ c.run.invariant.0 c.go_quietly.ensures.ran c.saturating_sub-most.ensures) c.in-Err.ensures.turned.0 c.in-Err.ensures.turned.1 c.in-Err.ensures.turned.2).2
+invariant_of-self-in-Err g c = ((breaks question.Emits _ _ _ _ _ _ _ _ _ _ (goes_recorded c.args.until _ _ _ _ _ _ _ _ _ _ c.run.invariant.0 c.go_quietly.ensures.ran c.saturating_sub-most.ensures) c.in-Err.ensures.turned.0 c.in-Err.ensures.turned.1 c.in-Err.ensures.turned.2).2, c.run.invariant.6 _)
 
 pub returns-in-Err-clause-question : goal.returns-in-Err-clause-question
 returns-in-Err-clause-question g c =
@@ -63,4 +62,7 @@ returns-in-Err-clause-kept g c =
     (breaks question.Emits _ _ _ _ _ _ _ _ _ _ (goes_recorded c.args.until _ _ _ _ _ _ _ _ _ _ c.run.invariant.0 c.go_quietly.ensures.ran c.saturating_sub-most.ensures) c.in-Err.ensures.turned.0 c.in-Err.ensures.turned.1 c.in-Err.ensures.turned.2).1
 
 pub run-init : goal.run-init
-run-init g c = (goes_none _ _ _ _ _ _ c.self.invariant c.sound.ensures, refl, refl, refl, refl, refl)
+run-init g c = (goes_none _ _ _ _ _ _ c.self.invariant.0 c.sound.ensures, refl, refl, refl, refl, refl, c.forget.ensures)
+
+pub go_quietly-requires-clause-holds : goal.go_quietly-requires-clause-holds
+go_quietly-requires-clause-holds g c = c.none-windows.ensures c.run.self-inside.space

@@ -1,4 +1,5 @@
-use Rattle.guest_cpu.proofs.Terms.{◌+◌, ◌-◌, ◌≡◌, recorded}
+use Rattle.guest_cpu.proofs.Terms.{GuestPages, ◌+◌, ◌-◌, ◌≡◌, recorded}
+use Rattle.guest_space.specs.Windows.{AreWindows}
 use Rattle.guest_cpu.proofs.CpuLemmas.{Goes}
 use Rattle.guest_cpu.proofs.cpu.Cpu.run_recorded.Given as goal
 
@@ -9,6 +10,7 @@ invariant-run g l =
     × (l.self-inside.saved.items ≡ l.initial.self-inside.saved.items) × (l.self-inside.line ≡ l.initial.self-inside.line) × (l.self-inside.rule ≡ l.initial.self-inside.rule)
     × (l.steps + l.initial.self-inside.core.marks.steps ≡ l.fn.steps + l.self-inside.core.marks.steps)
     × (l.self-inside.core.ended ≡ l.initial.self-inside.core.ended)
+    × ((space : GuestPages) → AreWindows space l.self-inside.windows)
 
 abbrev pub decreases-run : goal.decreases-run
 decreases-run g l = l.until - l.self-inside.core.marks.steps

@@ -29,11 +29,11 @@ run-preserved g c =
       omega (arith, rises.0, rises.1, counts.since, counts.steps, c.run.invariant.5),
       omega (arith, rises.1, within, counts.since, counts.steps, c.run.invariant.5),
       rises.2 ∙ counts.ended ∙ c.run.invariant.7,
+      c.advance.ensures.holds,
     )
 
 pub invariant_of-self : goal.invariant_of-self
-invariant_of-self g c =
-    (reaches _ _ _ _ _ _ _ _ _ _ c.in-Ok-Some.event (goes_within c.args.budget _ _ _ _ _ _ _ _ _ _ _ _ _ c.run.invariant.0 c.go_quietly.ensures.ran c.from.ensures c.saturating_sub-most.ensures) (rw c.in-Ok-Some.field-0-is at c.in-Ok-Some.ensures.turned) c.advance.ensures.keeps).2
+invariant_of-self g c = ((reaches _ _ _ _ _ _ _ _ _ _ c.in-Ok-Some.event (goes_within c.args.budget _ _ _ _ _ _ _ _ _ _ _ _ _ c.run.invariant.0 c.go_quietly.ensures.ran c.from.ensures c.saturating_sub-most.ensures) (rw c.in-Ok-Some.field-0-is at c.in-Ok-Some.ensures.turned) c.advance.ensures.keeps).2, c.advance.ensures.holds)
 
 pub returns-in-Ok-Some-clause-event : goal.returns-in-Ok-Some-clause-event
 returns-in-Ok-Some-clause-event g c =
@@ -58,8 +58,7 @@ pub returns-in-Err-clause-lives : goal.returns-in-Err-clause-lives
 returns-in-Err-clause-lives g c = c.in-Err.ensures.lasts ∙ (ran_counts _ _ _ _ _ _ c.go_quietly.ensures.ran).ended ∙ c.run.invariant.7 ∙ subst (λ (state : CpuState _). state.slots.live.ended ≡ None) (sym c.self.view_is) c.requires.lives
 
 pub invariant_of-self-in-Err : goal.invariant_of-self-in-Err
-invariant_of-self-in-Err g c =
-    (breaks event.Emits _ _ _ _ _ _ _ _ _ _ (goes_within c.args.budget _ _ _ _ _ _ _ _ _ _ _ _ _ c.run.invariant.0 c.go_quietly.ensures.ran c.from.ensures c.saturating_sub-most.ensures) c.in-Err.ensures.turned.0 c.in-Err.ensures.turned.1 c.in-Err.ensures.turned.2).2
+invariant_of-self-in-Err g c = ((breaks event.Emits _ _ _ _ _ _ _ _ _ _ (goes_within c.args.budget _ _ _ _ _ _ _ _ _ _ _ _ _ c.run.invariant.0 c.go_quietly.ensures.ran c.from.ensures c.saturating_sub-most.ensures) c.in-Err.ensures.turned.0 c.in-Err.ensures.turned.1 c.in-Err.ensures.turned.2).2, c.advance.ensures.holds)
 
 pub returns-in-Err-clause-event : goal.returns-in-Err-clause-event
 returns-in-Err-clause-event g c =
@@ -76,4 +75,4 @@ returns-in-Err-clause-kept g c =
     (breaks event.Emits _ _ _ _ _ _ _ _ _ _ (goes_within c.args.budget _ _ _ _ _ _ _ _ _ _ _ _ _ c.run.invariant.0 c.go_quietly.ensures.ran c.from.ensures c.saturating_sub-most.ensures) c.in-Err.ensures.turned.0 c.in-Err.ensures.turned.1 c.in-Err.ensures.turned.2).1
 
 pub run-init : goal.run-init
-run-init g c = (goes_none _ _ _ _ _ _ c.self.invariant c.sound.ensures, refl, refl, refl, refl, omega arith, omega arith, refl)
+run-init g c = (goes_none _ _ _ _ _ _ c.self.invariant.0 c.sound.ensures, refl, refl, refl, refl, omega arith, omega arith, refl, c.self.invariant.1)

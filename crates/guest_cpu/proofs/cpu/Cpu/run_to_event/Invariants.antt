@@ -1,4 +1,5 @@
 use Rattle.guest_cpu.proofs.Terms.{◌+◌, ◌-◌, ◌≡◌, ◌≤◌, limits_of, turn}
+use Rattle.guest_space.specs.Windows.{AreWindows}
 use Rattle.guest_cpu.proofs.CpuLemmas.{Goes}
 use Rattle.guest_cpu.proofs.cpu.Cpu.run_to_event.Given as goal
 
@@ -11,6 +12,7 @@ invariant-run g l =
     × (l.self-inside.core.marks.steps + l.initial.self-inside.core.marks.since ≡ l.initial.self-inside.core.marks.steps + l.self-inside.core.marks.since)
     × (l.self-inside.core.marks.steps ≤ l.initial.self-inside.core.marks.steps + l.fn.budget)
     × (l.self-inside.core.ended ≡ l.initial.self-inside.core.ended)
+    × AreWindows l.self-inside.space l.self-inside.windows
 
 abbrev pub decreases-run : goal.decreases-run
 decreases-run g l = l.budget - l.self-inside.core.marks.since

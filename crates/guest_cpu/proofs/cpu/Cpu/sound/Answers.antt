@@ -4,7 +4,7 @@ use Rattle.guest_cpu.proofs.cpu.Cpu.sound.Goals as goal
 
 pub returns-clause-pages : goal.returns-clause-pages
 returns-clause-pages g c =
-    subst (λ (state : CpuState _). length state.written ≡ state.slots.pages) c.self.view_is (written_length c.self.inside.space c.self.inside.line c.sound.ensures c.self.invariant.line_is)
+    subst (λ (state : CpuState _). length state.written ≡ state.slots.pages) c.self.view_is (written_length c.self.inside.space c.self.inside.line c.sound.ensures c.self.invariant.0.line_is)
 
 pub returns-clause-written : goal.returns-clause-written
 returns-clause-written g c = subst (λ (state : CpuState _). count_true state.written ≡ state.slots.written) c.self.view_is refl
@@ -15,9 +15,9 @@ returns-clause-laid_out g c =
 
 pub returns-clause-ring : goal.returns-clause-ring
 returns-clause-ring g c =
-    subst (λ (state : CpuState _). AreSound state.slots) c.self.view_is (cpu_sound c.self.inside.core c.self.inside.space c.self.inside.saved.items c.self.inside.line c.self.invariant)
+    subst (λ (state : CpuState _). AreSound state.slots) c.self.view_is (cpu_sound c.self.inside.core c.self.inside.space c.self.inside.saved.items c.self.inside.line c.self.invariant.0)
 
 pub returns-clause-counted : goal.returns-clause-counted
 returns-clause-counted g c =
     subst (λ (state : CpuState _). AreCounted (marks_of state.slots.live)) c.self.view_is
-    (record { taken = c.self.invariant.counts.taken; since = c.self.invariant.counts.since; choices = c.self.invariant.counts.choices; sends = c.self.invariant.counts.sends })
+    (record { taken = c.self.invariant.0.counts.taken; since = c.self.invariant.0.counts.since; choices = c.self.invariant.0.counts.choices; sends = c.self.invariant.0.counts.sends })
