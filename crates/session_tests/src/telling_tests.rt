@@ -22,7 +22,7 @@ fn registers() -> [u32; 32] {
     ]
 }
 
-// A failure behind a message of connection 5, at a store of a byte to this place.
+// A failure behind the fourth message of connection 5, at a store of a byte to this place.
 fn sighting(at: u32, place: Place) -> Sighting {
     let access = Access {
         write: true,
@@ -39,6 +39,7 @@ fn sighting(at: u32, place: Place) -> Sighting {
         item: Some(SeenItem {
             kind: 2,
             conn: 5,
+            number: 4,
             len: 12,
         }),
         touch: Some(Touch { access, place }),
@@ -78,7 +79,7 @@ fn recoveries_are_told(rt: HostRuntime) -> Result<(), Fail> {
     let line = recovery_line(alloc, Some(50_602), Some(412), Some(&seen), &lives)?;
     assert_eq!(rt;
         line.as_str(),
-        "rx: 14:03:22 recovered in 0.412 ms: point 37 (a message of 12 bytes of connection 5): BadAccess at 000104ec; try 2, checkpoint 32, env zero\n"
+        "rx: 14:03:22 recovered in 0.412 ms: point 37 (message 4 of connection 5, 12 bytes): BadAccess at 000104ec; try 2, checkpoint 32, env zero\n"
     );
     let fails = episode(alloc, Tried::Contradicts)?;
     let bare = recovery_line(alloc, None, None, None, &fails)?;

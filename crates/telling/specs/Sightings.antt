@@ -3,7 +3,7 @@ use Rattle.std.specs.Prelude.{◌≡◌, ℕ, ◌-◌, true, false, ◌&&◌, Li
 use Rattle.rx_io.specs.declared.bytes.Item.{Item}
 use Rattle.block_book.specs.Heap.{Heap}
 use Rattle.elf_image.specs.Memory.{Area}
-use Rattle.item_log.specs.Log.{Log, item_at, received}
+use Rattle.item_log.specs.Log.{Log, item_at, number_in_connection, received}
 use Rattle.rv_isa.specs.declared.instr.Instr.{Instr}
 use Rattle.rv_isa.specs.declared.instr.Instr.TheVariants.{Load, Store}
 use Rattle.rv_isa.specs.Meaning.{displaced, load_size, store_size}
@@ -18,9 +18,9 @@ use Rattle.telling.specs.declared.sighting.SeenItem.{SeenItem}
 use Rattle.telling.specs.declared.sighting.Sighting.{Sighting}
 use Rattle.telling.specs.declared.sighting.Touch.{Touch}
 
--- what is told of an item
-abbrev pub seen_item : Item → SeenItem
-seen_item item = record { kind = item.kind; conn = item.conn; len = length item.bytes }
+-- what is told of an item, which has this number among the messages of its connection
+abbrev pub seen_item : ℕ → Item → SeenItem
+seen_item number item = record { kind = item.kind; conn = item.conn; number = number; len = length item.bytes }
 
 -- the item that was taken last, where so many were taken: it was received, and isn't given up
 abbrev pub last_taken : Log → ℕ → Option Item
@@ -53,5 +53,5 @@ pub record Sees (standing : Standing) (log : Log) (point : ℕ) (seen : Sighting
   pub steps_is : seen.steps ≡ standing.steps
   pub pc_is : seen.regs.pc ≡ standing.guest.machine.pc
   pub registers_are : seen.regs.x ≡ standing.guest.machine.registers
-  pub item_is : seen.item ≡ option_map seen_item (last_taken log point)
+  pub item_is : seen.item ≡ option_map (seen_item (number_in_connection log (point - 1))) (last_taken log point)
   pub touch_is : IsTouch standing.guest.machine.memory standing.guest.heap (wanted seen.regs standing.guest.machine.memory) seen.touch

@@ -53,12 +53,13 @@ fn duration(alloc: Global, micros: Option<u64>) -> Result<String, AllocError> {
     format!(in alloc; " in {whole}.{thousandths:03} ms")
 }
 
-// What an item is.
+// What an item is: a message with its number among those of its connection.
 fn item_text(alloc: Global, item: &SeenItem) -> Result<String, AllocError> {
     let conn = item.conn;
     if item.kind == MESSAGE {
+        let number = item.number;
         let bytes = counted(alloc, item.len as u64, "byte")?;
-        return format!(in alloc; "a message of {bytes} of connection {conn}");
+        return format!(in alloc; "message {number} of connection {conn}, {bytes}");
     }
     if item.kind == OPENED {
         return format!(in alloc; "the open of connection {conn}");

@@ -1,6 +1,6 @@
 // What is seen of a guest that failed.
-ghost use Rattle.std.specs.Prelude.{◌≡◌, ◌<◌, ◌&&◌, option_map, length};
-ghost use Rattle.item_log.specs.Log.{Log};
+ghost use Rattle.std.specs.Prelude.{◌≡◌, ◌-◌, ◌<◌, ◌&&◌, option_map, length};
+ghost use Rattle.item_log.specs.Log.{Log, number_in_connection};
 ghost use Rattle.rv_isa.specs.Ranges.{IsInRange, IsRegister};
 ghost use Rattle.guest_space.specs.Space.{flat};
 ghost use Rattle.rv_exec.specs.Stepping.{value_of};
@@ -15,11 +15,13 @@ use run_history::Regs;
 use rv_exec::next_instr;
 use rv_isa::{Instr, bytes_loaded, bytes_stored, displace};
 
-/// An item: its kind, its connection, and how many bytes it has.
+/// An item: its kind, its connection, its number among the messages of that connection since it opened, and how many bytes it has. The
+/// first message has number 1, an open 0, and a close that of the last message before it.
 #[derive(Clone, Copy, Debug, PartialEq, Eq)]
 pub struct SeenItem {
     pub kind: u8,
     pub conn: u16,
+    pub number: u64,
     pub len: usize,
 }
 
@@ -106,7 +108,7 @@ fn touch_of(regs: &Regs, book: &Book, space: &GuestSpace) -> Option<Touch>
 
 // The item that was taken last, where so many were taken, if the log has it still.
 fn last_item(items: &ItemLog, point: u64) -> Option<SeenItem>
-    ensures { result ≡ option_map seen_item (last_taken items.now point) }
+    ensures { result ≡ option_map (seen_item (number_in_connection items.now (point - 1))) (last_taken items.now point) }
 {
     if point == 0 {
         return None;
@@ -122,6 +124,7 @@ fn last_item(items: &ItemLog, point: u64) -> Option<SeenItem>
     Some(SeenItem {
         kind: item.kind,
         conn: item.conn,
+        number: items.number_in_connection(number),
         len: item.bytes.as_slice().len(),
     })
 }

@@ -73,15 +73,17 @@ fn hear_all(log: &mut ItemLog, events: &[LinkEvent]) -> Result<Result<(), ItemRe
     Ok(Ok(()))
 }
 
-// Adds the items that are kept: the digits of kind and connection, the bytes, and a bar behind each.
+// Adds the items that are kept: the digits of kind, connection and number in the connection, the bytes, and a bar behind each.
 fn note_items(log: &ItemLog, found: &mut Vec<u8>) -> Result<(), Fail> {
     for number in log.first()..log.received() {
         let item = log.item(number);
-        if item.kind > 9 || item.conn > 9 {
-            return Err(Fail::new("another kind or connection"));
+        let within = log.number_in_connection(number);
+        if item.kind > 9 || item.conn > 9 || within > 9 {
+            return Err(Fail::new("another kind, connection or number"));
         }
         found.push(b'0' + item.kind)?;
         found.push(b'0' + item.conn as u8)?;
+        found.push(b'0' + within as u8)?;
         found.extend_from_slice(item.bytes.as_slice())?;
         found.push(b'|')?;
     }

@@ -25,22 +25,24 @@ fn pieces_are_cut_and_events_bring_items(rt: HostRuntime) -> Result<(), Fail> {
         cut line *|. > !.| star=4097
         cut whole *|. > *|.| star=4096
         cut whole *|. > !.| star=4097
-        log line 2 o0|p0hi. > Ok(()) 0 2 true false 10|20hi.|
-        log line 5 o0|o1|p1x|p0a.b.|p1y. > Ok(()) 0 5 true true 10|11|20a.|20b.|21xy.|
-        log line 2 o7|p7h|p7e|p7l|p7lo|p7. > Ok(()) 0 2 false false 17|27hello.|
+        log line 2 o0|p0hi. > Ok(()) 0 2 true false 100|201hi.|
+        log line 5 o0|o1|p1x|p0a.b.|p1y. > Ok(()) 0 5 true true 100|110|201a.|202b.|211xy.|
+        log line 2 o7|p7h|p7e|p7l|p7lo|p7. > Ok(()) 0 2 false false 170|271hello.|
         # A rest is dropped at the close, and a connection that opens again begins anew.
-        log line 4 o7|p7rest|c7|o7|p7new. > Ok(()) 0 4 false false 17|37|17|27new.|
-        log line 1 s0|o3|s0 > Ok(()) 0 1 false false 13|
-        log length 3 o2|p2\0\0\0\0\x02\0|p2\0\0hi > Ok(()) 0 3 false false 12|22|22hi|
-        log whole 3 o2|p2|p2a.|c2 > Ok(()) 0 3 false false 12|22a.|32|
-        log line 2 o5|p5a.b. > Err(Items) 0 1 false false 15|
-        log line 1 o5|c5 > Err(Items) 0 1 false false 15|
+        log line 4 o7|p7rest|c7|o7|p7new. > Ok(()) 0 4 false false 170|370|170|271new.|
+        log line 1 s0|o3|s0 > Ok(()) 0 1 false false 130|
+        log length 3 o2|p2\0\0\0\0\x02\0|p2\0\0hi > Ok(()) 0 3 false false 120|221|222hi|
+        log whole 3 o2|p2|p2a.|c2 > Ok(()) 0 3 false false 120|221a.|321|
+        log line 2 o5|p5a.b. > Err(Items) 0 1 false false 150|
+        log line 1 o5|c5 > Err(Items) 0 1 false false 150|
         # Too many items and a message that is too long: the second is said.
-        log length 2 o5|p5\x01\0\0\0a\0\0\0\0\0\x11\0\0 > Err(TooLong(5)) 0 1 false false 15|
+        log length 2 o5|p5\x01\0\0\0a\0\0\0\0\0\x11\0\0 > Err(TooLong(5)) 0 1 false false 150|
         # A log is trimmed to numbers, and hears an event behind each.
-        log line 10 o0|p0a.b.c.d|o1@3-p0. > Ok(()) 3 6 true true 20c.|11|20d.|
-        log line 10 o0|p0a.b.c.d|o1@3-p0.@2-s0 > Ok(()) 3 6 true true 20c.|11|20d.|
-        log line 10 o0|p0a.b.c.d|o1@3-p0.@2-s0@6-c0 > Ok(()) 6 7 false true 30|
+        log line 10 o0|p0a.b.c.d|o1@3-p0. > Ok(()) 3 6 true true 203c.|110|204d.|
+        log line 10 o0|p0a.b.c.d|o1@3-p0.@2-s0 > Ok(()) 3 6 true true 203c.|110|204d.|
+        log line 10 o0|p0a.b.c.d|o1@3-p0.@2-s0@6-c0 > Ok(()) 6 7 false true 304|
+        # A connection that opens again counts anew, also behind items that were given up.
+        log line 10 o0|p0a.b.|c0@3-o0|p0c. > Ok(()) 3 6 true false 302|100|201c.|
     ",
     )
 }
