@@ -1,171 +1,85 @@
--- Connections as the ledger shows them, beside what is kept of them.
-use Rattle.reply_ledger.proofs.Terms.{Bool, List, None, Option, Some, [], ap, append-nil, arith, cond, drop, false, if◌then◌else◌, is_some, length, length-append, map, not, refl, subst, sym, true, ℕ, ◌&&◌, ◌++◌, ◌+◌, ◌∙◌, ◌∷◌, ◌≡◌, and_parts, eq-eqb, eqb-true, true≢false, drop-drop, drop_all, flat_map-append, keys_of, lookup, option_map, option_map_or, IsSome, find, nat_eq, ◌==◌, Send, sent_to, Connection, Passed, changed, closed_connection, connection_of, gone_connection, is_open, new_connection, passed_connection, stamped_to, trimmed_connection, trimmed_connections, Tally, all_retallied, connections_of, is_open_in, number_at, passed_at, passed_end, retallied, seen, earlier_at}
+-- Connections as contracts see them, beside what is kept of them.
+use Rattle.reply_ledger.proofs.Terms.{Bool, List, None, Option, Some, [], ap, arith, cond, drop, false, if◌then◌else◌, is_some, length, map, not, refl, sym, true, ℕ, ◌&&◌, ◌++◌, ◌+◌, ◌∙◌, ◌∷◌, ◌≡◌, and_parts, eq-eqb, eqb-true, true≢false, drop_all, map-append, option_map, option_map_or, IsSome, find, list_any, nat_eq, ◌==◌, ◌||◌, Send, sent_to, Connection, Passed, changed, closed_connection, connection_of, gone_connection, is_open, new_connection, passed_connection, stamped_to, trimmed_connection, trimmed_connections, Kept, is_open_account, new_account, no_account, passed_of, connections_of, earlier_at, is_known, seen}
+use Rattle.reply_ledger.proofs.AccountLemmas.{put, put-here}
 
--- a connection of the ledger is the tally of that number
-pub connection-of : (tallies : List (ℕ × Tally)) (conn : ℕ) → connection_of (connections_of tallies) conn ≡ option_map (λ (t : Tally). seen (conn, t)) (lookup (nat_eq conn) tallies)
+-- a connection of the ledger is the account of that number
+connection-of : (S : List Send) (A : ℕ → Kept) (q : ℕ) (K : List ℕ) → connection_of (connections_of S A K) q ≡ (if is_known K q then Some (seen S q (A q)) else None)
 unfolding connection_of connections_of
-connection-of [] conn = refl
-connection-of (e ∷ tallies) conn = by (nat_eq conn e.0) refl (connection-of tallies conn)
+connection-of S A q [] = refl
+connection-of S A q (k ∷ K) = by (nat_eq q k) refl (connection-of S A q K)
   where
-    by : (b : Bool) → nat_eq conn e.0 ≡ b → find (λ (c : Connection). conn == c.conn) (map seen tallies) ≡ option_map (λ (t : Tally). seen (conn, t)) (lookup (nat_eq conn) tallies)
-        → cond b (Some (seen e)) (find (λ (c : Connection). conn == c.conn) (map seen tallies)) ≡ option_map (λ (t : Tally). seen (conn, t)) (cond b (Some e.1) (lookup (nat_eq conn) tallies))
-    by true t rest = ap (λ (n : ℕ). Some (seen (n, e.1))) (sym (eqb-true conn e.0 t))
-    by false f rest = rest
+    by : (b : Bool) → nat_eq q k ≡ b → connection_of (connections_of S A K) q ≡ (if is_known K q then Some (seen S q (A q)) else None)
+        → cond b (Some (seen S k (A k))) (connection_of (connections_of S A K) q) ≡ (if b || is_known K q then Some (seen S q (A q)) else None)
+    by true t ih = ap (λ (n : ℕ). Some (seen S n (A n))) (sym (eqb-true q k t))
+    by false f ih = ih
 
 -- so a reading of the one is a reading of the other
-reading-of : {X : Type 0} (f : Connection → X) (g : Tally → X) (d : X) → ((conn : ℕ) (t : Tally) → f (seen (conn, t)) ≡ g t) → (conn : ℕ) (o : Option Tally)
-    → option_map_or f (option_map (λ (t : Tally). seen (conn, t)) o) d ≡ option_map_or g o d
-reading-of f g d same conn None = refl
-reading-of f g d same conn (Some t) = same conn t
-
-pub is_open-of : (tallies : List (ℕ × Tally)) (conn : ℕ) → is_open (connections_of tallies) conn ≡ is_open_in tallies conn
-unfolding is_open is_open_in
-is_open-of tallies conn =
-    ap (λ (o : Option Connection). option_map_or (λ (c : Connection). not c.closed && not c.gone) o false) (connection-of tallies conn)
-    ∙ reading-of (λ (c : Connection). not c.closed && not c.gone) (λ (t : Tally). not t.closed && not t.gone) false (λ n t. refl) conn (lookup (nat_eq conn) tallies)
-
-pub stamped_to-of : (tallies : List (ℕ × Tally)) (conn : ℕ) → stamped_to (connections_of tallies) conn ≡ passed_at tallies conn
-unfolding stamped_to passed_at
-stamped_to-of tallies conn =
-    ap (λ (o : Option Connection). option_map_or (λ (c : Connection). c.passed) o []) (connection-of tallies conn)
-    ∙ reading-of (λ (c : Connection). c.passed) (λ (t : Tally). t.passed) [] (λ n t. refl) conn (lookup (nat_eq conn) tallies)
-
-pub earlier_at-of : (tallies : List (ℕ × Tally)) (conn : ℕ) → earlier_at (connections_of tallies) conn ≡ number_at (λ (t : Tally). t.earlier) tallies conn
-unfolding earlier_at number_at
-earlier_at-of tallies conn =
-    ap (λ (o : Option Connection). option_map_or (λ (c : Connection). c.earlier) o 0) (connection-of tallies conn)
-    ∙ reading-of (λ (c : Connection). c.earlier) (λ (t : Tally). t.earlier) 0 (λ n t. refl) conn (lookup (nat_eq conn) tallies)
-
-pub passed_end-of : (tallies : List (ℕ × Tally)) (conn : ℕ) → number_at passed_end tallies conn ≡ earlier_at (connections_of tallies) conn + length (stamped_to (connections_of tallies) conn)
-unfolding number_at passed_at
-passed_end-of tallies conn = sum (lookup (nat_eq conn) tallies) ∙ (λ i. sym (earlier_at-of tallies conn) i + length (sym (stamped_to-of tallies conn) i))
+reading-of : {X : Type 0} (f : Connection → X) (d : X) (S : List Send) (A : ℕ → Kept) (K : List ℕ) (q : ℕ) → (is_known K q ≡ false → f (seen S q (A q)) ≡ d) → option_map_or f (connection_of (connections_of S A K) q) d ≡ f (seen S q (A q))
+reading-of f d S A K q none = ap (λ (o : Option Connection). option_map_or f o d) (connection-of S A q K) ∙ by (is_known K q) refl
   where
-    sum : (o : Option Tally) → option_map_or passed_end o 0 ≡ option_map_or (λ (t : Tally). t.earlier) o 0 + length (option_map_or (λ (t : Tally). t.passed) o [])
-    sum None = refl
-    sum (Some t) = refl
+    by : (b : Bool) → is_known K q ≡ b → option_map_or f (if b then Some (seen S q (A q)) else None) d ≡ f (seen S q (A q))
+    by true p = refl
+    by false p = sym (none p)
 
-pub known-of : (tallies : List (ℕ × Tally)) (conn : ℕ) → IsSome (connection_of (connections_of tallies) conn) → IsSome (lookup (nat_eq conn) tallies)
-known-of tallies conn h = by (lookup (nat_eq conn) tallies) (subst IsSome (connection-of tallies conn) h)
+pub is_open-of : (S : List Send) (A : ℕ → Kept) (K : List ℕ) (q : ℕ) → (is_known K q ≡ false → A q ≡ no_account) → is_open (connections_of S A K) q ≡ is_open_account (A q)
+unfolding is_open
+is_open-of S A K q none = reading-of (λ (c : Connection). not c.closed && not c.gone) false S A K q (λ f. ap is_open_account (none f))
+
+pub stamped_to-of : (S : List Send) (A : ℕ → Kept) (K : List ℕ) (q : ℕ) → (is_known K q ≡ false → A q ≡ no_account) → stamped_to (connections_of S A K) q ≡ passed_of (sent_to q S) (A q).stamps
+unfolding stamped_to passed_of
+stamped_to-of S A K q none = reading-of (λ (c : Connection). c.passed) [] S A K q (λ f. ap (λ (k : Kept). passed_of (sent_to q S) k.stamps) (none f))
+
+pub known-of : (S : List Send) (A : ℕ → Kept) (K : List ℕ) (q : ℕ) → IsSome (connection_of (connections_of S A K) q) → is_known K q ≡ true
+known-of S A K q h = by (is_known K q) (sym (ap is_some (connection-of S A q K)) ∙ h)
   where
-    by : (o : Option Tally) → IsSome (option_map (λ (t : Tally). seen (conn, t)) o) → IsSome o
-    by None h = h
-    by (Some t) h = h
+    by : (b : Bool) → is_some (if b then Some (seen S q (A q)) else None) ≡ true → b ≡ true
+    by true k = refl
+    by false k = absurd (true≢false (sym k))
 
-pub unknown-of : (tallies : List (ℕ × Tally)) (conn : ℕ) → connection_of (connections_of tallies) conn ≡ None → lookup (nat_eq conn) tallies ≡ None
-unknown-of tallies conn h = by (lookup (nat_eq conn) tallies) (sym (connection-of tallies conn) ∙ h)
+pub unknown-of : (S : List Send) (A : ℕ → Kept) (K : List ℕ) (q : ℕ) → connection_of (connections_of S A K) q ≡ None → is_known K q ≡ false
+unknown-of S A K q h = by (is_known K q) (sym (ap is_some (connection-of S A q K)) ∙ ap is_some h)
   where
-    by : (o : Option Tally) → option_map (λ (t : Tally). seen (conn, t)) o ≡ None → o ≡ None
-    by None h = refl
-    by (Some t) h = absurd (let no : ⊥ = cc in no)
+    by : (b : Bool) → is_some (if b then Some (seen S q (A q)) else None) ≡ false → b ≡ false
+    by true k = absurd (true≢false k)
+    by false k = refl
 
-pub keys-of : (tallies : List (ℕ × Tally)) → map (λ (c : Connection). c.conn) (connections_of tallies) ≡ keys_of tallies
+-- accounts that show the same, or of which each shows a change
+pub connections-same : (S S' : List Send) (A A' : ℕ → Kept) (K : List ℕ) → ((q : ℕ) → seen S' q (A' q) ≡ seen S q (A q)) → connections_of S' A' K ≡ connections_of S A K
 unfolding connections_of
-keys-of [] = refl
-keys-of (e ∷ tallies) = ap (λ (l : List ℕ). e.0 ∷ l) (keys-of tallies)
+connections-same S S' A A' K same = ap (λ (f : ℕ → Connection). map f K) (λ i q. same q i)
 
--- a change of a tally is a change of the connection
-pub connections_of-retallied : (conn : ℕ) (change : Tally → Tally) (shown : Connection → Connection) → ((e : ℕ × Tally) → seen (e.0, change e.1) ≡ shown (seen e))
-    → (tallies : List (ℕ × Tally)) → connections_of (retallied conn change tallies) ≡ changed conn shown (connections_of tallies)
-unfolding connections_of retallied changed
-connections_of-retallied conn change shown same [] = refl
-connections_of-retallied conn change shown same (e ∷ tallies) = by (conn == e.0) (connections_of-retallied conn change shown same tallies)
-  where
-    by : (b : Bool) → map seen (retallied conn change tallies) ≡ changed conn shown (map seen tallies)
-        → seen (if b then (e.0, change e.1) else e) ∷ map seen (retallied conn change tallies) ≡ (if b then shown (seen e) else seen e) ∷ changed conn shown (map seen tallies)
-    by true rest = (λ i. same e i ∷ rest i)
-    by false rest = ap (λ (l : List Connection). seen e ∷ l) rest
-
--- or none, where it moves the end of a stream alone
-pub connections_of-hidden : (conn : ℕ) (change : Tally → Tally) → ((e : ℕ × Tally) → seen (e.0, change e.1) ≡ seen e)
-    → (tallies : List (ℕ × Tally)) → connections_of (retallied conn change tallies) ≡ connections_of tallies
-unfolding connections_of retallied
-connections_of-hidden conn change same [] = refl
-connections_of-hidden conn change same (e ∷ tallies) = by (conn == e.0) (connections_of-hidden conn change same tallies)
-  where
-    by : (b : Bool) → map seen (retallied conn change tallies) ≡ map seen tallies → seen (if b then (e.0, change e.1) else e) ∷ map seen (retallied conn change tallies) ≡ seen e ∷ map seen tallies
-    by true rest = (λ i. same e i ∷ rest i)
-    by false rest = ap (λ (l : List Connection). seen e ∷ l) rest
-
-pub connections_of-all_hidden : (change : Tally → Tally) → ((e : ℕ × Tally) → seen (e.0, change e.1) ≡ seen e)
-    → (tallies : List (ℕ × Tally)) → connections_of (all_retallied change tallies) ≡ connections_of tallies
-unfolding connections_of all_retallied
-connections_of-all_hidden change same [] = refl
-connections_of-all_hidden change same (e ∷ tallies) = (λ i. same e i ∷ connections_of-all_hidden change same tallies i)
-
-pub connections_of-push : (tallies : List (ℕ × Tally)) (e : ℕ × Tally) → connections_of (tallies ++ e ∷ []) ≡ connections_of tallies ++ seen e ∷ []
+connections-each : (S S' : List Send) (A A' : ℕ → Kept) (f : Connection → Connection) (K : List ℕ) → ((q : ℕ) → seen S' q (A' q) ≡ f (seen S q (A q))) → connections_of S' A' K ≡ map f (connections_of S A K)
 unfolding connections_of
-connections_of-push [] e = refl
-connections_of-push (x ∷ tallies) e = ap (λ (l : List Connection). seen x ∷ l) (connections_of-push tallies e)
+connections-each S S' A A' f [] each = refl
+connections-each S S' A A' f (k ∷ K) each = (λ i. each k i ∷ connections-each S S' A A' f K each i)
+
+pub connections-trimmed : (S S' : List Send) (A A' : ℕ → Kept) (sends : List Send) (K : List ℕ) → ((q : ℕ) → seen S' q (A' q) ≡ trimmed_connection sends (seen S q (A q))) → connections_of S' A' K ≡ trimmed_connections sends (connections_of S A K)
+unfolding trimmed_connections
+connections-trimmed S S' A A' sends K each = connections-each S S' A A' (trimmed_connection sends) K each
+
+pub connections-changed : (S : List Send) (A : ℕ → Kept) (conn : ℕ) (k : Kept) (change : Connection → Connection) (K : List ℕ) → seen S conn k ≡ change (seen S conn (A conn)) → connections_of S (put A conn k) K ≡ changed conn change (connections_of S A K)
+unfolding changed
+connections-changed S A conn k change K is = connections-each S S A (put A conn k) (λ (c : Connection). if conn == c.conn then change c else c) K (λ q. by q (conn == q) refl)
+  where
+    by : (q : ℕ) (b : Bool) → conn == q ≡ b → seen S q (if b then k else A q) ≡ (if b then change (seen S q (A q)) else seen S q (A q))
+    by q true p = ap (λ (n : ℕ). seen S n k) (sym (eqb-true conn q p)) ∙ is ∙ ap (λ (n : ℕ). change (seen S n (A n))) (eqb-true conn q p)
+    by q false p = refl
+
+-- a connection opens
+pub connections-push : (S : List Send) (A : ℕ → Kept) (conn : ℕ) (K : List ℕ) → is_known K conn ≡ false → connections_of S (put A conn new_account) (K ++ conn ∷ []) ≡ connections_of S A K ++ new_connection conn ∷ []
+unfolding connections_of passed_of
+connections-push S A conn [] none = ap (λ (k : Kept). seen S conn k ∷ []) (put-here A conn new_account)
+connections-push S A conn (k ∷ K) none = by (conn == k) refl none (λ h. connections-push S A conn K h)
+  where
+    by : (b : Bool) → conn == k ≡ b → (b || is_known K conn) ≡ false
+        → (is_known K conn ≡ false → connections_of S (put A conn new_account) (K ++ conn ∷ []) ≡ connections_of S A K ++ new_connection conn ∷ [])
+        → seen S k (if b then new_account else A k) ∷ connections_of S (put A conn new_account) (K ++ conn ∷ []) ≡ seen S k (A k) ∷ (connections_of S A K ++ new_connection conn ∷ [])
+    by true t h ih = absurd (true≢false h)
+    by false f h ih = ap (λ (l : List Connection). seen S k (A k) ∷ l) (ih h)
 
 either_way : {A : Type 0} (b : Bool) (x : A) → x ≡ (if b then x else x)
 either_way true x = refl
 either_way false x = refl
-
--- readings after a change
-pub lookup-retallied : (conn : ℕ) (change : Tally → Tally) (q : ℕ) (tallies : List (ℕ × Tally))
-    → lookup (nat_eq q) (retallied conn change tallies) ≡ (if conn == q then option_map change (lookup (nat_eq q) tallies) else lookup (nat_eq q) tallies)
-unfolding retallied
-lookup-retallied conn change q [] = either_way (conn == q) None
-lookup-retallied conn change q (e ∷ tallies) = by (conn == e.0) refl (nat_eq q e.0) refl (conn == q) refl (lookup-retallied conn change q tallies)
-  where
-    rest : Option Tally
-    rest = lookup (nat_eq q) tallies
-
-    by : (a : Bool) → conn == e.0 ≡ a → (b : Bool) → nat_eq q e.0 ≡ b → (r : Bool) → conn == q ≡ r → lookup (nat_eq q) (retallied conn change tallies) ≡ (if r then option_map change (lookup (nat_eq q) tallies) else lookup (nat_eq q) tallies)
-        → lookup (nat_eq q) ((if a then (e.0, change e.1) else e) ∷ retallied conn change tallies) ≡ (if r then option_map change (cond b (Some e.1) (lookup (nat_eq q) tallies)) else cond b (Some e.1) (lookup (nat_eq q) tallies))
-    by true pa true pb true pr ih = ap (λ (x : Bool). cond x (Some (change e.1)) (lookup (nat_eq q) (retallied conn change tallies))) pb
-    by true pa true pb false pr ih = absurd (true≢false (sym (eq-eqb conn q (eqb-true conn e.0 pa ∙ sym (eqb-true q e.0 pb))) ∙ pr))
-    by true pa false pb r pr ih = ap (λ (x : Bool). cond x (Some (change e.1)) (lookup (nat_eq q) (retallied conn change tallies))) pb ∙ ih
-    by false pa true pb true pr ih = absurd (true≢false (sym (eq-eqb conn e.0 (eqb-true conn q pr ∙ eqb-true q e.0 pb)) ∙ pa))
-    by false pa true pb false pr ih = ap (λ (x : Bool). cond x (Some e.1) (lookup (nat_eq q) (retallied conn change tallies))) pb
-    by false pa false pb r pr ih = ap (λ (x : Bool). cond x (Some e.1) (lookup (nat_eq q) (retallied conn change tallies))) pb ∙ ih
-
-pub number_at-same : (reading : Tally → ℕ) (conn : ℕ) (change : Tally → Tally) → ((t : Tally) → reading (change t) ≡ reading t)
-    → (tallies : List (ℕ × Tally)) (q : ℕ) → number_at reading (retallied conn change tallies) q ≡ number_at reading tallies q
-unfolding number_at
-number_at-same reading conn change same tallies q =
-    ap (λ (o : Option Tally). option_map_or reading o 0) (lookup-retallied conn change q tallies) ∙ by (conn == q) (lookup (nat_eq q) tallies)
-  where
-    by : (b : Bool) (o : Option Tally) → option_map_or reading (if b then option_map change o else o) 0 ≡ option_map_or reading o 0
-    by true None = refl
-    by true (Some t) = same t
-    by false o = refl
-
-pub number_at-set : (reading : Tally → ℕ) (conn k : ℕ) (change : Tally → Tally) → ((t : Tally) → reading (change t) ≡ k)
-    → (tallies : List (ℕ × Tally)) → IsSome (lookup (nat_eq conn) tallies) → (q : ℕ) → number_at reading (retallied conn change tallies) q ≡ (if conn == q then k else number_at reading tallies q)
-unfolding number_at
-number_at-set reading conn k change same tallies known q =
-    ap (λ (o : Option Tally). option_map_or reading o 0) (lookup-retallied conn change q tallies) ∙ by (conn == q) refl (lookup (nat_eq q) tallies) refl
-  where
-    by : (b : Bool) → conn == q ≡ b → (o : Option Tally) → lookup (nat_eq q) tallies ≡ o → option_map_or reading (if b then option_map change o else o) 0 ≡ (if b then k else option_map_or reading o 0)
-    by true p None h = absurd (true≢false (sym known ∙ ap is_some (ap (λ (n : ℕ). lookup (nat_eq n) tallies) (eqb-true conn q p) ∙ h)))
-    by true p (Some t) h = same t
-    by false p o h = refl
-
-pub number_at-all : (reading : Tally → ℕ) (change : Tally → Tally) (tallies : List (ℕ × Tally)) (q : ℕ) → number_at reading (all_retallied change tallies) q ≡ number_at (λ (t : Tally). reading (change t)) tallies q
-unfolding number_at all_retallied
-number_at-all reading change [] q = refl
-number_at-all reading change (e ∷ tallies) q = by (nat_eq q e.0) (number_at-all reading change tallies q)
-  where
-    by : (b : Bool) → option_map_or reading (lookup (nat_eq q) (all_retallied change tallies)) 0 ≡ option_map_or (λ (t : Tally). reading (change t)) (lookup (nat_eq q) tallies) 0
-        → option_map_or reading (cond b (Some (change e.1)) (lookup (nat_eq q) (all_retallied change tallies))) 0 ≡ option_map_or (λ (t : Tally). reading (change t)) (cond b (Some e.1) (lookup (nat_eq q) tallies)) 0
-    by true ih = refl
-    by false ih = ih
-
--- a connection that is opened has no number yet that isn't 0
-pub number_at-push : (reading : Tally → ℕ) (conn : ℕ) (new : Tally) → reading new ≡ 0 → (tallies : List (ℕ × Tally)) (q : ℕ) → number_at reading (tallies ++ (conn, new) ∷ []) q ≡ number_at reading tallies q
-unfolding number_at
-number_at-push reading conn new none [] q = by (nat_eq q conn)
-  where
-    by : (b : Bool) → option_map_or reading (cond b (Some new) None) 0 ≡ 0
-    by true = none
-    by false = refl
-number_at-push reading conn new none (e ∷ tallies) q = by (nat_eq q e.0) (number_at-push reading conn new none tallies q)
-  where
-    by : (b : Bool) → option_map_or reading (lookup (nat_eq q) (tallies ++ (conn, new) ∷ [])) 0 ≡ option_map_or reading (lookup (nat_eq q) tallies) 0
-        → option_map_or reading (cond b (Some e.1) (lookup (nat_eq q) (tallies ++ (conn, new) ∷ []))) 0 ≡ option_map_or reading (cond b (Some e.1) (lookup (nat_eq q) tallies)) 0
-    by true ih = refl
-    by false ih = ih
 
 -- connections after a change
 pub connection_of-changed : (conn : ℕ) (change : Connection → Connection) → ((c : Connection) → (change c).conn ≡ c.conn) → (q : ℕ) (connections : List Connection)
@@ -183,17 +97,6 @@ connection_of-changed conn change keeps q (c ∷ connections) = by (conn == c.co
     by false pa true pb true pr ih = absurd (true≢false (sym (eq-eqb conn c.conn (eqb-true conn q pr ∙ eqb-true q c.conn pb)) ∙ pa))
     by false pa true pb false pr ih = ap (λ (x : Bool). cond x (Some c) (connection_of (changed conn change connections) q)) pb
     by false pa false pb r pr ih = ap (λ (x : Bool). cond x (Some c) (connection_of (changed conn change connections) q)) pb ∙ ih
-
-pub keys-changed : (conn : ℕ) (change : Connection → Connection) → ((c : Connection) → (change c).conn ≡ c.conn) → (connections : List Connection)
-    → map (λ (c : Connection). c.conn) (changed conn change connections) ≡ map (λ (c : Connection). c.conn) connections
-unfolding changed
-keys-changed conn change keeps [] = refl
-keys-changed conn change keeps (c ∷ connections) = by (keys-changed conn change keeps connections) (conn == c.conn)
-  where
-    by : map (λ (c : Connection). c.conn) (changed conn change connections) ≡ map (λ (c : Connection). c.conn) connections
-        → (b : Bool) → (if b then change c else c).conn ∷ map (λ (c : Connection). c.conn) (changed conn change connections) ≡ c.conn ∷ map (λ (c : Connection). c.conn) connections
-    by rest true = (λ i. keeps c i ∷ rest i)
-    by rest false = ap (λ (l : List ℕ). c.conn ∷ l) rest
 
 -- what a reading of connections gives after one of them was changed
 reading-same : {X : Type 0} (f : Connection → X) (d : X) (change : Connection → Connection) → ((c : Connection) → f (change c) ≡ f c) → (b : Bool) (o : Option Connection)
@@ -342,52 +245,3 @@ is_open-trimmed sends connections q =
     by None = refl
     by (Some c) = refl
 
-pub keys-trimmed : (sends : List Send) (connections : List Connection) → map (λ (c : Connection). c.conn) (trimmed_connections sends connections) ≡ map (λ (c : Connection). c.conn) connections
-unfolding trimmed_connections
-keys-trimmed sends [] = refl
-keys-trimmed sends (c ∷ connections) = ap (λ (l : List ℕ). c.conn ∷ l) (keys-trimmed sends connections)
-
-pub trimmed-none : (connections : List Connection) → trimmed_connections [] connections ≡ connections
-unfolding trimmed_connections
-trimmed-none [] = refl
-trimmed-none (c ∷ connections) = (λ i. record c { earlier = same i } ∷ trimmed-none connections i)
-  where
-    same : c.earlier + 0 ≡ c.earlier
-    same = omega arith
-
-pub trimmed-append : (xs ys : List Send) (connections : List Connection) → trimmed_connections (xs ++ ys) connections ≡ trimmed_connections ys (trimmed_connections xs connections)
-unfolding trimmed_connections
-trimmed-append xs ys [] = refl
-trimmed-append xs ys (c ∷ connections) = (λ i. record c { earlier = more i; passed = left i } ∷ trimmed-append xs ys connections i)
-  where
-    long : length (sent_to c.conn (xs ++ ys)) ≡ length (sent_to c.conn xs) + length (sent_to c.conn ys)
-    long = ap length (flat_map-append (λ (send : Send). if send.conn == c.conn then send.bytes else []) xs ys) ∙ length-append (sent_to c.conn xs) (sent_to c.conn ys)
-
-    more : c.earlier + length (sent_to c.conn (xs ++ ys)) ≡ c.earlier + length (sent_to c.conn xs) + length (sent_to c.conn ys)
-    more = omega (arith, long)
-
-    left : drop (length (sent_to c.conn (xs ++ ys))) c.passed ≡ drop (length (sent_to c.conn ys)) (drop (length (sent_to c.conn xs)) c.passed)
-    left = ap (λ (n : ℕ). drop n c.passed) long ∙ sym (drop-drop (length (sent_to c.conn ys)) (length (sent_to c.conn xs)) c.passed)
-
--- the oldest send is given up by its connection alone
-pub trimmed-one : (send : Send) (change : Connection → Connection) → ((c : Connection) → change c ≡ record c { earlier = c.earlier + length send.bytes; passed = drop (length send.bytes) c.passed })
-    → (connections : List Connection) → changed send.conn change connections ≡ trimmed_connections (send ∷ []) connections
-unfolding changed trimmed_connections
-trimmed-one send change is [] = refl
-trimmed-one send change is (c ∷ connections) = by (send.conn == c.conn) refl (trimmed-one send change is connections)
-  where
-    by : (b : Bool) → send.conn == c.conn ≡ b → changed send.conn change connections ≡ trimmed_connections (send ∷ []) connections
-        → (if b then change c else c) ∷ changed send.conn change connections ≡ trimmed_connection (send ∷ []) c ∷ trimmed_connections (send ∷ []) connections
-    by true p ih = (λ i. (is c ∙ sym (whole p)) i ∷ ih i)
-      where
-        whole : send.conn == c.conn ≡ true → trimmed_connection (send ∷ []) c ≡ record c { earlier = c.earlier + length send.bytes; passed = drop (length send.bytes) c.passed }
-        whole p =
-            let n : length (sent_to c.conn (send ∷ [])) ≡ length send.bytes = ap (λ (b : Bool). length ((if b then send.bytes else []) ++ [])) p ∙ ap length (append-nil send.bytes) in
-            (λ i. record c { earlier = c.earlier + n i; passed = drop (n i) c.passed })
-    by false p ih = (λ i. sym (none p) i ∷ ih i)
-      where
-        none : send.conn == c.conn ≡ false → trimmed_connection (send ∷ []) c ≡ c
-        none p =
-            let n : length (sent_to c.conn (send ∷ [])) ≡ 0 = ap (λ (b : Bool). length ((if b then send.bytes else []) ++ [])) p in
-            let e : c.earlier + length (sent_to c.conn (send ∷ [])) ≡ c.earlier = omega (arith, n) in
-            (λ i. record c { earlier = e i; passed = drop (n i) c.passed })

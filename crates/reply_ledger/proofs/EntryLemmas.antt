@@ -1,7 +1,6 @@
 -- Sends that lie in their connections' streams.
-use Rattle.reply_ledger.proofs.Terms.{Bool, List, None, Option, Some, [], ap, append-nil, append_assoc, arith, drop, false, get_or, if◌then◌else◌, inl, inr, is_some, length, length-append, map, refl, subst, suc, sym, take, true, zero, ℕ, ◌++◌, ◌+◌, ◌-◌, ◌<◌, ◌∙◌, ◌∷◌, ◌≡◌, ◌≤◌, get_or-append, get_or-append_seam, take-add, take-suc, cases_lt, eq-eqb, eqb-true, drop_all, get_or-drop, length-take-le, map-append, take-append-drop, take-append-le, take_all, flat_map-append, AllByRecursion, lookup, nat_eq, ◌==◌, ◌⊎◌, Send, sent_to, Entry, Connection, IsInOrder, NotBefore, bytes_of, connection_of, stamped_to, times_of, parts_behind, unpassed, trimmed_connections, Tally, connections_of, given_up_tally, number_at, retallied, tried_tally, rest_of, send_of, sends_of, stream_behind, Laid, earlier_at, part_of, sent_ends, tried_ends}
-use Rattle.reply_ledger.proofs.TallyLemmas.{retallied-none, number_at-none}
-use Rattle.reply_ledger.proofs.ConnectionLemmas.{number_at-set, number_at-same, connections_of-retallied, trimmed-one, trimmed-append, earlier_at-of, earlier_at-trimmed, unknown-of}
+use Rattle.reply_ledger.proofs.Terms.{Bool, List, [], add-one, ap, append-nil, append_assoc, arith, drop, false, get_or, if◌then◌else◌, inl, inr, length, length-append, map, refl, subst, suc, sym, take, true, zero, ℕ, ◌++◌, ◌+◌, ◌-◌, ◌<◌, ◌∙◌, ◌∷◌, ◌≡◌, ◌≤◌, drop-append_seam, drop-drop, get_or-append, get_or-append_seam, take-add, take-suc, cases_lt, eq-eqb, eqb-true, get_or-drop, length-take-le, map-append, take-append-drop, take-append-le, take_all, flat_map-append, AllByRecursion, ◌==◌, ◌⊎◌, Send, sent_to, Entry, Connection, IsInOrder, NotBefore, bytes_of, stamped_to, times_of, parts_behind, unpassed, Kept, passed_end, rest_of, send_of, sends_of, start_of, Laid, Writes, ending, given_up, is_known}
+use Rattle.reply_ledger.proofs.AccountLemmas.{put, put-same}
 use Rattle.reply_ledger.proofs.RunLemmas.{length-bytes_of}
 
 pub sends_of-append : (xs ys : List Entry) → sends_of (xs ++ ys) ≡ sends_of xs ++ sends_of ys
@@ -96,237 +95,199 @@ later-at (e ∷ entries) zero (suc k) d h le lt = all-at entries k h.0 (omega ar
 later-at (e ∷ entries) (suc i) zero d h le lt = absurd (omega arith)
 later-at (e ∷ entries) (suc i) (suc k) d h le lt = later-at entries i k d h.1 (omega arith) (omega arith)
 
--- the same places and ends, said otherwise
-pub laid-same : {earlier finish earlier' finish' : ℕ → ℕ} {entries : List Entry} → ((c : ℕ) → earlier' c ≡ earlier c) → ((c : ℕ) → finish' c ≡ finish c) → Laid earlier finish entries → Laid earlier' finish' entries
-laid-same {entries = entries} e f h = record {
-  places = λ k d lt. h.places k d lt ∙ ap (λ (n : ℕ). n + length (sent_to (get_or entries k d).conn (sends_of (take k entries)))) (sym (e (get_or entries k d).conn));
-  ends = λ c. f c ∙ h.ends c ∙ ap (λ (n : ℕ). n + length (sent_to c (sends_of entries))) (sym (e c));
+-- the same places, said otherwise
+pub laid-same : {A A' : ℕ → Kept} {K K' : List ℕ} {E : List Entry} → ((q : ℕ) → (A' q).earlier ≡ (A q).earlier) → ((q : ℕ) → is_known K q ≡ true → is_known K' q ≡ true) → Laid A K E → Laid A' K' E
+laid-same {E = E} e more h = record {
+  known = λ k d lt. more (get_or E k d).conn (h.known k d lt);
+  places = λ k d lt. h.places k d lt ∙ ap (λ (n : ℕ). n + length (sent_to (get_or E k d).conn (sends_of (take (suc k) E)))) (sym (e (get_or E k d).conn));
   times = h.times;
 }
 
-pub laid-none : (earlier finish : ℕ → ℕ) → ((c : ℕ) → finish c ≡ earlier c) → Laid earlier finish []
+pub laid-none : (A : ℕ → Kept) (K : List ℕ) → Laid A K []
 unfolding sends_of times_of
-laid-none earlier finish f = record { places = λ k d lt. absurd (omega arith); ends = λ c. f c ∙ (let e : earlier c ≡ earlier c + 0 = omega arith in e); times = tt }
+laid-none A K = record { known = λ k d lt. absurd (omega arith); places = λ k d lt. absurd (omega arith); times = tt }
 
 -- one more send
-pub laid-push : {earlier finish finish' : ℕ → ℕ} (entries : List Entry) (e : Entry) → Laid earlier finish entries → e.start ≡ finish e.conn → NotBefore e.taken (times_of (sends_of entries))
-    → ((c : ℕ) → finish' c ≡ (if e.conn == c then finish c + length e.bytes else finish c)) → Laid earlier finish' (entries ++ e ∷ [])
-laid-push {earlier = earlier} {finish = finish} {finish' = finish'} entries e h s n f = record {
-  places = λ k d lt. place k d (cases_lt k (length entries)) lt;
-  ends = λ c. ends c (e.conn == c) refl;
-  times = subst IsInOrder (sym (times-parts entries (e ∷ []) ∙ ap (λ (l : List ℕ). times_of (sends_of entries) ++ l) (times-one e))) (order-push (times_of (sends_of entries)) e.taken h.times n);
+pub laid-push : {A : ℕ → Kept} {K : List ℕ} {E : List Entry} (e : Entry) → Laid A K E → is_known K e.conn ≡ true → e.end ≡ (A e.conn).earlier + length (sent_to e.conn (sends_of E)) + length e.bytes → NotBefore e.taken (times_of (sends_of E))
+    → Laid A K (E ++ e ∷ [])
+laid-push {A = A} {K = K} {E = E} e h known s n = record {
+  known = λ k d lt. place (λ (x : Entry) (l : List Entry). is_known K x.conn ≡ true) k d (cases_lt k (length E)) lt (λ below. h.known k d below) known;
+  places = λ k d lt. place (λ (x : Entry) (l : List Entry). x.end ≡ (A x.conn).earlier + length (sent_to x.conn (sends_of l))) k d (cases_lt k (length E)) lt (λ below. h.places k d below) last;
+  times = subst IsInOrder (sym (times-parts E (e ∷ []) ∙ ap (λ (l : List ℕ). times_of (sends_of E) ++ l) (times-one e))) (order-push (times_of (sends_of E)) e.taken h.times n);
 }
   where
-    place : (k : ℕ) (d : Entry) → (k < length entries) ⊎ (length entries ≤ k) → k < length (entries ++ e ∷ [])
-        → (get_or (entries ++ e ∷ []) k d).start ≡ earlier (get_or (entries ++ e ∷ []) k d).conn + length (sent_to (get_or (entries ++ e ∷ []) k d).conn (sends_of (take k (entries ++ e ∷ []))))
-    place k d (inl lt) within =
-        let same = get_or-append entries (e ∷ []) d k lt in
-        let front : take k (entries ++ e ∷ []) ≡ take k entries = take-append-le k entries (e ∷ []) (omega arith) in
-        subst (λ (x : Entry). x.start ≡ earlier x.conn + length (sent_to x.conn (sends_of (take k (entries ++ e ∷ []))))) (sym same)
-        (h.places k d lt ∙ ap (λ (l : List Entry). earlier (get_or entries k d).conn + length (sent_to (get_or entries k d).conn (sends_of l))) (sym front))
-    place k d (inr ge) within =
-        let at : k ≡ length entries = omega (arith, ge, within, length-append entries (e ∷ [])) in
-        let same : get_or (entries ++ e ∷ []) k d ≡ e = ap (λ (n : ℕ). get_or (entries ++ e ∷ []) n d) at ∙ get_or-append_seam entries e [] d in
-        let front : take k (entries ++ e ∷ []) ≡ entries = take-append-le k entries (e ∷ []) (omega (arith, at)) ∙ take_all k entries (omega (arith, at)) in
-        subst (λ (x : Entry). x.start ≡ earlier x.conn + length (sent_to x.conn (sends_of (take k (entries ++ e ∷ []))))) (sym same)
-        (s ∙ h.ends e.conn ∙ ap (λ (l : List Entry). earlier e.conn + length (sent_to e.conn (sends_of l))) (sym front))
+    last : e.end ≡ (A e.conn).earlier + length (sent_to e.conn (sends_of (E ++ e ∷ [])))
+    last =
+        let one : length (sent_to e.conn (sends_of (e ∷ []))) ≡ length e.bytes = length_one e.conn e ∙ ap (λ (b : Bool). if b then length e.bytes else 0) (eq-eqb e.conn e.conn refl) in
+        omega (arith, s, one, length_parts e.conn E (e ∷ []))
 
-    ends : (c : ℕ) (b : Bool) → e.conn == c ≡ b → finish' c ≡ earlier c + length (sent_to c (sends_of (entries ++ e ∷ [])))
-    ends c true p =
-        let one : length (sent_to c (sends_of (e ∷ []))) ≡ length e.bytes = length_one c e ∙ ap (λ (b : Bool). if b then length e.bytes else 0) p in
-        let new : finish' c ≡ finish c + length e.bytes = f c ∙ ap (λ (b : Bool). if b then finish c + length e.bytes else finish c) p in
-        omega (arith, new, one, h.ends c, length_parts c entries (e ∷ []))
-    ends c false p =
-        let one : length (sent_to c (sends_of (e ∷ []))) ≡ 0 = length_one c e ∙ ap (λ (b : Bool). if b then length e.bytes else 0) p in
-        let new : finish' c ≡ finish c = f c ∙ ap (λ (b : Bool). if b then finish c + length e.bytes else finish c) p in
-        omega (arith, new, one, h.ends c, length_parts c entries (e ∷ []))
+    place : (P : Entry → List Entry → Type 0) (k : ℕ) (d : Entry) → (k < length E) ⊎ (length E ≤ k) → k < length (E ++ e ∷ [])
+        → (k < length E → P (get_or E k d) (take (suc k) E)) → P e (E ++ e ∷ []) → P (get_or (E ++ e ∷ []) k d) (take (suc k) (E ++ e ∷ []))
+    place P k d (inl lt) within old new =
+        let same = get_or-append E (e ∷ []) d k lt in
+        let front : take (suc k) (E ++ e ∷ []) ≡ take (suc k) E = take-append-le (suc k) E (e ∷ []) (omega (arith, lt)) in
+        subst (λ (x : Entry). P x (take (suc k) (E ++ e ∷ []))) (sym same) (subst (P (get_or E k d)) (sym front) (old lt))
+    place P k d (inr ge) within old new =
+        let at : k ≡ length E = omega (arith, ge, within, length-append E (e ∷ [])) in
+        let same : get_or (E ++ e ∷ []) k d ≡ e = ap (λ (n : ℕ). get_or (E ++ e ∷ []) n d) at ∙ get_or-append_seam E e [] d in
+        let front : take (suc k) (E ++ e ∷ []) ≡ E ++ e ∷ [] = take_all (suc k) (E ++ e ∷ []) (omega (arith, at, length-append E (e ∷ []))) in
+        subst (λ (x : Entry). P x (take (suc k) (E ++ e ∷ []))) (sym same) (subst (P e) (sym front) new)
 
 -- the first so many sends
-pub laid-take : {earlier finish finish' : ℕ → ℕ} (entries : List Entry) (n : ℕ) → Laid earlier finish entries
-    → ((c : ℕ) → finish' c ≡ earlier c + length (sent_to c (sends_of (take n entries)))) → Laid earlier finish' (take n entries)
-laid-take {earlier = earlier} entries n h f = record {
-  places = λ k d lt. place k d lt;
-  ends = f;
-  times = order-front (times_of (sends_of (take n entries))) (times_of (sends_of (drop n entries))) (subst IsInOrder (ap (λ (l : List Entry). times_of (sends_of l)) (sym (take-append-drop n entries)) ∙ times-parts (take n entries) (drop n entries)) h.times);
+pub laid-take : {A : ℕ → Kept} {K : List ℕ} (E : List Entry) (n : ℕ) → Laid A K E → Laid A K (take n E)
+laid-take {A = A} {K = K} E n h = record {
+  known = λ k d lt. subst (λ (x : Entry). is_known K x.conn ≡ true) (same k d lt) (h.known k d (within k lt));
+  places = λ k d lt.
+      let front : take (suc k) E ≡ take (suc k) (take n E) = ap (take (suc k)) (sym whole) ∙ take-append-le (suc k) (take n E) (drop n E) (omega (arith, lt)) in
+      subst (λ (x : Entry). x.end ≡ (A x.conn).earlier + length (sent_to x.conn (sends_of (take (suc k) (take n E))))) (same k d lt)
+      (h.places k d (within k lt) ∙ ap (λ (l : List Entry). (A (get_or E k d).conn).earlier + length (sent_to (get_or E k d).conn (sends_of l))) front);
+  times = order-front (times_of (sends_of (take n E))) (times_of (sends_of (drop n E))) (subst IsInOrder (ap (λ (l : List Entry). times_of (sends_of l)) (sym whole) ∙ times-parts (take n E) (drop n E)) h.times);
 }
   where
-    whole : take n entries ++ drop n entries ≡ entries
-    whole = take-append-drop n entries
+    whole : take n E ++ drop n E ≡ E
+    whole = take-append-drop n E
 
-    place : (k : ℕ) (d : Entry) → k < length (take n entries)
-        → (get_or (take n entries) k d).start ≡ earlier (get_or (take n entries) k d).conn + length (sent_to (get_or (take n entries) k d).conn (sends_of (take k (take n entries))))
-    place k d lt =
-        let same : get_or entries k d ≡ get_or (take n entries) k d = ap (λ (l : List Entry). get_or l k d) (sym whole) ∙ get_or-append (take n entries) (drop n entries) d k lt in
-        let front : take k entries ≡ take k (take n entries) = ap (take k) (sym whole) ∙ take-append-le k (take n entries) (drop n entries) (omega arith) in
-        let long : length (take n entries) + length (drop n entries) ≡ length entries = sym (length-append (take n entries) (drop n entries)) ∙ ap length whole in
-        subst (λ (x : Entry). x.start ≡ earlier x.conn + length (sent_to x.conn (sends_of (take k (take n entries))))) same
-        (h.places k d (omega (arith, lt, long)) ∙ ap (λ (l : List Entry). earlier (get_or entries k d).conn + length (sent_to (get_or entries k d).conn (sends_of l))) front)
+    same : (k : ℕ) (d : Entry) → k < length (take n E) → get_or E k d ≡ get_or (take n E) k d
+    same k d lt = ap (λ (l : List Entry). get_or l k d) (sym whole) ∙ get_or-append (take n E) (drop n E) d k lt
+
+    within : (k : ℕ) → k < length (take n E) → k < length E
+    within k lt = omega (arith, lt, length-append (take n E) (drop n E), ap length whole)
+
+-- what sends have for a connection, in two parts
+pub parts_at : (q n : ℕ) (E : List Entry) → sent_to q (sends_of E) ≡ sent_to q (sends_of (take n E)) ++ sent_to q (sends_of (drop n E))
+parts_at q n E = ap (λ (l : List Entry). sent_to q (sends_of l)) (sym (take-append-drop n E)) ∙ of_parts q (take n E) (drop n E)
+
+pub lengths_at : (q n : ℕ) (E : List Entry) → length (sent_to q (sends_of E)) ≡ length (sent_to q (sends_of (take n E))) + length (sent_to q (sends_of (drop n E)))
+lengths_at q n E = ap length (parts_at q n E) ∙ length-append (sent_to q (sends_of (take n E))) (sent_to q (sends_of (drop n E)))
+
+pub behind_front : (q n : ℕ) (E : List Entry) → drop (length (sent_to q (sends_of (take n E)))) (sent_to q (sends_of E)) ≡ sent_to q (sends_of (drop n E))
+behind_front q n E = ap (drop (length (sent_to q (sends_of (take n E))))) (parts_at q n E) ∙ drop-append_seam (sent_to q (sends_of (take n E))) (sent_to q (sends_of (drop n E)))
+
+-- one send more of the first ones
+pub one_more : (q n : ℕ) (d : Entry) (E : List Entry) → n < length E → length (sent_to q (sends_of (take (suc n) E))) ≡ length (sent_to q (sends_of (take n E))) + (if (get_or E n d).conn == q then length (get_or E n d).bytes else 0)
+one_more q n d E lt =
+    ap (λ (l : List Entry). length (sent_to q (sends_of l))) (take-suc E n d lt) ∙ length_parts q (take n E) (get_or E n d ∷ [])
+    ∙ ap (λ (m : ℕ). length (sent_to q (sends_of (take n E))) + m) (length_one q (get_or E n d))
 
 -- without the oldest sends
-pub laid-drop : {earlier finish earlier' : ℕ → ℕ} (entries : List Entry) (n : ℕ) → Laid earlier finish entries → n ≤ length entries
-    → ((c : ℕ) → earlier' c ≡ earlier c + length (sent_to c (sends_of (take n entries)))) → Laid earlier' finish (drop n entries)
-laid-drop {earlier = earlier} {finish = finish} {earlier' = earlier'} entries n h le f = record {
-  places = λ k d lt. place k d lt;
-  ends = λ c. omega (arith, h.ends c, f c, total c);
-  times = order-behind (times_of (sends_of (take n entries))) (times_of (sends_of (drop n entries))) (subst IsInOrder (ap (λ (l : List Entry). times_of (sends_of l)) (sym (take-append-drop n entries)) ∙ times-parts (take n entries) (drop n entries)) h.times);
+pub laid-drop : {A A' : ℕ → Kept} {K : List ℕ} (E : List Entry) (n : ℕ) → Laid A K E → n ≤ length E → ((q : ℕ) → (A' q).earlier ≡ (A q).earlier + length (sent_to q (sends_of (take n E)))) → Laid A' K (drop n E)
+laid-drop {A = A} {A' = A'} {K = K} E n h le f = record {
+  known = λ k d lt. subst (λ (x : Entry). is_known K x.conn ≡ true) (same k d) (h.known (n + k) d (within k lt));
+  places = λ k d lt.
+      let moved : (get_or (drop n E) k d).end ≡ (A (get_or (drop n E) k d).conn).earlier + length (sent_to (get_or (drop n E) k d).conn (sends_of (take (suc (n + k)) E))) =
+      subst (λ (x : Entry). x.end ≡ (A x.conn).earlier + length (sent_to x.conn (sends_of (take (suc (n + k)) E)))) (same k d) (h.places (n + k) d (within k lt)) in
+      let sum : suc (n + k) ≡ n + suc k = omega arith in
+      let parts = ap (λ (l : List Entry). length (sent_to (get_or (drop n E) k d).conn (sends_of l))) (ap (λ (m : ℕ). take m E) sum ∙ take-add n (suc k) E) ∙ length_parts (get_or (drop n E) k d).conn (take n E) (take (suc k) (drop n E)) in
+      omega (arith, moved, parts, f (get_or (drop n E) k d).conn);
+  times = order-behind (times_of (sends_of (take n E))) (times_of (sends_of (drop n E))) (subst IsInOrder (ap (λ (l : List Entry). times_of (sends_of l)) (sym (take-append-drop n E)) ∙ times-parts (take n E) (drop n E)) h.times);
 }
   where
-    whole : take n entries ++ drop n entries ≡ entries
-    whole = take-append-drop n entries
+    same : (k : ℕ) (d : Entry) → get_or E (n + k) d ≡ get_or (drop n E) k d
+    same k d = sym (get_or-drop n E k d)
 
-    total : (c : ℕ) → length (sent_to c (sends_of (take n entries))) + length (sent_to c (sends_of (drop n entries))) ≡ length (sent_to c (sends_of entries))
-    total c = sym (length_parts c (take n entries) (drop n entries)) ∙ ap (λ (l : List Entry). length (sent_to c (sends_of l))) whole
+    within : (k : ℕ) → k < length (drop n E) → n + k < length E
+    within k lt = omega (arith, lt, length-append (take n E) (drop n E), ap length (take-append-drop n E), length-take-le n E le)
 
-    long : length (take n entries) + length (drop n entries) ≡ length entries
-    long = sym (length-append (take n entries) (drop n entries)) ∙ ap length whole
-
-    front_long : length (take n entries) ≡ n
-    front_long = length-take-le n entries le
-
-    place : (k : ℕ) (d : Entry) → k < length (drop n entries)
-        → (get_or (drop n entries) k d).start ≡ earlier' (get_or (drop n entries) k d).conn + length (sent_to (get_or (drop n entries) k d).conn (sends_of (take k (drop n entries))))
-    place k d lt =
-        let same : get_or entries (n + k) d ≡ get_or (drop n entries) k d = sym (get_or-drop n entries k d) in
-        let at = h.places (n + k) d (omega (arith, lt, long, front_long)) in
-        let x : Entry = get_or (drop n entries) k d in
-        let moved : (get_or (drop n entries) k d).start ≡ earlier (get_or (drop n entries) k d).conn + length (sent_to (get_or (drop n entries) k d).conn (sends_of (take (n + k) entries))) =
-        subst (λ (x : Entry). x.start ≡ earlier x.conn + length (sent_to x.conn (sends_of (take (n + k) entries)))) same at in
-        let parts = ap (λ (l : List Entry). length (sent_to (get_or (drop n entries) k d).conn (sends_of l))) (take-add n k entries) ∙ length_parts (get_or (drop n entries) k d).conn (take n entries) (take k (drop n entries)) in
-        omega (arith, moved, parts, f (get_or (drop n entries) k d).conn)
+-- one more send of those that are being written
+pub writes-push : {A : ℕ → Kept} {K : List ℕ} {W : List Entry} (e : Entry) → Writes A K W → is_known K e.conn ≡ true → e.end ≡ (A e.conn).end + length e.bytes → NotBefore e.taken (times_of (sends_of W))
+    → Writes (put A e.conn (record (A e.conn) { end = e.end })) K (W ++ e ∷ [])
+writes-push {A = A} {K = K} {W = W} e h known s n = record {
+  laid = laid-same (put-same (λ (k : Kept). k.earlier) A e.conn (record (A e.conn) { end = e.end }) refl) (λ q x. x) (laid-push e h.laid known (omega (arith, s, h.ends e.conn)) n);
+  ends = λ q. ends q (e.conn == q) refl;
+}
+  where
+    ends : (q : ℕ) (b : Bool) → e.conn == q ≡ b → (if b then record (A e.conn) { end = e.end } else A q).end ≡ (if b then record (A e.conn) { end = e.end } else A q).earlier + length (sent_to q (sends_of (W ++ e ∷ [])))
+    ends q true p =
+        let one : length (sent_to e.conn (sends_of (e ∷ []))) ≡ length e.bytes = length_one e.conn e ∙ ap (λ (b : Bool). if b then length e.bytes else 0) (eq-eqb e.conn e.conn refl) in
+        let all : e.end ≡ (A e.conn).earlier + length (sent_to e.conn (sends_of (W ++ e ∷ []))) = omega (arith, s, one, h.ends e.conn, length_parts e.conn W (e ∷ [])) in
+        all ∙ ap (λ (c : ℕ). (A e.conn).earlier + length (sent_to c (sends_of (W ++ e ∷ [])))) (eqb-true e.conn q p)
+    ends q false p =
+        let one : length (sent_to q (sends_of (e ∷ []))) ≡ 0 = length_one q e ∙ ap (λ (b : Bool). if b then length e.bytes else 0) p in
+        omega (arith, one, h.ends q, length_parts q W (e ∷ []))
 
 -- the unpassed parts of sends
-pub parts-laid : (connections : List Connection) (front entries : List Entry)
-    → ((k : ℕ) (d : Entry) → k < length entries → (get_or entries k d).start ≡ earlier_at connections (get_or entries k d).conn + length (sent_to (get_or entries k d).conn (sends_of (front ++ take k entries))))
-    → parts_behind connections (sends_of front) (sends_of entries) ≡ map (part_of connections) entries
+pub parts-laid : (C : List Connection) (A : ℕ → Kept) → ((q : ℕ) → length (stamped_to C q) ≡ length (A q).stamps) → (front E : List Entry)
+    → ((k : ℕ) (d : Entry) → k < length E → (get_or E k d).end ≡ (A (get_or E k d).conn).earlier + length (sent_to (get_or E k d).conn (sends_of (front ++ take (suc k) E))))
+    → parts_behind C (sends_of front) (sends_of E) ≡ map (λ (e : Entry). record { conn = e.conn; bytes = rest_of (passed_end (A e.conn)) e; taken = e.taken }) E
 unfolding parts_behind unpassed sends_of
-parts-laid connections front [] h = refl
-parts-laid connections front (e ∷ entries) h =
-    let none = ap (λ (l : List Entry). length (sent_to e.conn (sends_of l))) (append-nil front) in
-    let at : e.start ≡ earlier_at connections e.conn + length (sent_to e.conn (sends_of front)) = h 0 e (omega arith) ∙ ap (λ (n : ℕ). earlier_at connections e.conn + n) none in
-    let place : length (bytes_of (stamped_to connections e.conn)) - length (sent_to e.conn (sends_of front)) ≡ earlier_at connections e.conn + length (stamped_to connections e.conn) - e.start =
-    omega (arith, at, length-bytes_of (stamped_to connections e.conn)) in
-    let rest : (k : ℕ) (d : Entry) → k < length entries → (get_or entries k d).start ≡ earlier_at connections (get_or entries k d).conn + length (sent_to (get_or entries k d).conn (sends_of ((front ++ e ∷ []) ++ take k entries))) =
-    λ (k : ℕ) (d : Entry) (lt : k < length entries). h (suc k) d (omega arith) ∙ ap (λ (l : List Entry). earlier_at connections (get_or entries k d).conn + length (sent_to (get_or entries k d).conn (sends_of l))) (sym (append_assoc front (e ∷ []) (take k entries))) in
-    (λ i. (record { conn = e.conn; bytes = drop (place i) e.bytes; taken = e.taken }) ∷ (ap (λ (l : List Send). parts_behind connections l (sends_of entries)) (sym (sends_of-append front (e ∷ []))) ∙ parts-laid connections (front ++ e ∷ []) entries rest) i)
-
--- the rest of a connection's stream
-drop-append : {X : Type 0} (n : ℕ) (xs ys : List X) → drop n (xs ++ ys) ≡ drop n xs ++ drop (n - length xs) ys
-drop-append zero [] ys = refl
-drop-append zero (x ∷ xs) ys = ap (λ (n : ℕ). x ∷ xs ++ drop n ys) (let e : 0 ≡ 0 - suc (length xs) = omega arith in e)
-drop-append (suc n) [] ys = ap (λ (m : ℕ). drop m ys) (let e : suc n ≡ suc n - 0 = omega arith in e)
-drop-append (suc n) (x ∷ xs) ys = drop-append n xs ys ∙ ap (λ (m : ℕ). drop n xs ++ drop m ys) (let e : n - length xs ≡ suc n - suc (length xs) = omega arith in e)
-
-pub stream-laid : (earlier : ℕ → ℕ) (conn at : ℕ) (front entries : List Entry)
-    → ((k : ℕ) (d : Entry) → k < length entries → (get_or entries k d).start ≡ earlier (get_or entries k d).conn + length (sent_to (get_or entries k d).conn (sends_of (front ++ take k entries))))
-    → stream_behind conn at entries ≡ drop (at - earlier conn - length (sent_to conn (sends_of front))) (sent_to conn (sends_of entries))
-unfolding stream_behind sends_of
-stream-laid earlier conn at front [] h = sym (drop_all (at - earlier conn - length (sent_to conn (sends_of front))) [] (omega arith))
-stream-laid earlier conn at front (e ∷ entries) h = by (e.conn == conn) refl (stream-laid earlier conn at (front ++ e ∷ []) entries rest)
-  where
-    rest : (k : ℕ) (d : Entry) → k < length entries → (get_or entries k d).start ≡ earlier (get_or entries k d).conn + length (sent_to (get_or entries k d).conn (sends_of ((front ++ e ∷ []) ++ take k entries)))
-    rest k d lt = h (suc k) d (omega arith) ∙ ap (λ (l : List Entry). earlier (get_or entries k d).conn + length (sent_to (get_or entries k d).conn (sends_of l))) (sym (append_assoc front (e ∷ []) (take k entries)))
-
-    start : e.start ≡ earlier e.conn + length (sent_to e.conn (sends_of front))
-    start = h 0 e (omega arith) ∙ ap (λ (l : List Entry). earlier e.conn + length (sent_to e.conn (sends_of l))) (append-nil front)
-
-    by : (b : Bool) → e.conn == conn ≡ b → stream_behind conn at entries ≡ drop (at - earlier conn - length (sent_to conn (sends_of (front ++ e ∷ [])))) (sent_to conn (sends_of entries))
-        → (if b then rest_of at e else []) ++ stream_behind conn at entries ≡ drop (at - earlier conn - length (sent_to conn (sends_of front))) ((if b then e.bytes else []) ++ sent_to conn (sends_of entries))
-    by true p ih =
-        let same : e.conn ≡ conn = eqb-true e.conn conn p in
-        let one : length (sent_to conn (sends_of (e ∷ []))) ≡ length e.bytes = length_one conn e ∙ ap (λ (b : Bool). if b then length e.bytes else 0) p in
-        let at_start : e.start ≡ earlier conn + length (sent_to conn (sends_of front)) = start ∙ ap (λ (n : ℕ). earlier n + length (sent_to n (sends_of front))) same in
-        let here : at - e.start ≡ at - earlier conn - length (sent_to conn (sends_of front)) = omega (arith, at_start) in
-        let there : at - earlier conn - length (sent_to conn (sends_of (front ++ e ∷ []))) ≡ at - earlier conn - length (sent_to conn (sends_of front)) - length e.bytes = omega (arith, length_parts conn front (e ∷ []), one) in
-        ap (λ (n : ℕ). drop n e.bytes ++ stream_behind conn at entries) here
-        ∙ ap (λ (l : List ℕ). drop (at - earlier conn - length (sent_to conn (sends_of front))) e.bytes ++ l) (ih ∙ ap (λ (n : ℕ). drop n (sent_to conn (sends_of entries))) there)
-        ∙ sym (drop-append (at - earlier conn - length (sent_to conn (sends_of front))) e.bytes (sent_to conn (sends_of entries)))
-    by false p ih =
-        let one : length (sent_to conn (sends_of (e ∷ []))) ≡ 0 = length_one conn e ∙ ap (λ (b : Bool). if b then length e.bytes else 0) p in
-        let there : at - earlier conn - length (sent_to conn (sends_of (front ++ e ∷ []))) ≡ at - earlier conn - length (sent_to conn (sends_of front)) = omega (arith, length_parts conn front (e ∷ []), one) in
-        ih ∙ ap (λ (n : ℕ). drop n (sent_to conn (sends_of entries))) there
-
--- sends that have nothing of a connection at or past a place don't count
-pub stream-from : (conn at from : ℕ) (entries : List Entry) → ((k : ℕ) (d : Entry) → k < from → k < length entries → (get_or entries k d).conn ≡ conn → rest_of at (get_or entries k d) ≡ [])
-    → stream_behind conn at (drop from entries) ≡ stream_behind conn at entries
-unfolding stream_behind
-stream-from conn at zero entries h = refl
-stream-from conn at (suc from) [] h = refl
-stream-from conn at (suc from) (e ∷ entries) h =
-    stream-from conn at from entries (λ k d lt within same. h (suc k) d (omega arith) (omega arith) same) ∙ by (e.conn == conn) refl
-  where
-    by : (b : Bool) → e.conn == conn ≡ b → stream_behind conn at entries ≡ (if b then rest_of at e else []) ++ stream_behind conn at entries
-    by true p = ap (λ (l : List ℕ). l ++ stream_behind conn at entries) (sym (h 0 e (omega arith) (omega arith) (eqb-true e.conn conn p)))
-    by false p = refl
-
--- a connection with no bytes has no send with bytes
-pub no_bytes : (conn : ℕ) (entries : List Entry) → length (sent_to conn (sends_of entries)) ≡ 0 → (k : ℕ) (d : Entry) → k < length entries → (get_or entries k d).conn ≡ conn → length (get_or entries k d).bytes ≡ 0
-no_bytes conn [] h k d lt same = absurd (omega arith)
-no_bytes conn (e ∷ entries) h zero d lt same =
-    let one : length (sent_to conn (sends_of (e ∷ []))) ≡ length e.bytes = length_one conn e ∙ ap (λ (b : Bool). if b then length e.bytes else 0) (eq-eqb e.conn conn same) in
-    omega (arith, h, one, length_parts conn (e ∷ []) entries)
-no_bytes conn (e ∷ entries) h (suc k) d lt same = no_bytes conn entries (omega (arith, h, length_parts conn (e ∷ []) entries)) k d (omega arith) same
-
--- one send less of the trial's: its connection's stream ends where it began
-pub rewound : (tallies : List (ℕ × Tally)) (earlier : ℕ → ℕ) (entries : List Entry) (i : ℕ) (e : Entry) → suc i ≤ length entries → e ≡ get_or entries i e
-    → e.start ≡ earlier e.conn + length (sent_to e.conn (sends_of (take i entries)))
-    → ((c : ℕ) → tried_ends tallies c ≡ earlier c + length (sent_to c (sends_of (take (suc i) entries))))
-    → (c : ℕ) → tried_ends (retallied e.conn (tried_tally e.start) tallies) c ≡ earlier c + length (sent_to c (sends_of (take i entries)))
-rewound tallies earlier entries i e le is start h c = by (lookup (nat_eq e.conn) tallies) refl (e.conn == c) refl
-  where
-    front : take (suc i) entries ≡ take i entries ++ e ∷ []
-    front = take-suc entries i e le ∙ ap (λ (x : Entry). take i entries ++ x ∷ []) (sym is)
-
-    long : length (sent_to c (sends_of (take (suc i) entries))) ≡ length (sent_to c (sends_of (take i entries))) + length (sent_to c (sends_of (e ∷ [])))
-    long = ap (λ (l : List Entry). length (sent_to c (sends_of l))) front ∙ length_parts c (take i entries) (e ∷ [])
-
-    by : (o : Option Tally) → lookup (nat_eq e.conn) tallies ≡ o → (b : Bool) → e.conn == c ≡ b
-        → tried_ends (retallied e.conn (tried_tally e.start) tallies) c ≡ earlier c + length (sent_to c (sends_of (take i entries)))
-    by None k true p =
-        let same : tried_ends (retallied e.conn (tried_tally e.start) tallies) c ≡ tried_ends tallies c = ap (λ (t : List (ℕ × Tally)). tried_ends t c) (retallied-none e.conn (tried_tally e.start) tallies k) in
-        let none : tried_ends tallies c ≡ 0 = ap (tried_ends tallies) (sym (eqb-true e.conn c p)) ∙ number_at-none (λ (t : Tally). t.tried) tallies e.conn (sym k) in
-        omega (arith, same, none, h c, long)
-    by None k false p =
-        let same : tried_ends (retallied e.conn (tried_tally e.start) tallies) c ≡ tried_ends tallies c = ap (λ (t : List (ℕ × Tally)). tried_ends t c) (retallied-none e.conn (tried_tally e.start) tallies k) in
-        let one : length (sent_to c (sends_of (e ∷ []))) ≡ 0 = length_one c e ∙ ap (λ (b : Bool). if b then length e.bytes else 0) p in
-        omega (arith, same, h c, long, one)
-    by (Some t) k true p =
-        let new : tried_ends (retallied e.conn (tried_tally e.start) tallies) c ≡ e.start = number_at-set (λ (t : Tally). t.tried) e.conn e.start (tried_tally e.start) (λ t. refl) tallies (ap is_some k) c ∙ ap (λ (b : Bool). if b then e.start else tried_ends tallies c) p in
-        new ∙ start ∙ ap (λ (n : ℕ). earlier n + length (sent_to n (sends_of (take i entries)))) (eqb-true e.conn c p)
-    by (Some t) k false p =
-        let new : tried_ends (retallied e.conn (tried_tally e.start) tallies) c ≡ tried_ends tallies c = number_at-set (λ (t : Tally). t.tried) e.conn e.start (tried_tally e.start) (λ t. refl) tallies (ap is_some k) c ∙ ap (λ (b : Bool). if b then e.start else tried_ends tallies c) p in
-        let one : length (sent_to c (sends_of (e ∷ []))) ≡ 0 = length_one c e ∙ ap (λ (b : Bool). if b then length e.bytes else 0) p in
-        omega (arith, new, h c, long, one)
-
--- the oldest send is given up
-pub oldest-gone : (tallies : List (ℕ × Tally)) (e : Entry) → connections_of (retallied e.conn (given_up_tally (length e.bytes)) tallies) ≡ trimmed_connections (sends_of (e ∷ [])) (connections_of tallies)
-unfolding sends_of
-oldest-gone tallies e =
-    connections_of-retallied e.conn (given_up_tally (length e.bytes)) (λ (c : Connection). record c { earlier = c.earlier + length e.bytes; passed = drop (length e.bytes) c.passed }) (λ t. refl) tallies
-    ∙ trimmed-one (send_of e) _ (λ c. refl) (connections_of tallies)
-
--- what is kept of connections when a send is the oldest of those that lie in their streams
-pub oldest-fits : (tallies : List (ℕ × Tally)) (e : Entry) (entries : List Entry) → Laid (earlier_at (connections_of tallies)) (sent_ends tallies) (e ∷ entries)
-    → number_at (λ (t : Tally). t.earlier) tallies e.conn + length e.bytes ≤ sent_ends tallies e.conn
-oldest-fits tallies e entries h =
+parts-laid C A long front [] h = refl
+parts-laid C A long front (e ∷ E) h =
     let one : length (sent_to e.conn (sends_of (e ∷ []))) ≡ length e.bytes = length_one e.conn e ∙ ap (λ (b : Bool). if b then length e.bytes else 0) (eq-eqb e.conn e.conn refl) in
-    omega (arith, h.ends e.conn, one, length_parts e.conn (e ∷ []) entries, earlier_at-of tallies e.conn)
+    let place : length (bytes_of (stamped_to C e.conn)) - length (sent_to e.conn (sends_of front)) ≡ passed_end (A e.conn) - start_of e =
+    omega (arith, h 0 e (omega arith), one, length_parts e.conn front (e ∷ []), length-bytes_of (stamped_to C e.conn), long e.conn) in
+    let rest : (k : ℕ) (d : Entry) → k < length E → (get_or E k d).end ≡ (A (get_or E k d).conn).earlier + length (sent_to (get_or E k d).conn (sends_of ((front ++ e ∷ []) ++ take (suc k) E))) =
+    λ (k : ℕ) (d : Entry) (lt : k < length E). h (suc k) d (omega arith) ∙ ap (λ (l : List Entry). (A (get_or E k d).conn).earlier + length (sent_to (get_or E k d).conn (sends_of l))) (sym (append_assoc front (e ∷ []) (take (suc k) E))) in
+    (λ i. (record { conn = e.conn; bytes = drop (place i) e.bytes; taken = e.taken }) ∷ (ap (λ (l : List Send). parts_behind C l (sends_of E)) (sym (sends_of-append front (e ∷ []))) ∙ parts-laid C A long (front ++ e ∷ []) E rest) i)
 
-pub oldest-laid : (tallies : List (ℕ × Tally)) (e : Entry) (entries : List Entry) → Laid (earlier_at (connections_of tallies)) (sent_ends tallies) (e ∷ entries)
-    → Laid (earlier_at (connections_of (retallied e.conn (given_up_tally (length e.bytes)) tallies))) (sent_ends (retallied e.conn (given_up_tally (length e.bytes)) tallies)) entries
-oldest-laid tallies e entries h =
-    let moved : (c : ℕ) → earlier_at (connections_of (retallied e.conn (given_up_tally (length e.bytes)) tallies)) c ≡ earlier_at (connections_of tallies) c + length (sent_to c (sends_of (take 1 (e ∷ entries)))) =
-    λ (c : ℕ). ap (λ (l : List Connection). earlier_at l c) (oldest-gone tallies e) ∙ earlier_at-trimmed (sends_of (e ∷ [])) (connections_of tallies) c (unknown c) in
-    laid-same (λ c. refl) (λ c. number_at-same (λ (t : Tally). t.sent) e.conn (given_up_tally (length e.bytes)) (λ t. refl) tallies c) (laid-drop (e ∷ entries) 1 h (omega arith) moved)
+-- accounts whose streams end where the first so many sends do
+pub ending-none : (A : ℕ → Kept) (E : List Entry) (q : ℕ) → ending A (take 0 E) q ≡ record (A q) { end = (A q).earlier }
+unfolding sends_of
+ending-none A E q = let e : (A q).earlier + 0 ≡ (A q).earlier = omega arith in ap (λ (n : ℕ). record (A q) { end = n }) e
+
+pub ending-more : {A : ℕ → Kept} {K : List ℕ} {E : List Entry} (B : ℕ → Kept) (n : ℕ) (e : Entry) → Laid A K E → n < length E → e ≡ get_or E n e → ((q : ℕ) → B q ≡ ending A (take n E) q) → (q : ℕ) → put B e.conn (record (B e.conn) { end = e.end }) q ≡ ending A (take (suc n) E) q
+ending-more {A = A} {E = E} B n e h lt is at q = by (e.conn == q) refl
   where
-    unknown : (c : ℕ) → connection_of (connections_of tallies) c ≡ None → length (sent_to c (sends_of (e ∷ []))) ≡ 0
-    unknown c k =
-        let none : sent_ends tallies c ≡ 0 = number_at-none (λ (t : Tally). t.sent) tallies c (sym (unknown-of tallies c k)) in
-        omega (arith, none, h.ends c, length_parts c (e ∷ []) entries)
+    place : e.end ≡ (A e.conn).earlier + length (sent_to e.conn (sends_of (take (suc n) E)))
+    place = subst (λ (x : Entry). x.end ≡ (A x.conn).earlier + length (sent_to x.conn (sends_of (take (suc n) E)))) (sym is) (h.places n e lt)
 
--- one more of the oldest sends is given up: the connections so far
-pub trimmed-more : (entries rest : List Entry) (n : ℕ) (e : Entry) (connections now : List Connection) → drop n entries ≡ e ∷ rest
-    → now ≡ trimmed_connections (sends_of (take n entries)) connections → trimmed_connections (sends_of (e ∷ [])) now ≡ trimmed_connections (sends_of (take (n + 1) entries)) connections
-trimmed-more entries rest n e connections now d h =
-    let front : take (n + 1) entries ≡ take n entries ++ e ∷ [] = take-add n 1 entries ∙ ap (λ (l : List Entry). take n entries ++ take 1 l) d in
-    ap (trimmed_connections (sends_of (e ∷ []))) h ∙ sym (trimmed-append (sends_of (take n entries)) (sends_of (e ∷ [])) connections)
-    ∙ ap (λ (l : List Send). trimmed_connections l connections) (sym (sends_of-append (take n entries) (e ∷ [])) ∙ ap sends_of (sym front))
+    by : (b : Bool) → e.conn == q ≡ b → (if b then record (B e.conn) { end = e.end } else B q) ≡ ending A (take (suc n) E) q
+    by true p =
+        ap (λ (k : Kept). record k { end = e.end }) (at e.conn) ∙ ap (λ (m : ℕ). record (A e.conn) { end = m }) place
+        ∙ ap (λ (c : ℕ). ending A (take (suc n) E) c) (eqb-true e.conn q p)
+    by false p =
+        let one = one_more q n e E lt in
+        let none : (if (get_or E n e).conn == q then length (get_or E n e).bytes else 0) ≡ 0 = ap (λ (x : Entry). if x.conn == q then length x.bytes else 0) (sym is) ∙ ap (λ (b : Bool). if b then length e.bytes else 0) p in
+        let same : (A q).earlier + length (sent_to q (sends_of (take n E))) ≡ (A q).earlier + length (sent_to q (sends_of (take (suc n) E))) = omega (arith, one, none) in
+        at q ∙ ap (λ (m : ℕ). record (A q) { end = m }) same
+
+-- accounts without what was passed of the first so many sends
+pub given-none : (A : ℕ → Kept) (E : List Entry) (q : ℕ) → given_up A (take 0 E) q ≡ A q
+unfolding sends_of
+given-none A E q = let e : (A q).earlier + 0 ≡ (A q).earlier = omega arith in ap (λ (n : ℕ). record (A q) { earlier = n }) e
+
+-- the next of them, and those behind it
+pub at_front : (n : ℕ) (E rest : List Entry) (e : Entry) → drop n E ≡ e ∷ rest → (n < length E) × (e ≡ get_or E n e)
+at_front zero [] rest e h = absurd (let no : ⊥ = cc (h) in no)
+at_front zero (x ∷ E) rest e h = (omega arith, (let same : x ≡ e = (cc (h)) in sym same))
+at_front (suc n) [] rest e h = absurd (let no : ⊥ = cc (h) in no)
+at_front (suc n) (x ∷ E) rest e h = let r = at_front n E rest e h in (omega (arith, r.0), r.1)
+
+pub given-known : {A : ℕ → Kept} {K : List ℕ} {E : List Entry} {rest : List Entry} (n : ℕ) (e : Entry) → Laid A K E → drop n E ≡ e ∷ rest → is_known K e.conn ≡ true
+given-known {K = K} {E = E} {rest = rest} n e h first =
+    let at = at_front n E rest e first in subst (λ (x : Entry). is_known K x.conn ≡ true) (sym at.1) (h.known n e at.0)
+
+pub given-fits : {A : ℕ → Kept} {K : List ℕ} {E rest : List Entry} (B : ℕ → Kept) (n : ℕ) (e : Entry) → Writes A K E → drop n E ≡ e ∷ rest → ((q : ℕ) → B q ≡ given_up A (take n E) q) → (B e.conn).earlier + length e.bytes ≤ (B e.conn).end
+given-fits {E = E} {rest = rest} B n e h first at =
+    let one : length (sent_to e.conn (sends_of (e ∷ []))) ≡ length e.bytes = length_one e.conn e ∙ ap (λ (b : Bool). if b then length e.bytes else 0) (eq-eqb e.conn e.conn refl) in
+    omega (
+      arith,
+      ap (λ (k : Kept). k.earlier) (at e.conn),
+      ap (λ (k : Kept). k.end) (at e.conn),
+      h.ends e.conn,
+      lengths_at e.conn n E,
+      ap (λ (l : List Entry). length (sent_to e.conn (sends_of l))) first,
+      length_parts e.conn (e ∷ []) rest,
+      one,
+    )
+
+pub given-more : (A : ℕ → Kept) (E : List Entry) {rest : List Entry} (B : ℕ → Kept) (n m : ℕ) (e : Entry) → drop n E ≡ e ∷ rest → m ≡ length e.bytes → ((q : ℕ) → B q ≡ given_up A (take n E) q)
+    → (q : ℕ) → put B e.conn (record (B e.conn) { earlier = (B e.conn).earlier + m; stamps = drop m (B e.conn).stamps }) q ≡ given_up A (take (n + 1) E) q
+given-more A E {rest = rest} B n m e first long at q = by (e.conn == q) refl
+  where
+    there : (n < length E) × (e ≡ get_or E n e)
+    there = at_front n E rest e first
+
+    more : length (sent_to q (sends_of (take (n + 1) E))) ≡ length (sent_to q (sends_of (take n E))) + (if e.conn == q then length e.bytes else 0)
+    more = ap (λ (k : ℕ). length (sent_to q (sends_of (take k E)))) (add-one n) ∙ one_more q n e E there.0 ∙ ap (λ (x : Entry). length (sent_to q (sends_of (take n E))) + (if x.conn == q then length x.bytes else 0)) (sym there.1)
+
+    by : (b : Bool) → e.conn == q ≡ b → (if b then record (B e.conn) { earlier = (B e.conn).earlier + m; stamps = drop m (B e.conn).stamps } else B q) ≡ given_up A (take (n + 1) E) q
+    by true p =
+        let count : length (sent_to q (sends_of (take (n + 1) E))) ≡ length (sent_to q (sends_of (take n E))) + m = more ∙ ap (λ (b : Bool). length (sent_to q (sends_of (take n E))) + (if b then length e.bytes else 0)) p ∙ ap (λ (k : ℕ). length (sent_to q (sends_of (take n E))) + k) (sym long) in
+        let place : (A q).earlier + length (sent_to q (sends_of (take n E))) + m ≡ (A q).earlier + length (sent_to q (sends_of (take (n + 1) E))) = omega (arith, count) in
+        let left : drop m (drop (length (sent_to q (sends_of (take n E)))) (A q).stamps) ≡ drop (length (sent_to q (sends_of (take (n + 1) E)))) (A q).stamps =
+        drop-drop m (length (sent_to q (sends_of (take n E)))) (A q).stamps ∙ ap (λ (k : ℕ). drop k (A q).stamps) (sym count) in
+        ap (λ (c : ℕ). record (B c) { earlier = (B c).earlier + m; stamps = drop m (B c).stamps }) (eqb-true e.conn q p) ∙ ap (λ (k : Kept). record k { earlier = k.earlier + m; stamps = drop m k.stamps }) (at q)
+        ∙ (λ i. record (A q) { earlier = place i; stamps = left i })
+    by false p =
+        let count : length (sent_to q (sends_of (take (n + 1) E))) ≡ length (sent_to q (sends_of (take n E))) = more ∙ ap (λ (b : Bool). length (sent_to q (sends_of (take n E))) + (if b then length e.bytes else 0)) p ∙ (let z : length (sent_to q (sends_of (take n E))) + 0 ≡ length (sent_to q (sends_of (take n E))) = omega arith in z) in
+        at q ∙ (λ i. record (A q) { earlier = (A q).earlier + sym count i; stamps = drop (sym count i) (A q).stamps })

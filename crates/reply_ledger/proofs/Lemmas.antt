@@ -1,8 +1,8 @@
 -- The lemmas that the proofs of this crate's functions cite.
-pub use Rattle.reply_ledger.proofs.RunLemmas.{Notes-set, bytes_of-passed_in, end_at, end_at-last, end_at-none, length-bytes_of, length-passed_in, parted-high, parted-low, passed_in-Notes, passed_in-drop, runs-IsPartitionedBy, runs_in_order, runs_past-goes, runs_past-none, runs_past-stays, until-reach}
-pub use Rattle.reply_ledger.proofs.AgreeLemmas.{agree-apart, agree-done, agree-past, agree-same}
-pub use Rattle.reply_ledger.proofs.TallyLemmas.{all_retallied-more, all_retallied-start, length-part_retallied, list_all-at, number_at-none, number_at-some, passed_at-none, passed_at-some, unwritten, value_unchanged, written, written-same}
-pub use Rattle.reply_ledger.proofs.ConnectionLemmas.{closed-falls, connections_of-all_hidden, connections_of-hidden, connections_of-push, connections_of-retallied, earlier_at-changed, earlier_at-of, earlier_at-push, gone-falls, is_open-of, keys-changed, keys-of, known-of, number_at-all, number_at-push, number_at-same, passed_end-of, stamped_to-changed, stamped_to-of, trimmed-none, unknown-of}
-pub use Rattle.reply_ledger.proofs.PositionLemmas.{position-append, position-here, position-le, position-next}
-pub use Rattle.reply_ledger.proofs.EntryLemmas.{length-sends_of, oldest-fits, oldest-gone, oldest-laid, rewound, sends_of-append, sends_of-drop, sends_of-one, sends_of-take, trimmed-more}
-pub use Rattle.reply_ledger.proofs.StandsLemmas.{adopt-room, agree-front, agrees-sent, all-each, begun-agrees, covers-says, cursor-marked, cursor-passed, cursor-sent, each_tally, next-found, next-late, next-none, own-none, rest-found, rest-none, rests, rests-before, rests-bytes, rests-more, rests-part, sent_ends-set, settled-is, shared-none, stands-adopted, stands-change, stands-none, stands-opened, stands-passed, stands-sent, stands-trimmed, stream-is, trial-ends, trial-same, trial-sent, tries-begun, tries-none, tries_any-change, tries_any-sent, until-front, until-none}
+pub use Rattle.reply_ledger.proofs.AgreeLemmas.{agree-apart, agree-done, agree-end, agree-other, agree-past, agree-placed, agree-same, agree-turn}
+pub use Rattle.reply_ledger.proofs.RunLemmas.{Notes-set, end_at, end_at-last, end_at-none, length-bytes_of, length-stamps_in, noted, parted-high, parted-low, passed_last, passed_none, runs-IsPartitionedBy, runs_past-goes, runs_past-none, runs_past-stays, stamps_in-past, until-passed_of, until-reach}
+pub use Rattle.reply_ledger.proofs.AccountLemmas.{account_at-none, account_at-restarted, account_at-some, keys-push, keys-restarted, length-restarted, lookup-unknown, none_kept, of_opened, of_written, restarted-more, restarted-none, rewritten, rewritten-same, unwritten}
+pub use Rattle.reply_ledger.proofs.ConnectionLemmas.{closed-falls, connections-changed, connections-push, connections-same, connections-trimmed, gone-falls, is_open-of, known-of, stamped_to-of, unknown-of}
+pub use Rattle.reply_ledger.proofs.EntryLemmas.{ending-more, ending-none, given-fits, given-known, given-more, given-none, laid-drop, laid-none, laid-push, laid-same, laid-take, length-sends_of, one_more, parts-laid, sends_of-append, sends_of-drop, sends_of-one, sends_of-take, writes-push}
+pub use Rattle.reply_ledger.proofs.PositionLemmas.{find-at, find-none, position-append, position-here, position-le, position-next}
+pub use Rattle.reply_ledger.proofs.StandsLemmas.{adopt-room, agree-front, agrees-sent, all-kept, begun-agrees, compared-with, covers-says, cursor-marked, cursor-passed, holds-adopted, holds-marked, holds-none, holds-opened, holds-passed, holds-recounted, holds-room, holds-same, holds-sent, holds-tried, holds-trimmed, lawful, next-found, next-none, passed-front, passed-length, passed-stamps, rest-of, rests, rests-before, rests-bytes, rests-more, rests-part, seen-adopted, seen-passed, seen-recounted, seen-sent, seen-trimmed, sent-ends, settled-is, shared-none, trial-same, trial-sent, until-front, written-is}

@@ -1,12 +1,9 @@
 pub mod Terms
-pub mod QueueLemmas
 pub mod RunLemmas
-pub mod StreamLemmas
 pub mod AgreeLemmas
-pub mod TallyLemmas
+pub mod AccountLemmas
 pub mod ConnectionLemmas
 pub mod PositionLemmas
-pub mod WaitingLemmas
 pub mod EntryLemmas
 pub mod StandsLemmas
 pub mod ShowsLemmas

@@ -1,13 +1,6 @@
--- Passed bytes with their stamps, as bytes beside runs of stamps.
-use Rattle.std.specs.Prelude.{if◌then◌else◌}
+-- Passed bytes beside their stamps, and stamps by runs.
 use Rattle.std.specs.List.Sorted.{IsPartitionedBy}
-use Rattle.reply_ledger.proofs.Terms.{Bool, List, [], ap, append-nil, append_assoc, arith, cond, drop, false, get_or, inl, inr, length, length-append, length-drop, length-take, refl, subst, suc, sym, take, true, zero, ℕ, ◌++◌, ◌+◌, ◌-◌, ◌<◌, ◌∙◌, ◌∷◌, ◌≡◌, ◌≤◌, length-set, set, drop-append-add, take-suc, take-suc-set, le-leb, leb-false, leb-true, lt-leb, true≢false, drop-append-le, drop-drop, drop-take, drop_all, get_or_default, length-map, map-append, nil_from_length, take-append-drop, take-append-le, take_all, All-from_recursion, All-get_or, filter-append, AllByRecursion, nat_le, Run, IsInOrder, Passed, bytes_of, stamped, stamps_of, until, Notes, NotesInLast, RunsFrom, passed_in, runs_past}
-
--- runs end at or past where they begin
-pub runs_rise : (runs : List Run) (at end : ℕ) → RunsFrom at end runs → at ≤ end
-unfolding RunsFrom
-runs_rise [] at end h = omega (arith, h)
-runs_rise (run ∷ runs) at end h = omega (arith, h.0, runs_rise runs run.end end h.1)
+use Rattle.reply_ledger.proofs.Terms.{Bool, List, [], ap, append-nil, append_assoc, arith, cond, drop, false, get_or, inl, inr, length, length-append, refl, replicate, subst, suc, sym, take, true, zero, ℕ, ◌++◌, ◌+◌, ◌-◌, ◌<◌, ◌∙◌, ◌∷◌, ◌≡◌, ◌≤◌, length-set, set, drop-append-add, drop-replicate, length-replicate, replicate-append-replicate, take-suc, take-suc-set, le-leb, leb-false, leb-true, lt-leb, true≢false, drop-append-le, drop-drop, drop_all, get_or_default, length-map, length-take-le, map-append, take-append-drop, take_all, All-from_recursion, All-get_or, filter, filter-append, if◌then◌else◌, AllByRecursion, nat_le, Prefix, Run, IsInOrder, Passed, bytes_of, stamped, stamps_of, until, Notes, NotesInLast, RunsRise, passed_of, runs_past, stamps_in}
 
 pub bytes_of-append : (xs ys : List Passed) → bytes_of (xs ++ ys) ≡ bytes_of xs ++ bytes_of ys
 unfolding bytes_of
@@ -26,233 +19,9 @@ unfolding bytes_of stamped
 bytes_of-stamped stamp [] = refl
 bytes_of-stamped stamp (b ∷ bytes) = ap (λ l. b ∷ l) (bytes_of-stamped stamp bytes)
 
-pub stamped-append : (stamp : ℕ) (xs ys : List ℕ) → stamped stamp (xs ++ ys) ≡ stamped stamp xs ++ stamped stamp ys
-unfolding stamped
-stamped-append stamp xs ys = map-append _ xs ys
-
 pub length-stamped : (stamp : ℕ) (bytes : List ℕ) → length (stamped stamp bytes) ≡ length bytes
 unfolding stamped
 length-stamped stamp bytes = length-map bytes _
-
-pub drop-stamped : (n stamp : ℕ) (bytes : List ℕ) → drop n (stamped stamp bytes) ≡ stamped stamp (drop n bytes)
-unfolding stamped
-drop-stamped zero stamp bytes = refl
-drop-stamped (suc n) stamp [] = refl
-drop-stamped (suc n) stamp (b ∷ bytes) = drop-stamped n stamp bytes
-
--- the bytes with stamps are the bytes
-pub bytes_of-passed_in : (runs : List Run) (at end : ℕ) (bytes : List ℕ) → RunsFrom at end runs → end ≡ at + length bytes → bytes_of (passed_in at bytes runs) ≡ bytes
-unfolding RunsFrom passed_in bytes_of
-bytes_of-passed_in [] at end bytes h e = sym (nil_from_length bytes (omega (arith, h, e)))
-bytes_of-passed_in (run ∷ runs) at end bytes h e =
-    let rise = runs_rise runs run.end end h.1 in
-    let long : end ≡ run.end + length (drop (run.end - at) bytes) = omega (arith, h.0, length-drop (run.end - at) bytes) in
-    bytes_of-append (stamped run.stamp (take (run.end - at) bytes)) (passed_in run.end (drop (run.end - at) bytes) runs)
-    ∙ ap (λ l. l ++ bytes_of (passed_in run.end (drop (run.end - at) bytes) runs)) (bytes_of-stamped run.stamp (take (run.end - at) bytes))
-    ∙ ap (λ l. take (run.end - at) bytes ++ l) (bytes_of-passed_in runs run.end end (drop (run.end - at) bytes) h.1 long)
-    ∙ take-append-drop (run.end - at) bytes
-
-pub length-passed_in : (runs : List Run) (at end : ℕ) (bytes : List ℕ) → RunsFrom at end runs → end ≡ at + length bytes → length (passed_in at bytes runs) ≡ length bytes
-length-passed_in runs at end bytes h e = sym (length-bytes_of (passed_in at bytes runs)) ∙ ap length (bytes_of-passed_in runs at end bytes h e)
-
--- one more run
-pub passed_in-push : (runs : List Run) (at end after stamp : ℕ) (bytes more : List ℕ) → RunsFrom at end runs → end ≡ at + length bytes → after ≡ end + length more → end < after
-    → (passed_in at (bytes ++ more) (runs ++ record { end = after; stamp = stamp } ∷ []) ≡ passed_in at bytes runs ++ stamped stamp more) × RunsFrom at after (runs ++ record { end = after; stamp = stamp } ∷ [])
-unfolding RunsFrom passed_in
-passed_in-push [] at end after stamp bytes more h e a lt =
-    let none = nil_from_length bytes (omega (arith, h, e)) in
-    let all : length more ≤ after - at = omega (arith, h, a) in
-    let joined : bytes ++ more ≡ more = ap (λ l. l ++ more) none in
-    (append-nil _ ∙ ap (λ l. stamped stamp (take (after - at) l)) joined ∙ ap (stamped stamp) (take_all (after - at) more all), (omega (arith, h, lt), refl))
-passed_in-push (run ∷ runs) at end after stamp bytes more h e a lt =
-    let rise = runs_rise runs run.end end h.1 in
-    let within : run.end - at ≤ length bytes = omega (arith, e, rise) in
-    let long : end ≡ run.end + length (drop (run.end - at) bytes) = omega (arith, h.0, e, length-drop (run.end - at) bytes) in
-    let rest = passed_in-push runs run.end end after stamp (drop (run.end - at) bytes) more h.1 long a lt in (
-      ap (λ l. stamped run.stamp l ++ passed_in run.end (drop (run.end - at) (bytes ++ more)) (runs ++ record { end = after; stamp = stamp } ∷ [])) (take-append-le (run.end - at) bytes more within)
-          ∙ ap (λ l. stamped run.stamp (take (run.end - at) bytes) ++ passed_in run.end l (runs ++ record { end = after; stamp = stamp } ∷ [])) (drop-append-le (run.end - at) bytes more within)
-          ∙ ap (λ l. stamped run.stamp (take (run.end - at) bytes) ++ l) rest.0
-          ∙ sym (append_assoc (stamped run.stamp (take (run.end - at) bytes)) _ _),
-      (h.0, rest.1),
-    )
-
--- the last run goes on
-pub passed_in-grow : (front : List Run) (last : Run) (at end after : ℕ) (bytes more : List ℕ) → RunsFrom at end (front ++ last ∷ []) → end ≡ at + length bytes → after ≡ end + length more
-    → (passed_in at (bytes ++ more) (front ++ record { end = after; stamp = last.stamp } ∷ []) ≡ passed_in at bytes (front ++ last ∷ []) ++ stamped last.stamp more) × RunsFrom at after (front ++ record { end = after; stamp = last.stamp } ∷ [])
-unfolding RunsFrom passed_in
-passed_in-grow [] last at end after bytes more h e a =
-    let all : length (bytes ++ more) ≤ after - at = omega (arith, h.0, h.1, length-append bytes more) in
-    let old : length bytes ≤ last.end - at = omega (arith, h.0, h.1, e) in (
-      append-nil _ ∙ ap (stamped last.stamp) (take_all (after - at) (bytes ++ more) all) ∙ stamped-append last.stamp bytes more
-          ∙ ap (λ l. stamped last.stamp l ++ stamped last.stamp more) (sym (take_all (last.end - at) bytes old))
-          ∙ ap (λ l. l ++ stamped last.stamp more) (sym (append-nil _)),
-      (omega (arith, h.0, h.1, a), refl),
-    )
-passed_in-grow (run ∷ front) last at end after bytes more h e a =
-    let rise = runs_rise (front ++ last ∷ []) run.end end h.1 in
-    let within : run.end - at ≤ length bytes = omega (arith, e, rise) in
-    let long : end ≡ run.end + length (drop (run.end - at) bytes) = omega (arith, h.0, e, length-drop (run.end - at) bytes) in
-    let rest = passed_in-grow front last run.end end after (drop (run.end - at) bytes) more h.1 long a in (
-      ap (λ l. stamped run.stamp l ++ passed_in run.end (drop (run.end - at) (bytes ++ more)) (front ++ record { end = after; stamp = last.stamp } ∷ [])) (take-append-le (run.end - at) bytes more within)
-          ∙ ap (λ l. stamped run.stamp (take (run.end - at) bytes) ++ passed_in run.end l (front ++ record { end = after; stamp = last.stamp } ∷ [])) (drop-append-le (run.end - at) bytes more within)
-          ∙ ap (λ l. stamped run.stamp (take (run.end - at) bytes) ++ l) rest.0
-          ∙ sym (append_assoc (stamped run.stamp (take (run.end - at) bytes)) _ _),
-      (h.0, rest.1),
-    )
-
--- what `note` and the new bytes make of what was passed
-pub passed_in-Notes : (old new : List Run) (at end after stamp : ℕ) (bytes more : List ℕ) → RunsFrom at end old → end ≡ at + length bytes → after ≡ end + length more → Notes end after stamp old new
-    → (passed_in at (bytes ++ more) new ≡ passed_in at bytes old ++ stamped stamp more) × RunsFrom at after new
-unfolding RunsFrom passed_in stamped
-passed_in-Notes old new at end after stamp bytes more h e a notes = elim notes [
-  | inl same ↦
-      let none = nil_from_length more (omega (arith, same.0, a)) in
-      let P : List ℕ → Type 0 = λ m. (passed_in at (bytes ++ m) old ≡ passed_in at bytes old ++ stamped stamp m) in
-      let here : P [] = ap (λ l. passed_in at l old) (append-nil bytes) ∙ sym (append-nil _) in
-      let kept : P more = subst P (sym none) here in
-      (ap (passed_in at (bytes ++ more)) same.1 ∙ kept, subst (λ (r : List Run). RunsFrom at after r) (sym same.1) (subst (λ (n : ℕ). RunsFrom at n old) same.0 h))
-  | inr moved ↦ elim moved.1 [
-    | inl push ↦
-        let p = passed_in-push old at end after stamp bytes more h e a moved.0 in
-        subst (λ (r : List Run). (passed_in at (bytes ++ more) r ≡ passed_in at bytes old ++ stamped stamp more) × RunsFrom at after r) (sym push) p
-    | inr grown ↦
-        let old_is : RunsFrom at end (grown.0 ++ grown.1 ∷ []) = subst (λ (r : List Run). RunsFrom at end r) grown.2 h in
-        let p = passed_in-grow grown.0 grown.1 at end after bytes more old_is e a in
-        let q = subst (λ (s : ℕ). (passed_in at (bytes ++ more) (grown.0 ++ record { end = after; stamp = s } ∷ []) ≡ passed_in at bytes (grown.0 ++ grown.1 ∷ []) ++ stamped s more) × RunsFrom at after (grown.0 ++ record { end = after; stamp = s } ∷ [])) grown.3 p in
-        let r = subst (λ (r : List Run). (passed_in at (bytes ++ more) (grown.0 ++ record { end = after; stamp = stamp } ∷ []) ≡ passed_in at bytes r ++ stamped stamp more) × RunsFrom at after (grown.0 ++ record { end = after; stamp = stamp } ∷ [])) (sym grown.2) q in
-        subst (λ (r : List Run). (passed_in at (bytes ++ more) r ≡ passed_in at bytes old ++ stamped stamp more) × RunsFrom at after r) (sym grown.4) r
-  ]
-]
-
--- what is left of passed bytes when the oldest are given up
-pub passed_in-drop : (runs : List Run) (at end n : ℕ) (bytes : List ℕ) → RunsFrom at end runs → end ≡ at + length bytes
-    → (passed_in (at + n) (drop n bytes) (runs_past (at + n) runs) ≡ drop n (passed_in at bytes runs)) × RunsFrom (at + n) (at + n + length (drop n bytes)) (runs_past (at + n) runs)
-unfolding RunsFrom passed_in runs_past
-passed_in-drop [] at end n bytes h e =
-    (sym (drop_all n [] (omega arith)), omega (arith, h, e, length-drop n bytes))
-passed_in-drop (run ∷ runs) at end n bytes h e =
-    let up : run.end ≤ end = runs_rise runs run.end end h.1 in
-    let end_is : end ≡ run.end + length (drop (run.end - at) bytes) = omega (arith, h.0, e, length-drop (run.end - at) bytes, up) in
-    by (passed_in-drop runs run.end end (n - (run.end - at)) (drop (run.end - at) bytes) h.1 end_is) (nat_le run.end (at + n)) refl
-  where
-    rise : run.end ≤ end
-    rise = runs_rise runs run.end end h.1
-
-    first : List Passed
-    first = stamped run.stamp (take (run.end - at) bytes)
-
-    rest : List Passed
-    rest = passed_in run.end (drop (run.end - at) bytes) runs
-
-    long : length first ≡ run.end - at
-    long = omega (arith, length-stamped run.stamp (take (run.end - at) bytes), length-take (run.end - at) bytes, rise, e)
-
-    Goal : List Run → Type 0
-    Goal past = (passed_in (at + n) (drop n bytes) past ≡ drop n (first ++ rest)) × RunsFrom (at + n) (at + n + length (drop n bytes)) past
-
-    Later : Type 0
-    Later = (passed_in (run.end + (n - (run.end - at))) (drop (n - (run.end - at)) (drop (run.end - at) bytes)) (runs_past (run.end + (n - (run.end - at))) runs) ≡ drop (n - (run.end - at)) rest) × RunsFrom (run.end + (n - (run.end - at))) (run.end + (n - (run.end - at)) + length (drop (n - (run.end - at)) (drop (run.end - at) bytes))) (runs_past (run.end + (n - (run.end - at))) runs)
-
-    by : Later → (b : Bool) → nat_le run.end (at + n) ≡ b → Goal (if b then runs_past (at + n) runs else run ∷ runs)
-    by ih true t =
-        let le : run.end ≤ at + n = leb-true run.end (at + n) t in
-        let there : run.end + (n - (run.end - at)) ≡ at + n = omega (arith, h.0, le) in
-        let sum : (run.end - at) + (n - (run.end - at)) ≡ n = omega (arith, h.0, le) in
-        let both : drop (n - (run.end - at)) (drop (run.end - at) bytes) ≡ drop n bytes = drop-drop (n - (run.end - at)) (run.end - at) bytes ∙ ap (λ (j : ℕ). drop j bytes) sum in
-        let old : drop n (first ++ rest) ≡ drop (n - (run.end - at)) rest = ap (λ (j : ℕ). drop j (first ++ rest)) (sym sum ∙ ap (λ (j : ℕ). j + (n - (run.end - at))) (sym long)) ∙ drop-append-add first rest (n - (run.end - at)) in
-        let P : ℕ → List ℕ → Type 0 = λ place left. (passed_in place left (runs_past place runs) ≡ drop (n - (run.end - at)) rest) × RunsFrom place (place + length left) (runs_past place runs) in
-        let moved : P (at + n) (drop n bytes) = subst (λ (l : List ℕ). P (at + n) l) both (subst (λ (j : ℕ). P j (drop (n - (run.end - at)) (drop (run.end - at) bytes))) there ih) in
-        (moved.0 ∙ sym old, moved.1)
-    by ih false f =
-        let gt : at + n < run.end = leb-false run.end (at + n) f in
-        let within : n ≤ length first = omega (arith, long, gt) in
-        let len : length (drop n bytes) ≡ length bytes - n = length-drop n bytes in
-        let old : drop n (first ++ rest) ≡ drop n first ++ rest = drop-append-le n first rest within in
-        let sum : n + (run.end - (at + n)) ≡ run.end - at = omega (arith, gt) in
-        let head : drop n (take (run.end - at) bytes) ≡ take (run.end - (at + n)) (drop n bytes) = ap (λ (j : ℕ). drop n (take j bytes)) (sym sum) ∙ drop-take n (run.end - (at + n)) bytes in
-        let left : drop n first ≡ stamped run.stamp (take (run.end - (at + n)) (drop n bytes)) = drop-stamped n run.stamp (take (run.end - at) bytes) ∙ ap (stamped run.stamp) head in
-        let tail : drop (run.end - (at + n)) (drop n bytes) ≡ drop (run.end - at) bytes = drop-drop (run.end - (at + n)) n bytes ∙ ap (λ (j : ℕ). drop j bytes) sum in
-        let ends : end ≡ at + n + length (drop n bytes) = omega (arith, len, e, gt, rise) in (
-          ap (λ (l : List ℕ). stamped run.stamp (take (run.end - (at + n)) (drop n bytes)) ++ passed_in run.end l runs) tail ∙ ap (λ (l : List Passed). l ++ rest) (sym left) ∙ sym old,
-          (gt, subst (λ (j : ℕ). RunsFrom run.end j runs) ends h.1),
-        )
-
--- the runs' stamps don't fall, where those of the bytes don't
-pub AreInOrder : List Run → Type 0
-AreInOrder [] = Unit {0}
-AreInOrder (run ∷ runs) = AllByRecursion (λ (r : Run). run.stamp ≤ r.stamp) runs × AreInOrder runs
-
--- a run that isn't empty shows its stamp
-shows_stamp : (s m : ℕ) (bytes : List ℕ) (rest : List Passed) (P : ℕ → Type 0) → 0 < m → m ≤ length bytes → AllByRecursion P (stamps_of (stamped s (take m bytes) ++ rest)) → P s
-unfolding stamps_of stamped
-shows_stamp s zero bytes rest P lt le h = absurd (omega arith)
-shows_stamp s (suc m) [] rest P lt le h = absurd (omega arith)
-shows_stamp s (suc m) (b ∷ bytes) rest P lt le h = h.0
-
-rest_stamps : (s : ℕ) (bytes : List ℕ) (rest : List Passed) (P : ℕ → Type 0) → AllByRecursion P (stamps_of (stamped s bytes ++ rest)) → AllByRecursion P (stamps_of rest)
-unfolding stamps_of stamped
-rest_stamps s [] rest P h = h
-rest_stamps s (b ∷ bytes) rest P h = rest_stamps s bytes rest P h.1
-
-all_runs : (P : ℕ → Type 0) (runs : List Run) (at end : ℕ) (bytes : List ℕ) → RunsFrom at end runs → end ≡ at + length bytes
-    → AllByRecursion P (stamps_of (passed_in at bytes runs)) → AllByRecursion (λ (r : Run). P r.stamp) runs
-unfolding RunsFrom passed_in
-all_runs P [] at end bytes h e all = tt
-all_runs P (run ∷ runs) at end bytes h e all =
-    let rise = runs_rise runs run.end end h.1 in
-    let some : 0 < run.end - at = omega (arith, h.0) in
-    let within : run.end - at ≤ length bytes = omega (arith, e, rise) in
-    let long : end ≡ run.end + length (drop (run.end - at) bytes) = omega (arith, h.0, e, length-drop (run.end - at) bytes) in (
-      shows_stamp run.stamp (run.end - at) bytes (passed_in run.end (drop (run.end - at) bytes) runs) P some within all,
-      all_runs P runs run.end end (drop (run.end - at) bytes) h.1 long (rest_stamps run.stamp (take (run.end - at) bytes) (passed_in run.end (drop (run.end - at) bytes) runs) P all),
-    )
-
-order_rest : (s m : ℕ) (bytes : List ℕ) (rest : List Passed) → 0 < m → m ≤ length bytes → IsInOrder (stamps_of (stamped s (take m bytes) ++ rest)) → AllByRecursion (λ y. s ≤ y) (stamps_of rest) × IsInOrder (stamps_of rest)
-unfolding stamps_of stamped
-order_rest s zero bytes rest lt le h = absurd (omega arith)
-order_rest s (suc m) [] rest lt le h = absurd (omega arith)
-order_rest s (suc m) (b ∷ bytes) rest lt le h = (rest_stamps s (take m bytes) rest (λ y. s ≤ y) h.0, order_tail s (take m bytes) rest h.1)
-  where
-    order_tail : (s : ℕ) (bytes : List ℕ) (rest : List Passed) → IsInOrder (stamps_of (stamped s bytes ++ rest)) → IsInOrder (stamps_of rest)
-    order_tail s [] rest h = h
-    order_tail s (b ∷ bytes) rest h = order_tail s bytes rest h.1
-
-pub runs_in_order : (runs : List Run) (at end : ℕ) (bytes : List ℕ) → RunsFrom at end runs → end ≡ at + length bytes → IsInOrder (stamps_of (passed_in at bytes runs)) → AreInOrder runs
-unfolding RunsFrom passed_in AreInOrder
-runs_in_order [] at end bytes h e order = tt
-runs_in_order (run ∷ runs) at end bytes h e order =
-    let rise = runs_rise runs run.end end h.1 in
-    let some : 0 < run.end - at = omega (arith, h.0) in
-    let within : run.end - at ≤ length bytes = omega (arith, e, rise) in
-    let long : end ≡ run.end + length (drop (run.end - at) bytes) = omega (arith, h.0, e, length-drop (run.end - at) bytes) in
-    let parts = order_rest run.stamp (run.end - at) bytes (passed_in run.end (drop (run.end - at) bytes) runs) some within order in (
-      all_runs (λ y. run.stamp ≤ y) runs run.end end (drop (run.end - at) bytes) h.1 long parts.0,
-      runs_in_order runs run.end end (drop (run.end - at) bytes) h.1 long parts.1,
-    )
-
--- the test of a run's stamp parts the runs
-pub runs-IsPartitionedBy : (runs : List Run) (item : ℕ) → AreInOrder runs → IsPartitionedBy (λ (r : Run). nat_le r.stamp item) runs
-unfolding AreInOrder
-runs-IsPartitionedBy [] item order i j d le lt h = absurd (omega arith)
-runs-IsPartitionedBy (run ∷ runs) item order zero zero d le lt h = h
-runs-IsPartitionedBy (run ∷ runs) item order zero (suc j) d le lt h =
-    let later : run.stamp ≤ (get_or runs j d).stamp = All-get_or (λ (r : Run). run.stamp ≤ r.stamp) runs j d (omega arith) (All-from_recursion (λ (r : Run). run.stamp ≤ r.stamp) runs order.0) in
-    let early : (get_or runs j d).stamp ≤ item = leb-true (get_or runs j d).stamp item h in
-    le-leb run.stamp item (omega (arith, later, early))
-runs-IsPartitionedBy (run ∷ runs) item order (suc i) zero d le lt h = absurd (omega arith)
-runs-IsPartitionedBy (run ∷ runs) item order (suc i) (suc j) d le lt h = runs-IsPartitionedBy runs item order.1 i j d (omega arith) (omega arith) h
-
--- where so many runs end
-pub end_at : ℕ → List Run → ℕ → ℕ
-end_at at runs zero = at
-end_at at [] (suc p) = at
-end_at at (run ∷ runs) (suc p) = end_at run.end runs p
-
-pub end_at-last : (runs : List Run) (at p : ℕ) (d : Run) → p < length runs → end_at at runs (suc p) ≡ (get_or runs p d).end
-unfolding end_at
-end_at-last [] at p d lt = absurd (omega arith)
-end_at-last (run ∷ runs) at zero d lt = refl
-end_at-last (run ∷ runs) at (suc p) d lt = end_at-last runs run.end p d (omega arith)
 
 pub until-stamped : (item s : ℕ) (bytes : List ℕ) → (nat_le s item ≡ true → until item (stamped s bytes) ≡ stamped s bytes) × (nat_le s item ≡ false → until item (stamped s bytes) ≡ [])
 unfolding until stamped
@@ -266,28 +35,248 @@ pub until-append : (item : ℕ) (xs ys : List Passed) → until item (xs ++ ys) 
 unfolding until
 until-append item xs ys = filter-append _ xs ys
 
+-- bytes beside their stamps
+pub bytes_of-passed_of : (bytes stamps : List ℕ) → bytes_of (passed_of bytes stamps) ≡ take (length stamps) bytes
+unfolding bytes_of passed_of
+bytes_of-passed_of bytes [] = refl
+bytes_of-passed_of [] (s ∷ stamps) = refl
+bytes_of-passed_of (b ∷ bytes) (s ∷ stamps) = ap (λ (l : List ℕ). b ∷ l) (bytes_of-passed_of bytes stamps)
+
+pub stamps_of-passed_of : (bytes stamps : List ℕ) → length stamps ≤ length bytes → stamps_of (passed_of bytes stamps) ≡ stamps
+unfolding stamps_of passed_of
+stamps_of-passed_of bytes [] le = refl
+stamps_of-passed_of [] (s ∷ stamps) le = absurd (omega (arith, le))
+stamps_of-passed_of (b ∷ bytes) (s ∷ stamps) le = ap (λ (l : List ℕ). s ∷ l) (stamps_of-passed_of bytes stamps (omega (arith, le)))
+
+pub length-passed_of : (bytes stamps : List ℕ) → length stamps ≤ length bytes → length (passed_of bytes stamps) ≡ length stamps
+unfolding stamps_of
+length-passed_of bytes stamps le = sym (length-map (passed_of bytes stamps) (λ (p : Passed). p.stamp)) ∙ ap length (stamps_of-passed_of bytes stamps le)
+
+pub passed_of-front : (bytes more stamps : List ℕ) → length stamps ≤ length bytes → passed_of (bytes ++ more) stamps ≡ passed_of bytes stamps
+unfolding passed_of
+passed_of-front bytes more [] le = refl
+passed_of-front [] more (s ∷ stamps) le = absurd (omega (arith, le))
+passed_of-front (b ∷ bytes) more (s ∷ stamps) le = ap (λ (l : List Passed). record { byte = b; stamp = s } ∷ l) (passed_of-front bytes more stamps (omega (arith, le)))
+
+-- what begins with the bytes that were passed has them at the same stamps
+pub passed_of-same : (bytes other stamps : List ℕ) → length stamps ≤ length bytes → Prefix (bytes_of (passed_of bytes stamps)) other → passed_of other stamps ≡ passed_of bytes stamps
+passed_of-same bytes other stamps le p =
+    let long = length-take-le (length stamps) bytes le in
+    let whole : take (length stamps) bytes ++ p.0 ≡ other = ap (λ (l : List ℕ). l ++ p.0) (sym (bytes_of-passed_of bytes stamps)) ∙ p.1 in
+    ap (λ (l : List ℕ). passed_of l stamps) (sym whole) ∙ passed_of-front (take (length stamps) bytes) p.0 stamps (omega (arith, long))
+    ∙ sym (passed_of-front (take (length stamps) bytes) (drop (length stamps) bytes) stamps (omega (arith, long))) ∙ ap (λ (l : List ℕ). passed_of l stamps) (take-append-drop (length stamps) bytes)
+
+pub passed_of-more : (bytes stamps : List ℕ) (count stamp : ℕ) → length stamps ≤ length bytes
+    → passed_of bytes (stamps ++ replicate count stamp) ≡ passed_of bytes stamps ++ stamped stamp (take count (drop (length stamps) bytes))
+unfolding passed_of stamped
+passed_of-more bytes [] count stamp le = all bytes count
+  where
+    all : (bytes : List ℕ) (count : ℕ) → passed_of bytes (replicate count stamp) ≡ stamped stamp (take count bytes)
+    all bytes zero = refl
+    all [] (suc count) = refl
+    all (b ∷ bytes) (suc count) = ap (λ (l : List Passed). record { byte = b; stamp = stamp } ∷ l) (all bytes count)
+passed_of-more [] (s ∷ stamps) count stamp le = absurd (omega (arith, le))
+passed_of-more (b ∷ bytes) (s ∷ stamps) count stamp le = ap (λ (l : List Passed). record { byte = b; stamp = s } ∷ l) (passed_of-more bytes stamps count stamp (omega (arith, le)))
+
+pub passed_of-drop : (n : ℕ) (bytes stamps : List ℕ) → passed_of (drop n bytes) (drop n stamps) ≡ drop n (passed_of bytes stamps)
+unfolding passed_of
+passed_of-drop zero bytes stamps = refl
+passed_of-drop (suc n) bytes [] = refl
+passed_of-drop (suc n) [] (s ∷ stamps) = none (drop n stamps)
+  where
+    none : (stamps : List ℕ) → passed_of [] stamps ≡ []
+    none [] = refl
+    none (s ∷ stamps) = refl
+passed_of-drop (suc n) (b ∷ bytes) (s ∷ stamps) = passed_of-drop n bytes stamps
+
+pub until-passed_of : (item : ℕ) (bytes stamps : List ℕ) → length stamps ≤ length bytes → length (until item (passed_of bytes stamps)) ≡ length (filter (λ (s : ℕ). nat_le s item) stamps)
+unfolding until passed_of
+until-passed_of item bytes [] le = refl
+until-passed_of item [] (s ∷ stamps) le = absurd (omega (arith, le))
+until-passed_of item (b ∷ bytes) (s ∷ stamps) le = by (nat_le s item) (until-passed_of item bytes stamps (omega (arith, le)))
+  where
+    by : (t : Bool) → length (until item (passed_of bytes stamps)) ≡ length (filter (λ (s : ℕ). nat_le s item) stamps)
+        → length (cond t (record { byte = b; stamp = s } ∷ until item (passed_of bytes stamps)) (until item (passed_of bytes stamps))) ≡ length (cond t (s ∷ filter (λ (s : ℕ). nat_le s item) stamps) (filter (λ (s : ℕ). nat_le s item) stamps))
+    by true ih = ap suc ih
+    by false ih = ih
+
+-- where so many runs end
+pub end_at : ℕ → List Run → ℕ → ℕ
+end_at at runs zero = at
+end_at at [] (suc p) = at
+end_at at (run ∷ runs) (suc p) = end_at run.end runs p
+
+pub end_at-none : (at : ℕ) (runs : List Run) → end_at at runs 0 ≡ at
+unfolding end_at
+end_at-none at runs = refl
+
+pub end_at-last : (runs : List Run) (at p : ℕ) (d : Run) → p < length runs → end_at at runs (suc p) ≡ (get_or runs p d).end
+unfolding end_at
+end_at-last [] at p d lt = absurd (omega arith)
+end_at-last (run ∷ runs) at zero d lt = refl
+end_at-last (run ∷ runs) at (suc p) d lt = end_at-last runs run.end p d (omega arith)
+
+pub length-stamps_in : (runs : List Run) (at : ℕ) → RunsRise at runs → at + length (stamps_in at runs) ≡ end_at at runs (length runs)
+unfolding RunsRise stamps_in end_at
+length-stamps_in [] at h = omega arith
+length-stamps_in (run ∷ runs) at h =
+    omega (arith, h.0, length-stamps_in runs run.end h.1, length-append (replicate (run.end - at) run.stamp) (stamps_in run.end runs), length-replicate (run.end - at) run.stamp)
+
+-- one more run
+stamps_in-push : (runs : List Run) (at end stamp : ℕ) → RunsRise at runs → end_at at runs (length runs) < end
+    → (stamps_in at (runs ++ record { end = end; stamp = stamp } ∷ []) ≡ stamps_in at runs ++ replicate (end - end_at at runs (length runs)) stamp) × RunsRise at (runs ++ record { end = end; stamp = stamp } ∷ [])
+unfolding RunsRise stamps_in end_at
+stamps_in-push [] at end stamp h lt = (append-nil _, (lt, tt))
+stamps_in-push (run ∷ runs) at end stamp h lt =
+    let rest = stamps_in-push runs run.end end stamp h.1 lt in
+    (ap (λ (l : List ℕ). replicate (run.end - at) run.stamp ++ l) rest.0 ∙ sym (append_assoc (replicate (run.end - at) run.stamp) _ _), (h.0, rest.1))
+
+-- the last run goes on
+stamps_in-grow : (front : List Run) (last : Run) (at end : ℕ) → RunsRise at (front ++ last ∷ []) → end_at at (front ++ last ∷ []) (length (front ++ last ∷ [])) < end
+    → (stamps_in at (front ++ record { end = end; stamp = last.stamp } ∷ []) ≡ stamps_in at (front ++ last ∷ []) ++ replicate (end - end_at at (front ++ last ∷ []) (length (front ++ last ∷ []))) last.stamp)
+        × RunsRise at (front ++ record { end = end; stamp = last.stamp } ∷ [])
+unfolding RunsRise stamps_in end_at
+stamps_in-grow [] last at end h lt =
+    let sum : end - at ≡ (last.end - at) + (end - last.end) = omega (arith, h.0, lt) in (
+      append-nil _ ∙ ap (λ (n : ℕ). replicate n last.stamp) sum ∙ sym (replicate-append-replicate (last.end - at) (end - last.end) last.stamp)
+          ∙ ap (λ (l : List ℕ). l ++ replicate (end - last.end) last.stamp) (sym (append-nil _)),
+      (omega (arith, h.0, lt), tt),
+    )
+stamps_in-grow (run ∷ front) last at end h lt =
+    let rest = stamps_in-grow front last run.end end h.1 lt in
+    (ap (λ (l : List ℕ). replicate (run.end - at) run.stamp ++ l) rest.0 ∙ sym (append_assoc (replicate (run.end - at) run.stamp) _ _), (h.0, rest.1))
+
+-- what `note` makes of the stamps
+pub stamps_in-Notes : (old new : List Run) (at place end stamp : ℕ) → RunsRise at old → place ≡ end_at at old (length old) → Notes place end stamp old new
+    → (stamps_in at new ≡ stamps_in at old ++ replicate (end - place) stamp) × RunsRise at new
+stamps_in-Notes old new at place end stamp h is notes = elim notes [
+  | inl same ↦
+      let none : end - place ≡ 0 = omega (arith, same.0) in
+      (ap (stamps_in at) same.1 ∙ sym (append-nil (stamps_in at old)) ∙ ap (λ (n : ℕ). stamps_in at old ++ replicate n stamp) (sym none), subst (RunsRise at) (sym same.1) h)
+  | inr moved ↦ elim moved.1 [
+    | inl push ↦
+        let p = stamps_in-push old at end stamp h (omega (arith, is, moved.0)) in
+        (ap (stamps_in at) push ∙ p.0 ∙ ap (λ (n : ℕ). stamps_in at old ++ replicate (end - n) stamp) (sym is), subst (RunsRise at) (sym push) p.1)
+    | inr grown ↦
+        let was : RunsRise at (grown.0 ++ grown.1 ∷ []) = subst (RunsRise at) grown.2 h in
+        let there : place ≡ end_at at (grown.0 ++ grown.1 ∷ []) (length (grown.0 ++ grown.1 ∷ [])) = is ∙ ap (λ (l : List Run). end_at at l (length l)) grown.2 in
+        let p = stamps_in-grow grown.0 grown.1 at end was (omega (arith, there, moved.0)) in
+        let now : new ≡ grown.0 ++ record { end = end; stamp = (grown.1).stamp } ∷ [] = grown.4 ∙ ap (λ (s : ℕ). grown.0 ++ record { end = end; stamp = s } ∷ []) (sym grown.3) in
+        (ap (stamps_in at) now ∙ p.0 ∙ (λ i. stamps_in at (sym grown.2 i) ++ replicate (end - sym there i) (grown.3 i)), subst (RunsRise at) (sym now) p.1)
+  ]
+]
+
+pub noted : (old new : List Run) (at place count stamp : ℕ) → RunsRise at old → place ≡ at + length (stamps_in at old) → Notes place (place + count) stamp old new
+    → (stamps_in at new ≡ stamps_in at old ++ replicate count stamp) × RunsRise at new
+noted old new at place count stamp h is notes =
+    let p = stamps_in-Notes old new at place (place + count) stamp h (is ∙ length-stamps_in old at h) notes in
+    let sum : place + count - place ≡ count = omega arith in
+    (p.0 ∙ ap (λ (n : ℕ). stamps_in at old ++ replicate n stamp) sum, p.1)
+
+-- where the last run ends
+pub passed_last : (runs : List Run) (at n : ℕ) (last : Run) → RunsRise at runs → n ≡ length runs → 0 < n → last ≡ get_or runs (n - 1) last → last.end ≡ at + length (stamps_in at runs)
+passed_last runs at n last h long some is =
+    let one : suc (n - 1) ≡ length runs = omega (arith, long, some) in
+    ap (λ (r : Run). r.end) is ∙ sym (end_at-last runs at (n - 1) last (omega (arith, one))) ∙ ap (end_at at runs) one ∙ sym (length-stamps_in runs at h)
+
+pub passed_none : (runs : List Run) (at : ℕ) → length runs ≡ 0 → at ≡ at + length (stamps_in at runs)
+unfolding stamps_in
+passed_none [] at none = omega arith
+passed_none (run ∷ runs) at none = absurd (omega (arith, none))
+
+-- the stamps that are left when the oldest are given up
+pub stamps_in-past : (runs : List Run) (at n : ℕ) → RunsRise at runs → (stamps_in (at + n) (runs_past (at + n) runs) ≡ drop n (stamps_in at runs)) × RunsRise (at + n) (runs_past (at + n) runs)
+unfolding RunsRise stamps_in runs_past
+stamps_in-past [] at n h = (sym (drop_all n [] (omega arith)), tt)
+stamps_in-past (run ∷ runs) at n h = by (nat_le run.end (at + n)) refl (stamps_in-past runs run.end (n - (run.end - at)) h.1)
+  where
+    first : List ℕ
+    first = replicate (run.end - at) run.stamp
+
+    by : (b : Bool) → nat_le run.end (at + n) ≡ b
+        → (stamps_in (run.end + (n - (run.end - at))) (runs_past (run.end + (n - (run.end - at))) runs) ≡ drop (n - (run.end - at)) (stamps_in run.end runs)) × RunsRise (run.end + (n - (run.end - at))) (runs_past (run.end + (n - (run.end - at))) runs)
+        → (stamps_in (at + n) (if b then runs_past (at + n) runs else run ∷ runs) ≡ drop n (replicate (run.end - at) run.stamp ++ stamps_in run.end runs)) × RunsRise (at + n) (if b then runs_past (at + n) runs else run ∷ runs)
+    by true t ih =
+        let le : run.end ≤ at + n = leb-true run.end (at + n) t in
+        let there : run.end + (n - (run.end - at)) ≡ at + n = omega (arith, h.0, le) in
+        let sum : n ≡ length (replicate (run.end - at) run.stamp) + (n - (run.end - at)) = omega (arith, h.0, le, length-replicate (run.end - at) run.stamp) in
+        let moved : (stamps_in (at + n) (runs_past (at + n) runs) ≡ drop (n - (run.end - at)) (stamps_in run.end runs)) × RunsRise (at + n) (runs_past (at + n) runs) =
+        subst (λ (j : ℕ). (stamps_in j (runs_past j runs) ≡ drop (n - (run.end - at)) (stamps_in run.end runs)) × RunsRise j (runs_past j runs)) there ih in
+        (moved.0 ∙ sym (ap (λ (j : ℕ). drop j (replicate (run.end - at) run.stamp ++ stamps_in run.end runs)) sum ∙ drop-append-add (replicate (run.end - at) run.stamp) (stamps_in run.end runs) (n - (run.end - at))), moved.1)
+    by false f ih =
+        let gt : at + n < run.end = leb-false run.end (at + n) f in
+        let left : run.end - (at + n) ≡ (run.end - at) - n = omega (arith, gt) in
+        (ap (λ (j : ℕ). replicate j run.stamp ++ stamps_in run.end runs) left ∙ ap (λ (l : List ℕ). l ++ stamps_in run.end runs) (sym (drop-replicate n (run.end - at) run.stamp))
+            ∙ sym (drop-append-le n (replicate (run.end - at) run.stamp) (stamps_in run.end runs) (omega (arith, gt, length-replicate (run.end - at) run.stamp))), (gt, h.1))
+
+-- the runs' stamps don't fall, where those of the bytes don't
+AreInOrder : List Run → Type 0
+AreInOrder [] = Unit {0}
+AreInOrder (run ∷ runs) = AllByRecursion (λ (r : Run). run.stamp ≤ r.stamp) runs × AreInOrder runs
+
+-- a run that isn't empty shows its stamp
+shows_stamp : (n s : ℕ) (rest : List ℕ) (P : ℕ → Type 0) → 0 < n → AllByRecursion P (replicate n s ++ rest) → P s × AllByRecursion P rest
+shows_stamp zero s rest P lt h = absurd (omega (arith, lt))
+shows_stamp (suc zero) s rest P lt h = (h.0, h.1)
+shows_stamp (suc (suc n)) s rest P lt h = shows_stamp (suc n) s rest P (omega arith) h.1
+
+all_runs : (P : ℕ → Type 0) (runs : List Run) (at : ℕ) → RunsRise at runs → AllByRecursion P (stamps_in at runs) → AllByRecursion (λ (r : Run). P r.stamp) runs
+unfolding RunsRise stamps_in
+all_runs P [] at h all = tt
+all_runs P (run ∷ runs) at h all =
+    let shown = shows_stamp (run.end - at) run.stamp (stamps_in run.end runs) P (omega (arith, h.0)) all in (shown.0, all_runs P runs run.end h.1 shown.1)
+
+runs_in_order : (runs : List Run) (at : ℕ) → RunsRise at runs → IsInOrder (stamps_in at runs) → AreInOrder runs
+unfolding RunsRise stamps_in AreInOrder
+runs_in_order [] at h order = tt
+runs_in_order (run ∷ runs) at h order =
+    let rest = first (run.end - at) run.stamp (stamps_in run.end runs) (omega (arith, h.0)) order in (all_runs (λ y. run.stamp ≤ y) runs run.end h.1 rest.0, runs_in_order runs run.end h.1 rest.1)
+  where
+    first : (n s : ℕ) (rest : List ℕ) → 0 < n → IsInOrder (replicate n s ++ rest) → AllByRecursion (λ y. s ≤ y) rest × IsInOrder rest
+    first zero s rest lt h = absurd (omega (arith, lt))
+    first (suc zero) s rest lt h = (h.0, h.1)
+    first (suc (suc n)) s rest lt h = first (suc n) s rest (omega arith) h.1
+
+-- the test of a run's stamp parts the runs
+parts_runs : (runs : List Run) (item : ℕ) → AreInOrder runs → IsPartitionedBy (λ (r : Run). nat_le r.stamp item) runs
+unfolding AreInOrder
+parts_runs [] item order i j d le lt h = absurd (omega arith)
+parts_runs (run ∷ runs) item order zero zero d le lt h = h
+parts_runs (run ∷ runs) item order zero (suc j) d le lt h =
+    let later : run.stamp ≤ (get_or runs j d).stamp = All-get_or (λ (r : Run). run.stamp ≤ r.stamp) runs j d (omega arith) (All-from_recursion (λ (r : Run). run.stamp ≤ r.stamp) runs order.0) in
+    let early : (get_or runs j d).stamp ≤ item = leb-true (get_or runs j d).stamp item h in
+    le-leb run.stamp item (omega (arith, later, early))
+parts_runs (run ∷ runs) item order (suc i) zero d le lt h = absurd (omega arith)
+parts_runs (run ∷ runs) item order (suc i) (suc j) d le lt h = parts_runs runs item order.1 i j d (omega arith) (omega arith) h
+
+pub runs-IsPartitionedBy : (runs : List Run) (at item : ℕ) → RunsRise at runs → IsInOrder (stamps_in at runs) → IsPartitionedBy (λ (r : Run). nat_le r.stamp item) runs
+runs-IsPartitionedBy runs at item h order = parts_runs runs item (runs_in_order runs at h order)
+
 -- where the bytes end that have at most this stamp
-pub until-reach : (item : ℕ) (runs : List Run) (at end p : ℕ) (bytes : List ℕ) → RunsFrom at end runs → end ≡ at + length bytes → p ≤ length runs
+until-replicate : (item s n : ℕ) (b : Bool) → nat_le s item ≡ b → length (filter (λ (t : ℕ). nat_le t item) (replicate n s)) ≡ (if b then n else 0)
+until-replicate item s zero true e = refl
+until-replicate item s zero false e = refl
+until-replicate item s (suc n) true e =
+    ap (λ (c : Bool). length (cond c (s ∷ filter (λ (t : ℕ). nat_le t item) (replicate n s)) (filter (λ (t : ℕ). nat_le t item) (replicate n s)))) e ∙ ap suc (until-replicate item s n true e)
+until-replicate item s (suc n) false e =
+    ap (λ (c : Bool). length (cond c (s ∷ filter (λ (t : ℕ). nat_le t item) (replicate n s)) (filter (λ (t : ℕ). nat_le t item) (replicate n s)))) e ∙ until-replicate item s n false e
+
+pub until-reach : (item : ℕ) (runs : List Run) (at p : ℕ) → RunsRise at runs → p ≤ length runs
     → ((k : ℕ) (d : Run) → k < p → nat_le (get_or runs k d).stamp item ≡ true) → ((k : ℕ) (d : Run) → p ≤ k → k < length runs → nat_le (get_or runs k d).stamp item ≡ false)
-    → at + length (until item (passed_in at bytes runs)) ≡ end_at at runs p
-unfolding RunsFrom passed_in end_at until
-until-reach item [] at end zero bytes h e le low high = omega arith
-until-reach item [] at end (suc p) bytes h e le low high = absurd (omega arith)
-until-reach item (run ∷ runs) at end zero bytes h e le low high =
-    let rise = runs_rise runs run.end end h.1 in
-    let long : end ≡ run.end + length (drop (run.end - at) bytes) = omega (arith, h.0, e, length-drop (run.end - at) bytes) in
-    let ih : run.end + length (until item (passed_in run.end (drop (run.end - at) bytes) runs)) ≡ run.end = until-reach item runs run.end end zero (drop (run.end - at) bytes) h.1 long (omega arith) (λ k d lt. absurd (omega arith)) (λ k d ge lt. high (suc k) d (omega arith) (omega arith)) in
-    let none = (until-stamped item run.stamp (take (run.end - at) bytes)).1 (high zero run (omega arith) (omega arith)) in
-    let joined = ap length (until-append item (stamped run.stamp (take (run.end - at) bytes)) (passed_in run.end (drop (run.end - at) bytes) runs)) in
-    let empty : length (until item (stamped run.stamp (take (run.end - at) bytes))) ≡ 0 = ap length none in
-    omega (arith, ih, joined, empty, length-append (until item (stamped run.stamp (take (run.end - at) bytes))) (until item (passed_in run.end (drop (run.end - at) bytes) runs)))
-until-reach item (run ∷ runs) at end (suc p) bytes h e le low high =
-    let rise = runs_rise runs run.end end h.1 in
-    let long : end ≡ run.end + length (drop (run.end - at) bytes) = omega (arith, h.0, e, length-drop (run.end - at) bytes) in
-    let ih : run.end + length (until item (passed_in run.end (drop (run.end - at) bytes) runs)) ≡ end_at run.end runs p = until-reach item runs run.end end p (drop (run.end - at) bytes) h.1 long (omega arith) (λ k d lt. low (suc k) d (omega arith)) (λ k d ge lt. high (suc k) d (omega arith) (omega arith)) in
-    let whole = ap length ((until-stamped item run.stamp (take (run.end - at) bytes)).0 (low zero run (omega arith))) in
-    let joined = ap length (until-append item (stamped run.stamp (take (run.end - at) bytes)) (passed_in run.end (drop (run.end - at) bytes) runs)) in
-    omega (arith, h.0, rise, e, ih, joined, whole, length-stamped run.stamp (take (run.end - at) bytes), length-take (run.end - at) bytes, length-append (until item (stamped run.stamp (take (run.end - at) bytes))) (until item (passed_in run.end (drop (run.end - at) bytes) runs)))
+    → at + length (filter (λ (s : ℕ). nat_le s item) (stamps_in at runs)) ≡ end_at at runs p
+unfolding RunsRise stamps_in end_at
+until-reach item [] at zero h le low high = omega arith
+until-reach item [] at (suc p) h le low high = absurd (omega arith)
+until-reach item (run ∷ runs) at zero h le low high =
+    let ih : run.end + length (filter (λ (s : ℕ). nat_le s item) (stamps_in run.end runs)) ≡ run.end = until-reach item runs run.end zero h.1 (omega arith) (λ k d lt. absurd (omega arith)) (λ k d ge lt. high (suc k) d (omega arith) (omega arith)) in
+    let none = until-replicate item run.stamp (run.end - at) false (high zero run (omega arith) (omega arith)) in
+    let joined = ap length (filter-append (λ (s : ℕ). nat_le s item) (replicate (run.end - at) run.stamp) (stamps_in run.end runs)) in
+    omega (arith, ih, none, joined, length-append (filter (λ (s : ℕ). nat_le s item) (replicate (run.end - at) run.stamp)) (filter (λ (s : ℕ). nat_le s item) (stamps_in run.end runs)))
+until-reach item (run ∷ runs) at (suc p) h le low high =
+    let ih : run.end + length (filter (λ (s : ℕ). nat_le s item) (stamps_in run.end runs)) ≡ end_at run.end runs p = until-reach item runs run.end p h.1 (omega arith) (λ k d lt. low (suc k) d (omega arith)) (λ k d ge lt. high (suc k) d (omega arith) (omega arith)) in
+    let whole = until-replicate item run.stamp (run.end - at) true (low zero run (omega arith)) in
+    let joined = ap length (filter-append (λ (s : ℕ). nat_le s item) (replicate (run.end - at) run.stamp) (stamps_in run.end runs)) in
+    omega (arith, h.0, ih, whole, joined, length-append (filter (λ (s : ℕ). nat_le s item) (replicate (run.end - at) run.stamp)) (filter (λ (s : ℕ). nat_le s item) (stamps_in run.end runs)))
 
 -- the oldest run stays, or goes
 pub runs_past-stays : (at : ℕ) (runs : List Run) (run : Run) → 0 < length runs → run ≡ get_or runs 0 run → at < run.end → runs_past at runs ≡ runs
@@ -304,7 +293,6 @@ pub runs_past-none : (at : ℕ) (runs : List Run) → length runs ≡ 0 → runs
 unfolding runs_past
 runs_past-none at [] e = refl
 runs_past-none at (run ∷ runs) e = absurd (omega (arith, e))
-
 -- a write to the last run
 pub NotesInLast-set : (end stamp : ℕ) (runs : List Run) (last : Run) → 0 < length runs → last ≡ get_or runs (length runs - 1) last → last.stamp ≡ stamp
     → NotesInLast end stamp runs (set runs (length runs - 1) (record { end = end; stamp = last.stamp }))
@@ -323,10 +311,6 @@ pub Notes-set : (at end stamp : ℕ) (runs : List Run) (last : Run) (n : ℕ) �
 Notes-set at end stamp runs last n e lt some is same =
     subst (λ (m : ℕ). 0 < m → last ≡ get_or runs (m - 1) last → Notes at end stamp runs (set runs (m - 1) (record { end = end; stamp = last.stamp }))) (sym e)
     (λ some is. inr (lt, inr (NotesInLast-set end stamp runs last some is same))) some is
-
-pub end_at-none : (at : ℕ) (runs : List Run) → end_at at runs 0 ≡ at
-unfolding end_at
-end_at-none at runs = refl
 
 -- what one place of a list that a test parts says of those before it and behind it
 pub parted-low : {X : Type 0} (p : X → Bool) (xs : List X) (m : ℕ) (y : X) → IsPartitionedBy p xs → m < length xs → y ≡ get_or xs m y → p y ≡ true → (k : ℕ) (d : X) → k ≤ m → p (get_or xs k d) ≡ true

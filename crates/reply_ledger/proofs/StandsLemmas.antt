@@ -1,255 +1,190 @@
 -- What a ledger's calls keep.
 use Rattle.std.specs.Prelude.{min}
-use Rattle.reply_ledger.proofs.Terms.{Bool, List, None, Option, Some, [], ap, append-nil, append_assoc, arith, cond, drop, false, get_or, if◌then◌else◌, inl, inr, length, length-append, length-drop, map, not, refl, subst, suc, sym, take, true, zero, ℕ, ◌&&◌, ◌++◌, ◌+◌, ◌-◌, ◌<◌, ◌∙◌, ◌∷◌, ◌≡◌, ◌≤◌, drop-append_seam, and_from, and_left, and_parts, and_right, cases_lt, eq-eqb, eqb-true, le-leb, leb-false, leb-true, lt-leb, lt-ltb, ltb-true, true≢false, drop_all, get_or_default, nil_from_length, take-append-drop, All-from_recursion, All-get_or, fails_before_first, AllByRecursion, IsDistinct, list_all, position_or_len, keys_of, lookup, values_of, option_map, option_map_or, IsSome, find, nat_eq, nat_le, nat_lt, unwrap_or, ◌==◌, ◌⊎◌, Prefix, Send, sent_to, Entry, Connection, IsInOrder, NotBefore, Passed, bytes_of, changed, connection_of, is_open, new_connection, passed_connection, stamped, stamped_to, stamps_of, times_of, parts_behind, waits, agree, until, trimmed_connections, Tally, connections_of, number_at, retallied, rest_of, send_of, sends_of, stream_behind, Laid, Stands, Tries, TriesIfAny, earlier_at, part_of, trial_of, tried_ends, waits_in}
-use Rattle.reply_ledger.proofs.TallyLemmas.{number_at-some, passed_at-some, passed_at-none}
-use Rattle.reply_ledger.proofs.ConnectionLemmas.{number_at-set, earlier_at-of, stamped_to-of, keys-of, keys-changed, stamped_to-changed, earlier_at-changed, is_open-changed, is_open-marked, stamped_to-passed, stamped_to-push, earlier_at-push, is_open-push, stamped_to-trimmed, earlier_at-trimmed, is_open-trimmed, keys-trimmed}
+use Rattle.std.specs.Cmp.{nat_eq_equiv}
+use Rattle.std.specs.Option.{IfSome}
+use Rattle.std.proofs.lemmas.Map.Views.{All-values_from_lookup}
+use Rattle.reply_ledger.proofs.Terms.{Bool, List, None, Option, Some, [], ap, append-nil, append_assoc, arith, cond, drop, false, get_or, if◌then◌else◌, inl, inr, length, length-append, length-drop, length-take, not, refl, replicate, subst, suc, sym, take, true, zero, ℕ, ◌&&◌, ◌++◌, ◌+◌, ◌-◌, ◌<◌, ◌∙◌, ◌∷◌, ◌≡◌, ◌≤◌, map, and_from, and_left, All, and_parts, and_right, cases_lt, eq-eqb, eqb-true, leb-false, leb-true, le-leb, length-replicate, length-take-le, lt-leb, lt-ltb, ltb-true, true≢false, drop_all, get_or_default, take-append-drop, fails_before_first, AllByRecursion, IsDistinct, keys_of, list_all, lookup, position_or_len, values_of, option_map, IsSome, filter, find, nat_eq, nat_le, nat_lt, unwrap_or, ◌==◌, ◌||◌, ◌⊎◌, Prefix, Send, sent_to, Entry, Connection, IsInOrder, Ledger, NotBefore, Passed, bytes_of, changed, connection_of, is_open, passed_connection, stamped, stamped_to, stamps_of, times_of, parts_behind, waits, agree, until, IsLawful, trimmed_connection, trimmed_connections, HasRoom, Holds, Kept, Laid, Stands, Writes, account_at, connections_of, ending, given_up, is_known, is_open_account, ledger_of, new_account, no_account, passed_end, passed_of, rest_of, seen, send_of, sends_of, start_of, trial_of, waits_in, written}
+use Rattle.reply_ledger.proofs.AccountLemmas.{account_at-some, all_pass, none_kept, pass_all, put, put-here, put-same}
+use Rattle.reply_ledger.proofs.ConnectionLemmas.{connections-changed, connections-same, connections-trimmed, is_open-of, stamped_to-of}
 use Rattle.reply_ledger.proofs.PositionLemmas.{tested, not-empty, position-map, position-at, find-none, find-at, find-map, position-le, position-same, position-later, position-push, position-drop}
-use Rattle.reply_ledger.proofs.EntryLemmas.{later-at, laid-same, laid-none, laid-push, laid-take, laid-drop, parts-laid, stream-laid, stream-from, no_bytes, of_parts, sends_of-append, sends_of-one, sent_to-append, order-behind, length_parts}
-use Rattle.reply_ledger.proofs.RunLemmas.{length-bytes_of, bytes_of-append, bytes_of-stamped, stamps_of-append}
+use Rattle.reply_ledger.proofs.EntryLemmas.{behind_front, laid-drop, laid-none, laid-push, laid-same, laid-take, later-at, length_one, length_parts, lengths_at, of_parts, parts_at, one_more, order-behind, parts-laid, sends_of-append, sends_of-one, sends_of-take, sent_to-append, writes-push}
+use Rattle.reply_ledger.proofs.RunLemmas.{bytes_of-passed_of, length-bytes_of, length-passed_of, passed_of-drop, passed_of-front, passed_of-more, passed_of-same, stamps_of-passed_of, until-passed_of}
 
 -- which sends wait, by readings of their connections
-pub waits-same : (C C' : List Connection) (e : Entry) → is_open C' e.conn ≡ is_open C e.conn → earlier_at C' e.conn ≡ earlier_at C e.conn → stamped_to C' e.conn ≡ stamped_to C e.conn → waits_in C' e ≡ waits_in C e
-unfolding waits
-waits-same C C' e o b s = (λ i. o i && nat_lt 0 (length (rest_of (b i + length (s i)) e)))
+pub waits-less : (A A' : ℕ → Kept) (e : Entry) → (is_open_account (A' e.conn) ≡ true → is_open_account (A e.conn) ≡ true) → passed_end (A e.conn) ≤ passed_end (A' e.conn) → waits_in A' e ≡ true → waits_in A e ≡ true
+waits-less A A' e o le h =
+    let parts = and_parts (is_open_account (A' e.conn)) (nat_lt 0 (length (rest_of (passed_end (A' e.conn)) e))) h in
+    let some : 0 < length (rest_of (passed_end (A' e.conn)) e) = ltb-true 0 _ parts.1 in
+    let now = length-drop (passed_end (A' e.conn) - start_of e) e.bytes in
+    let was = length-drop (passed_end (A e.conn) - start_of e) e.bytes in
+    and_from (is_open_account (A e.conn)) (nat_lt 0 (length (rest_of (passed_end (A e.conn)) e))) (o parts.0) (lt-ltb 0 _ (omega (arith, some, now, was, le)))
 
-pub waits-empty : (C : List Connection) (e : Entry) → length e.bytes ≡ 0 → waits_in C e ≡ false
-unfolding waits
-waits-empty C e h =
-    let none : length (rest_of (earlier_at C e.conn + length (stamped_to C e.conn)) e) ≡ 0 = omega (arith, h, length-drop (earlier_at C e.conn + length (stamped_to C e.conn) - e.start) e.bytes) in
-    ap (λ (n : ℕ). is_open C e.conn && nat_lt 0 n) none ∙ by (is_open C e.conn)
-  where
-    by : (b : Bool) → (b && nat_lt 0 0) ≡ false
-    by true = refl
-    by false = refl
-
-pub waits-less : (C C' : List Connection) (e : Entry) → (is_open C' e.conn ≡ true → is_open C e.conn ≡ true) → earlier_at C' e.conn ≡ earlier_at C e.conn → length (stamped_to C e.conn) ≤ length (stamped_to C' e.conn)
-    → waits_in C' e ≡ true → waits_in C e ≡ true
-unfolding waits
-waits-less C C' e o b s h =
-    let parts = and_parts (is_open C' e.conn) (nat_lt 0 (length (rest_of (earlier_at C' e.conn + length (stamped_to C' e.conn)) e))) h in
-    let some : 0 < length (rest_of (earlier_at C' e.conn + length (stamped_to C' e.conn)) e) = ltb-true 0 _ parts.1 in
-    let long = length-drop (earlier_at C' e.conn + length (stamped_to C' e.conn) - e.start) e.bytes in
-    let long' = length-drop (earlier_at C e.conn + length (stamped_to C e.conn) - e.start) e.bytes in
-    and_from (is_open C e.conn) (nat_lt 0 (length (rest_of (earlier_at C e.conn + length (stamped_to C e.conn)) e))) (o parts.0) (lt-ltb 0 _ (omega (arith, some, long, long', b, s)))
+-- where fewer sends wait, the first of them stands no earlier
+pub cursor-later : (A A' : ℕ → Kept) (E : List Entry) {n : ℕ} → ((q : ℕ) → is_open_account (A' q) ≡ true → is_open_account (A q) ≡ true) → ((q : ℕ) → passed_end (A q) ≤ passed_end (A' q)) → n ≡ position_or_len (waits_in A) E
+    → n ≤ position_or_len (waits_in A') E
+cursor-later A A' E o le at = omega (arith, at, position-later (waits_in A) (waits_in A') (λ e h. waits-less A A' e (o e.conn) (le e.conn) h) E)
 
 -- a send of an open connection that doesn't wait is passed wholly
-pub waits-not : (C : List Connection) (e : Entry) → is_open C e.conn ≡ true → waits_in C e ≡ false → length (rest_of (earlier_at C e.conn + length (stamped_to C e.conn)) e) ≡ 0
-unfolding waits
-waits-not C e o h = by (length (rest_of (earlier_at C e.conn + length (stamped_to C e.conn)) e)) refl
+pub waits-not : (A : ℕ → Kept) (e : Entry) → is_open_account (A e.conn) ≡ true → waits_in A e ≡ false → length (rest_of (passed_end (A e.conn)) e) ≡ 0
+waits-not A e o h = by (length (rest_of (passed_end (A e.conn)) e)) refl
   where
-    by : (n : ℕ) → length (rest_of (earlier_at C e.conn + length (stamped_to C e.conn)) e) ≡ n → n ≡ 0
+    by : (n : ℕ) → length (rest_of (passed_end (A e.conn)) e) ≡ n → n ≡ 0
     by zero k = refl
-    by (suc n) k = absurd (true≢false (sym (and_from (is_open C e.conn) (nat_lt 0 (length (rest_of (earlier_at C e.conn + length (stamped_to C e.conn)) e))) o (lt-ltb 0 _ (omega (arith, k)))) ∙ h))
+    by (suc n) k = absurd (true≢false (sym (and_from (is_open_account (A e.conn)) (nat_lt 0 (length (rest_of (passed_end (A e.conn)) e))) o (lt-ltb 0 _ (omega (arith, k)))) ∙ h))
 
--- the same sends over connections that read alike
-pub stands-change : {C C' : List Connection} {s s' : ℕ → ℕ} {E : List Entry} {n n' : ℕ} → map (λ (c : Connection). c.conn) C' ≡ map (λ (c : Connection). c.conn) C
-    → ((c : ℕ) → earlier_at C' c ≡ earlier_at C c) → ((c : ℕ) → stamped_to C' c ≡ stamped_to C c) → ((c : ℕ) → s' c ≡ s c) → n' ≡ position_or_len (waits_in C') E → Stands C s E n → Stands C' s' E n'
-stands-change {E = E} keys e p f cursor h = record {
-  distinct = subst (IsDistinct nat_eq) (sym keys) h.distinct;
-  laid = laid-same e f h.laid;
-  passed = λ c. subst (λ (l : List Passed). Prefix (bytes_of l) (sent_to c (sends_of E))) (sym (p c)) (h.passed c);
-  stamps = λ c. subst (λ (l : List Passed). IsInOrder (stamps_of l)) (sym (p c)) (h.stamps c);
-  cursor = cursor;
+-- accounts that read alike, beside as much room
+pub holds-same : {A A' : ℕ → Kept} {K K' : List ℕ} {E own : List Entry} {room room' : ℕ} {shared : Option ℕ} {n n' : ℕ}
+    → ((q : ℕ) → (A' q).earlier ≡ (A q).earlier) → ((q : ℕ) → (A' q).stamps ≡ (A q).stamps) → ((q : ℕ) → (A' q).end ≡ (A q).end)
+    → IsDistinct nat_eq K' → ((q : ℕ) → is_known K q ≡ true → is_known K' q ≡ true) → room ≤ room' → n' ≡ position_or_len (waits_in A') E → Holds A K E own room shared n → Holds A' K' E own room' shared n'
+holds-same {E = E} {own = own} {room = room} {room' = room'} {shared = shared} e s f distinct more le cursor h = record {
+  stands = record {
+    distinct = distinct;
+    laid = laid-same e more h.stands.laid;
+    fits = λ q. subst (λ (l : List ℕ). length l ≤ length (sent_to q (sends_of E))) (sym (s q)) (h.stands.fits q);
+    stamps = λ q. subst IsInOrder (sym (s q)) (h.stands.stamps q);
+    cursor = cursor;
+  };
+  writes = record { laid = laid-same e more h.writes.laid; ends = λ q. f q ∙ h.writes.ends q ∙ ap (λ (m : ℕ). m + length (sent_to q (sends_of (written E own shared)))) (sym (e q)) };
+  room = by shared h.room;
+}
+  where
+    by : (o : Option ℕ) → HasRoom E own room o → HasRoom E own room' o
+    by None r = r
+    by (Some k) r = (r.0, omega (arith, r.1, le))
+
+pub holds-none : (room : ℕ) → Holds (account_at []) [] [] [] room None 0
+unfolding IsDistinct account_at sends_of
+holds-none room = record {
+  stands = record { distinct = tt; laid = laid-none (account_at []) []; fits = λ q. omega arith; stamps = λ q. tt; cursor = refl };
+  writes = record { laid = laid-none (account_at []) []; ends = λ q. refl };
+  room = tt;
 }
 
-pub tries-change : {C C' : List Connection} {t t' : ℕ → ℕ} {E own : List Entry} {room room' shared : ℕ} → ((c : ℕ) → earlier_at C' c ≡ earlier_at C c) → ((c : ℕ) → t' c ≡ t c) → room ≤ room'
-    → Tries C t E own room shared → Tries C' t' E own room' shared
-tries-change e f r h = record { within = h.within; room = (let a = h.room in omega (arith, a, r)); laid = laid-same e f h.laid }
+-- a connection is marked
+pub holds-marked : {A : ℕ → Kept} {K : List ℕ} {E own : List Entry} {room : ℕ} {shared : Option ℕ} {n n' : ℕ} (conn : ℕ) (k : Kept) → k.earlier ≡ (A conn).earlier → k.stamps ≡ (A conn).stamps → k.end ≡ (A conn).end
+    → n' ≡ position_or_len (waits_in (put A conn k)) E → Holds A K E own room shared n → Holds (put A conn k) K E own room shared n'
+holds-marked {A = A} conn k e s f cursor h =
+    holds-same (put-same (λ (x : Kept). x.earlier) A conn k e) (put-same (λ (x : Kept). x.stamps) A conn k s) (put-same (λ (x : Kept). x.end) A conn k f) h.stands.distinct (λ q x. x) (omega arith) cursor h
 
-pub tries_any-change : (C C' : List Connection) (t t' : ℕ → ℕ) (E own : List Entry) (room room' : ℕ) (shared : Option ℕ) → ((c : ℕ) → earlier_at C' c ≡ earlier_at C c) → ((c : ℕ) → t' c ≡ t c) → room ≤ room'
-    → TriesIfAny C t E own room shared → TriesIfAny C' t' E own room' shared
-tries_any-change C C' t t' E own room room' None e f r h = h
-tries_any-change C C' t t' E own room room' (Some n) e f r h = tries-change e f r h
+-- the first that waits, where a connection shuts
+pub cursor-marked : (A : ℕ → Kept) (E : List Entry) {n : ℕ} (conn : ℕ) (k : Kept) → k.earlier ≡ (A conn).earlier → k.stamps ≡ (A conn).stamps → is_open_account k ≡ false → n ≡ position_or_len (waits_in A) E → n ≤ position_or_len (waits_in (put A conn k)) E
+cursor-marked A E conn k e s shut at =
+    cursor-later A (put A conn k) E (λ q. by q (conn == q)) (λ q. omega (arith, put-same (λ (x : Kept). x.earlier) A conn k e q, ap length (put-same (λ (x : Kept). x.stamps) A conn k s q))) at
+  where
+    by : (q : ℕ) (b : Bool) → is_open_account (if b then k else A q) ≡ true → is_open_account (A q) ≡ true
+    by q true h = absurd (true≢false (sym h ∙ shut))
+    by q false h = h
+
+-- a connection opens
+pub known-more : (K : List ℕ) (conn q : ℕ) → is_known K q ≡ true → is_known (K ++ conn ∷ []) q ≡ true
+known-more [] conn q h = absurd (true≢false (sym h))
+known-more (k ∷ K) conn q h = by (nat_eq q k) h (λ x. known-more K conn q x)
+  where
+    by : (b : Bool) → (b || is_known K q) ≡ true → (is_known K q ≡ true → is_known (K ++ conn ∷ []) q ≡ true) → (b || is_known (K ++ conn ∷ []) q) ≡ true
+    by true h rest = refl
+    by false h rest = rest h
+
+pub holds-opened : {A : ℕ → Kept} {K : List ℕ} {E own : List Entry} {room : ℕ} {shared : Option ℕ} {n : ℕ} (conn : ℕ) → A conn ≡ no_account → is_known K conn ≡ false → IsDistinct nat_eq (K ++ conn ∷ [])
+    → Holds A K E own room shared n → Holds (put A conn new_account) (K ++ conn ∷ []) E own room shared n
+holds-opened {A = A} {K = K} {E = E} conn none new distinct h =
+    holds-same (put-same (λ (x : Kept). x.earlier) A conn new_account (sym (ap (λ (x : Kept). x.earlier) none))) (put-same (λ (x : Kept). x.stamps) A conn new_account (sym (ap (λ (x : Kept). x.stamps) none)))
+    (put-same (λ (x : Kept). x.end) A conn new_account (sym (ap (λ (x : Kept). x.end) none))) distinct (λ q x. known-more K conn q x) (omega arith)
+    (h.stands.cursor ∙ position-same (waits_in A) (waits_in (put A conn new_account)) E (λ k d lt. same (get_or E k d) (h.stands.laid.known k d lt) (conn == (get_or E k d).conn) refl)) h
+  where
+    same : (e : Entry) → is_known K e.conn ≡ true → (b : Bool) → conn == e.conn ≡ b → waits_in A e ≡ (is_open_account (if b then new_account else A e.conn) && nat_lt 0 (length (rest_of (passed_end (if b then new_account else A e.conn)) e)))
+    same e known true p = absurd (true≢false (sym known ∙ ap (is_known K) (sym (eqb-true conn e.conn p)) ∙ new))
+    same e known false p = refl
 
 -- no trial
 pub shared-none : (E own : List Entry) (shared : Option ℕ) → trial_of E own shared ≡ None → shared ≡ None
 shared-none E own None h = refl
 shared-none E own (Some n) h = absurd (let no : ⊥ = cc in no)
 
-pub own-none : (C : List Connection) (t : ℕ → ℕ) (E own : List Entry) (room : ℕ) (shared : Option ℕ) → shared ≡ None → TriesIfAny C t E own room shared → own ≡ []
-own-none C t E own room None k h = h
-own-none C t E own room (Some n) k h = absurd (let no : ⊥ = cc in no)
-
-pub tries-none : (C : List Connection) (t : ℕ → ℕ) (E own : List Entry) (room : ℕ) (shared : Option ℕ) → shared ≡ None → own ≡ [] → TriesIfAny C t E own room shared
-tries-none C t E own room None k h = h
-tries-none C t E own room (Some n) k h = absurd (let no : ⊥ = cc in no)
-
-pub stands-none : (s : ℕ → ℕ) → ((c : ℕ) → s c ≡ 0) → Stands [] s [] 0
-unfolding IsDistinct stamped_to bytes_of stamps_of earlier_at connection_of sends_of
-stands-none s f = record { distinct = tt; laid = laid-none (earlier_at []) s f; passed = λ c. ([], refl); stamps = λ c. tt; cursor = refl }
-
--- a connection is opened
-pub stands-opened : {C : List Connection} {s s' : ℕ → ℕ} {E : List Entry} {n : ℕ} (conn : ℕ) → connection_of C conn ≡ None → s conn ≡ 0 → ((c : ℕ) → s' c ≡ s c)
-    → IsDistinct nat_eq (map (λ (c : Connection). c.conn) (C ++ new_connection conn ∷ [])) → Stands C s E n → Stands (C ++ new_connection conn ∷ []) s' E n
-stands-opened {C = C} {s = s} {E = E} conn none zero_end f keys h = record {
-  distinct = keys;
-  laid = laid-same (λ c. earlier_at-push C conn c none) f h.laid;
-  passed = λ c. subst (λ (l : List Passed). Prefix (bytes_of l) (sent_to c (sends_of E))) (sym (stamped_to-push C conn c none)) (h.passed c);
-  stamps = λ c. subst (λ (l : List Passed). IsInOrder (stamps_of l)) (sym (stamped_to-push C conn c none)) (h.stamps c);
-  cursor = h.cursor ∙ position-same (waits_in C) (waits_in (C ++ new_connection conn ∷ [])) E (λ k d lt. same (get_or E k d) k d lt refl ((get_or E k d).conn == conn) refl);
-}
-  where
-    same : (e : Entry) (k : ℕ) (d : Entry) → k < length E → get_or E k d ≡ e → (b : Bool) → e.conn == conn ≡ b → waits_in C e ≡ waits_in (C ++ new_connection conn ∷ []) e
-    same e k d lt is true p =
-        let no : length (sent_to conn (sends_of E)) ≡ 0 = omega (arith, h.laid.ends conn, zero_end) in
-        let empty : length e.bytes ≡ 0 = ap (λ (x : Entry). length x.bytes) (sym is) ∙ no_bytes conn E no k d lt (ap (λ (x : Entry). x.conn) is ∙ eqb-true e.conn conn p) in
-        waits-empty C e empty ∙ sym (waits-empty (C ++ new_connection conn ∷ []) e empty)
-    same e k d lt is false p = sym (waits-same C (C ++ new_connection conn ∷ []) e (is_open-push C conn e.conn none p) (earlier_at-push C conn e.conn none) (stamped_to-push C conn e.conn none))
+-- more room alone
+pub holds-room : {A : ℕ → Kept} {K : List ℕ} {E E' own : List Entry} {room room' : ℕ} {shared : Option ℕ} {n : ℕ} → E' ≡ E → room ≤ room' → Holds A K E own room shared n → Holds A K E' own room' shared n
+holds-room {A = A} {K = K} {own = own} {room' = room'} {shared = shared} {n = n} same le h =
+    subst (λ (l : List Entry). Holds A K l own room' shared n) (sym same) (holds-same (λ q. refl) (λ q. refl) (λ q. refl) h.stands.distinct (λ q x. x) le h.stands.cursor h)
 
 -- one more send of the survivor
-pub stands-sent : {C C' : List Connection} {s s' : ℕ → ℕ} {E : List Entry} {n n' : ℕ} (e : Entry) → C' ≡ C → e.start ≡ s e.conn → NotBefore e.taken (times_of (sends_of E))
-    → ((c : ℕ) → s' c ≡ (if e.conn == c then s c + length e.bytes else s c)) → n' ≡ position_or_len (waits_in C') (E ++ e ∷ []) → Stands C s E n → Stands C' s' (E ++ e ∷ []) n'
-stands-sent {C = C} {C' = C'} {s' = s'} {E = E} e same start later f cursor h = record {
-  distinct = subst (λ (l : List Connection). IsDistinct nat_eq (map (λ (c : Connection). c.conn) l)) (sym same) h.distinct;
-  laid = subst (λ (l : List Connection). Laid (earlier_at l) s' (E ++ e ∷ [])) (sym same) (laid-push E e h.laid start later f);
-  passed = λ c. subst (λ (l : List Connection). Prefix (bytes_of (stamped_to l c)) (sent_to c (sends_of (E ++ e ∷ [])))) (sym same) (longer c);
-  stamps = λ c. subst (λ (l : List Connection). IsInOrder (stamps_of (stamped_to l c))) (sym same) (h.stamps c);
-  cursor = cursor;
-}
+waits-new : {A : ℕ → Kept} {K : List ℕ} {E : List Entry} {n : ℕ} (e : Entry) → Stands A K E n → e.end ≡ (A e.conn).earlier + length (sent_to e.conn (sends_of E)) + length e.bytes → 0 < length e.bytes → waits_in A e ≡ is_open_account (A e.conn)
+waits-new {A = A} e h end some =
+    let whole : length (rest_of (passed_end (A e.conn)) e) ≡ length e.bytes = omega (arith, h.fits e.conn, end, length-drop (passed_end (A e.conn) - start_of e) e.bytes) in
+    ap (λ (b : Bool). is_open_account (A e.conn) && b) (ap (nat_lt 0) whole ∙ lt-ltb 0 (length e.bytes) some) ∙ by (is_open_account (A e.conn))
   where
-    longer : (c : ℕ) → Prefix (bytes_of (stamped_to C c)) (sent_to c (sends_of (E ++ e ∷ [])))
-    longer c =
-        let p = h.passed c in
-        (p.0 ++ sent_to c (sends_of (e ∷ [])), sym (append_assoc (bytes_of (stamped_to C c)) p.0 (sent_to c (sends_of (e ∷ [])))) ∙ ap (λ (l : List ℕ). l ++ sent_to c (sends_of (e ∷ []))) p.1 ∙ sym (of_parts c E (e ∷ [])))
+    by : (b : Bool) → (b && true) ≡ b
+    by true = refl
+    by false = refl
 
--- a trial begins, and sends
-pub tries-begun : {C C' : List Connection} {s t : ℕ → ℕ} {E : List Entry} (n room : ℕ) → C' ≡ C → n ≤ length E → length E ≤ room → Laid (earlier_at C) s E
-    → ((c : ℕ) → t c ≡ earlier_at C c + length (sent_to c (sends_of (take n E)))) → Tries C' t E [] room n
-tries-begun {C = C} {t = t} {E = E} n room same le long h f = record {
-  within = le;
-  room = omega (arith, le, long);
-  laid = subst (λ (l : List Connection). Laid (earlier_at l) t (take n E ++ [])) (sym same) (subst (Laid (earlier_at C) t) (sym (append-nil (take n E))) (laid-take E n h f));
-}
-
-pub tries-sent : {C C' : List Connection} {t t' : ℕ → ℕ} {E own : List Entry} {room room' n : ℕ} (e : Entry) → C' ≡ C → e.start ≡ t e.conn → NotBefore e.taken (times_of (sends_of (take n E ++ own)))
-    → ((c : ℕ) → t' c ≡ (if e.conn == c then t c + length e.bytes else t c)) → n + length own + 1 ≤ room' → Tries C t E own room n → Tries C' t' E (own ++ e ∷ []) room' n
-tries-sent {C = C} {t' = t'} {E = E} {own = own} {n = n} e same start later f room h = record {
-  within = h.within;
-  room = omega (arith, room, length-append own (e ∷ []));
-  laid = subst (λ (l : List Connection). Laid (earlier_at l) t' (take n E ++ (own ++ e ∷ []))) (sym same)
-      (subst (Laid (earlier_at C) t') (append_assoc (take n E) own (e ∷ [])) (laid-push (take n E ++ own) e h.laid start later f));
-}
-
--- the trial is adopted
-pub stands-adopted : {C C' : List Connection} {s s' t : ℕ → ℕ} {E own : List Entry} {room k n n' : ℕ} → C' ≡ C → ((c : ℕ) → s' c ≡ t c)
-    → ((c : ℕ) → Prefix (bytes_of (stamped_to C c)) (sent_to c (sends_of (take k E ++ own)))) → n' ≡ position_or_len (waits_in C') (take k E ++ own) → Stands C s E n → Tries C t E own room k → Stands C' s' (take k E ++ own) n'
-stands-adopted {C = C} {s' = s'} {E = E} {own = own} {k = k} same f covers cursor h tried = record {
-  distinct = subst (λ (l : List Connection). IsDistinct nat_eq (map (λ (c : Connection). c.conn) l)) (sym same) h.distinct;
-  laid = subst (λ (l : List Connection). Laid (earlier_at l) s' (take k E ++ own)) (sym same) (laid-same (λ c. refl) f tried.laid);
-  passed = λ c. subst (λ (l : List Connection). Prefix (bytes_of (stamped_to l c)) (sent_to c (sends_of (take k E ++ own)))) (sym same) (covers c);
-  stamps = λ c. subst (λ (l : List Connection). IsInOrder (stamps_of (stamped_to l c))) (sym same) (h.stamps c);
-  cursor = cursor;
-}
-
--- more was passed
-order-stamped : (xs : List ℕ) (stamp : ℕ) (bytes : List ℕ) → IsInOrder xs → NotBefore stamp xs → IsInOrder (xs ++ stamps_of (stamped stamp bytes))
-unfolding stamps_of stamped
-order-stamped [] stamp [] h n = tt
-order-stamped [] stamp (b ∷ bytes) h n = (all bytes, order-stamped [] stamp bytes tt tt)
+pub holds-sent : {A : ℕ → Kept} {K : List ℕ} {E E' own : List Entry} {room room' : ℕ} {n n' count : ℕ} (shared : Option ℕ) (e : Entry) (opened : Bool) → shared ≡ None → is_known K e.conn ≡ true → e.end ≡ (A e.conn).end + length e.bytes → 0 < length e.bytes
+    → NotBefore e.taken (times_of (sends_of E)) → opened ≡ is_open_account (A e.conn) → E' ≡ E ++ e ∷ [] → count ≡ length E + 1 → n' ≡ (if opened then n else if nat_lt (n + 1) count then n else n + 1)
+    → Holds A K E own room shared n → Holds (put A e.conn (record (A e.conn) { end = e.end })) K E' own room' shared n'
+holds-sent (Some k) e opened none known end some later is items long place h = absurd (let no : ⊥ = cc (none) in no)
+holds-sent {A = A} {K = K} {E = E} {own = own} {room' = room'} {n = n} {n' = n'} {count = count} None e opened none known end some later is items long place h =
+    subst (λ (l : List Entry). Holds (put A e.conn (record (A e.conn) { end = e.end })) K l own room' None n') (sym items) (record {
+      stands = record {
+        distinct = h.stands.distinct;
+        laid = laid-same (put-same (λ (k : Kept). k.earlier) A e.conn (record (A e.conn) { end = e.end }) refl) (λ q x. x) (laid-push e h.stands.laid known there later);
+        fits = λ q. omega (arith, h.stands.fits q, ap length (put-same (λ (k : Kept). k.stamps) A e.conn (record (A e.conn) { end = e.end }) refl q), length_parts q E (e ∷ []));
+        stamps = λ q. subst IsInOrder (sym (put-same (λ (k : Kept). k.stamps) A e.conn (record (A e.conn) { end = e.end }) refl q)) (h.stands.stamps q);
+        cursor = place ∙ ap (λ (b : Bool). if b then n else if nat_lt (n + 1) count then n else n + 1) (is ∙ sym (waits-new e h.stands there some)) ∙ sym (position-push (waits_in A) E e n count h.stands.cursor long)
+            ∙ ap (λ (p : Entry → Bool). position_or_len p (E ++ e ∷ [])) waits;
+      };
+      writes = writes-push e h.writes known end later;
+      room = tt;
+    })
   where
-    all : (bytes : List ℕ) → AllByRecursion (λ y. stamp ≤ y) (stamps_of (stamped stamp bytes))
-    all [] = tt
-    all (x ∷ bytes) = (omega arith, all bytes)
-order-stamped (x ∷ xs) stamp bytes h n = (all xs bytes h.0 n.0, order-stamped xs stamp bytes h.1 n.1)
+    there : e.end ≡ (A e.conn).earlier + length (sent_to e.conn (sends_of E)) + length e.bytes
+    there = omega (arith, end, h.writes.ends e.conn)
+
+    waits : waits_in A ≡ waits_in (put A e.conn (record (A e.conn) { end = e.end }))
+    waits = λ i x.
+        is_open_account (sym (put-same (λ (k : Kept). record k { end = 0 }) A e.conn (record (A e.conn) { end = e.end }) refl x.conn) i)
+        && nat_lt 0 (length (rest_of (passed_end (sym (put-same (λ (k : Kept). record k { end = 0 }) A e.conn (record (A e.conn) { end = e.end }) refl x.conn) i)) x))
+
+-- the connections are seen as before
+pub seen-sent : {A : ℕ → Kept} {K : List ℕ} {E E' : List Entry} {n : ℕ} (conn end : ℕ) (more : List Entry) → E' ≡ E ++ more → Stands A K E n → connections_of (sends_of E') (put A conn (record (A conn) { end = end })) K ≡ connections_of (sends_of E) A K
+seen-sent {A = A} {K = K} {E = E} {E' = E'} conn end more items h = connections-same (sends_of E) (sends_of E') A (put A conn (record (A conn) { end = end })) K (λ q.
+    put-same (λ (k : Kept). seen (sends_of E') q k) A conn (record (A conn) { end = end }) refl q
+    ∙ ap (λ (l : List Passed). record { conn = q; closed = (A q).closed; gone = (A q).gone; earlier = (A q).earlier; passed = l })
+    (ap (λ (l : List ℕ). passed_of l (A q).stamps) (ap (λ (l : List Entry). sent_to q (sends_of l)) items ∙ of_parts q E more) ∙ passed_of-front (sent_to q (sends_of E)) (sent_to q (sends_of more)) (A q).stamps (h.fits q)))
+
+-- the streams are counted anew
+pub holds-recounted : {A B : ℕ → Kept} {K K' : List ℕ} {E own own' : List Entry} {room room' : ℕ} {shared shared' : Option ℕ} {n : ℕ} (count : ℕ) → K' ≡ K → ((q : ℕ) → B q ≡ ending A (take count E) q) → written E own' shared' ≡ take count E
+    → HasRoom E own' room' shared' → Holds A K E own room shared n → Holds B K' E own' room' shared' n
+holds-recounted {A = A} {B = B} {K = K} {E = E} {own' = own'} {room' = room'} {shared' = shared'} {n = n} count keys at is room h = subst (λ (l : List ℕ). Holds B l E own' room' shared' n) (sym keys) (record {
+  stands = record {
+    distinct = h.stands.distinct;
+    laid = laid-same earlier (λ q x. x) h.stands.laid;
+    fits = λ q. omega (arith, h.stands.fits q, ap (λ (k : Kept). length k.stamps) (at q));
+    stamps = λ q. subst (λ (k : Kept). IsInOrder k.stamps) (sym (at q)) (h.stands.stamps q);
+    cursor = h.stands.cursor ∙ (λ i. position_or_len (λ (e : Entry). is_open_account (sym (at e.conn) i) && nat_lt 0 (length (rest_of (passed_end (sym (at e.conn) i)) e))) E);
+  };
+  writes = subst (Writes B K) (sym is) (record {
+    laid = laid-same earlier (λ q x. x) (laid-take E count h.stands.laid);
+    ends = λ q. ap (λ (k : Kept). k.end) (at q) ∙ ap (λ (m : ℕ). m + length (sent_to q (sends_of (take count E)))) (sym (earlier q));
+  });
+  room = room;
+})
   where
-    all : (xs bytes : List ℕ) → AllByRecursion (λ y. x ≤ y) xs → x ≤ stamp → AllByRecursion (λ y. x ≤ y) (xs ++ stamps_of (stamped stamp bytes))
-    all [] [] h le = tt
-    all [] (b ∷ bytes) h le = (le, all [] bytes h le)
-    all (y ∷ xs) bytes h le = (h.0, all xs bytes h.1 le)
+    earlier : (q : ℕ) → (B q).earlier ≡ (A q).earlier
+    earlier q = ap (λ (k : Kept). k.earlier) (at q)
 
--- the bytes that come next
-pub next_bytes : (passed whole : List ℕ) (count : ℕ) → Prefix passed whole → Prefix (passed ++ take count (drop (length passed) whole)) whole
-next_bytes passed whole count p =
-    let rest : drop (length passed) whole ≡ p.0 = ap (drop (length passed)) (sym p.1) ∙ drop-append_seam passed p.0 in
-    (drop count p.0, append_assoc passed (take count (drop (length passed) whole)) (drop count p.0) ∙ ap (λ (l : List ℕ). passed ++ (take count l ++ drop count p.0)) rest ∙ ap (λ (l : List ℕ). passed ++ l) (take-append-drop count p.0) ∙ p.1)
+pub seen-recounted : (S : List Send) (A B : ℕ → Kept) (K K' : List ℕ) (W : List Entry) → K' ≡ K → ((q : ℕ) → B q ≡ ending A W q) → connections_of S B K' ≡ connections_of S A K
+seen-recounted S A B K K' W keys at = ap (connections_of S B) keys ∙ connections-same S S A B K (λ q. ap (seen S q) (at q))
 
-pub stands-passed : {C C' : List Connection} {s s' : ℕ → ℕ} {E : List Entry} {n n' : ℕ} (conn count stamp : ℕ) → IsSome (connection_of C conn) → NotBefore stamp (stamps_of (stamped_to C conn))
-    → C' ≡ changed conn (passed_connection (stamped stamp (take count (drop (length (bytes_of (stamped_to C conn))) (sent_to conn (sends_of E)))))) C
-    → ((c : ℕ) → s' c ≡ s c) → n' ≡ position_or_len (waits_in C') E → Stands C s E n → Stands C' s' E n'
-stands-passed {C = C} {C' = C'} {E = E} conn count stamp known later is f cursor h = record {
-  distinct = subst (λ (l : List Connection). IsDistinct nat_eq (map (λ (c : Connection). c.conn) l)) (sym is) (subst (IsDistinct nat_eq) (sym (keys-changed conn (passed_connection more) (λ c. refl) C)) h.distinct);
-  laid = laid-same (λ c. ap (λ (l : List Connection). earlier_at l c) is ∙ earlier_at-changed conn (passed_connection more) (λ c. refl) (λ c. refl) C c) f h.laid;
-  passed = λ c. subst (λ (l : List Passed). Prefix (bytes_of l) (sent_to c (sends_of E))) (sym (new c)) (longer c (conn == c) refl);
-  stamps = λ c. subst (λ (l : List Passed). IsInOrder (stamps_of l)) (sym (new c)) (ordered c (conn == c) refl);
-  cursor = cursor;
-}
-  where
-    bytes : List ℕ
-    bytes = take count (drop (length (bytes_of (stamped_to C conn))) (sent_to conn (sends_of E)))
+-- what contracts see of what was passed
+pub passed-bytes : (S : List Send) (A : ℕ → Kept) (K : List ℕ) (q : ℕ) → (is_known K q ≡ false → A q ≡ no_account) → bytes_of (stamped_to (connections_of S A K) q) ≡ take (length (A q).stamps) (sent_to q S)
+passed-bytes S A K q none = ap bytes_of (stamped_to-of S A K q none) ∙ bytes_of-passed_of (sent_to q S) (A q).stamps
 
-    more : List Passed
-    more = stamped stamp (take count (drop (length (bytes_of (stamped_to C conn))) (sent_to conn (sends_of E))))
+pub passed-length : {A : ℕ → Kept} {K : List ℕ} {E : List Entry} {n : ℕ} (q : ℕ) → (is_known K q ≡ false → A q ≡ no_account) → Stands A K E n → length (stamped_to (connections_of (sends_of E) A K) q) ≡ length (A q).stamps
+passed-length {A = A} {K = K} {E = E} q none h = ap length (stamped_to-of (sends_of E) A K q none) ∙ length-passed_of (sent_to q (sends_of E)) (A q).stamps (h.fits q)
 
-    new : (c : ℕ) → stamped_to C' c ≡ (if conn == c then stamped_to C c ++ stamped stamp (take count (drop (length (bytes_of (stamped_to C conn))) (sent_to conn (sends_of E)))) else stamped_to C c)
-    new c = ap (λ (l : List Connection). stamped_to l c) is ∙ stamped_to-passed conn (stamped stamp (take count (drop (length (bytes_of (stamped_to C conn))) (sent_to conn (sends_of E))))) C c known
+pub passed-stamps : {A : ℕ → Kept} {K : List ℕ} {E : List Entry} {n : ℕ} (q : ℕ) → (is_known K q ≡ false → A q ≡ no_account) → Stands A K E n → stamps_of (stamped_to (connections_of (sends_of E) A K) q) ≡ (A q).stamps
+passed-stamps {A = A} {K = K} {E = E} q none h = ap stamps_of (stamped_to-of (sends_of E) A K q none) ∙ stamps_of-passed_of (sent_to q (sends_of E)) (A q).stamps (h.fits q)
 
-    longer : (c : ℕ) (b : Bool) → conn == c ≡ b → Prefix (bytes_of (if b then stamped_to C c ++ stamped stamp (take count (drop (length (bytes_of (stamped_to C conn))) (sent_to conn (sends_of E)))) else stamped_to C c)) (sent_to c (sends_of E))
-    longer c true p =
-        let same : conn ≡ c = eqb-true conn c p in
-        let here = next_bytes (bytes_of (stamped_to C conn)) (sent_to conn (sends_of E)) count (h.passed conn) in
-        let shown : bytes_of (stamped_to C c ++ stamped stamp (take count (drop (length (bytes_of (stamped_to C conn))) (sent_to conn (sends_of E))))) ≡ bytes_of (stamped_to C conn) ++ take count (drop (length (bytes_of (stamped_to C conn))) (sent_to conn (sends_of E))) =
-        ap (λ (q : ℕ). bytes_of (stamped_to C q ++ stamped stamp (take count (drop (length (bytes_of (stamped_to C conn))) (sent_to conn (sends_of E)))))) (sym same)
-        ∙ bytes_of-append (stamped_to C conn) _ ∙ ap (λ (l : List ℕ). bytes_of (stamped_to C conn) ++ l) (bytes_of-stamped stamp _) in
-        subst (λ (l : List ℕ). Prefix l (sent_to c (sends_of E))) (sym shown) (subst (λ (q : ℕ). Prefix (bytes_of (stamped_to C conn) ++ take count (drop (length (bytes_of (stamped_to C conn))) (sent_to conn (sends_of E)))) (sent_to q (sends_of E))) same here)
-    longer c false p = h.passed c
-
-    ordered : (c : ℕ) (b : Bool) → conn == c ≡ b → IsInOrder (stamps_of (if b then stamped_to C c ++ stamped stamp (take count (drop (length (bytes_of (stamped_to C conn))) (sent_to conn (sends_of E)))) else stamped_to C c))
-    ordered c true p =
-        let same : conn ≡ c = eqb-true conn c p in
-        let after : NotBefore stamp (stamps_of (stamped_to C c)) = subst (λ (q : ℕ). NotBefore stamp (stamps_of (stamped_to C q))) same later in
-        subst IsInOrder (sym (stamps_of-append (stamped_to C c) (stamped stamp (take count (drop (length (bytes_of (stamped_to C conn))) (sent_to conn (sends_of E)))))))
-        (order-stamped (stamps_of (stamped_to C c)) stamp (take count (drop (length (bytes_of (stamped_to C conn))) (sent_to conn (sends_of E)))) (h.stamps c) after)
-    ordered c false p = h.stamps c
-
--- the cursor doesn't go back
-pub cursor-passed : (C : List Connection) (E : List Entry) (conn : ℕ) (more : List Passed) → IsSome (connection_of C conn)
-    → position_or_len (waits_in C) E ≤ position_or_len (waits_in (changed conn (passed_connection more) C)) E
-cursor-passed C E conn more known = position-later (waits_in C) (waits_in (changed conn (passed_connection more) C)) less E
-  where
-    less : (e : Entry) → waits_in (changed conn (passed_connection more) C) e ≡ true → waits_in C e ≡ true
-    less e = waits-less C (changed conn (passed_connection more) C) e (λ o. sym (is_open-changed conn (passed_connection more) (λ c. refl) (λ c. refl) C e.conn) ∙ o)
-        (earlier_at-changed conn (passed_connection more) (λ c. refl) (λ c. refl) C e.conn) (by (conn == e.conn) (ap length (stamped_to-passed conn more C e.conn known)))
-      where
-        by : (b : Bool) → length (stamped_to (changed conn (passed_connection more) C) e.conn) ≡ length (if b then stamped_to C e.conn ++ more else stamped_to C e.conn) → length (stamped_to C e.conn) ≤ length (stamped_to (changed conn (passed_connection more) C) e.conn)
-        by true l = omega (arith, l, length-append (stamped_to C e.conn) more)
-        by false l = omega (arith, l)
-
-pub cursor-marked : (C : List Connection) (E : List Entry) (conn : ℕ) (change : Connection → Connection) → ((c : Connection) → (change c).conn ≡ c.conn) → ((c : Connection) → (change c).passed ≡ c.passed) → ((c : Connection) → (change c).earlier ≡ c.earlier)
-    → ((c : Connection) → (not (change c).closed && not (change c).gone) ≡ true → (not c.closed && not c.gone) ≡ true) → position_or_len (waits_in C) E ≤ position_or_len (waits_in (changed conn change C)) E
-cursor-marked C E conn change keeps passed earlier falls = position-later (waits_in C) (waits_in (changed conn change C))
-    (λ e. waits-less C (changed conn change C) e (is_open-marked conn change keeps falls C e.conn) (earlier_at-changed conn change keeps earlier C e.conn) (let l = ap length (stamped_to-changed conn change keeps passed C e.conn) in omega (arith, l))) E
-
--- the rest of a connection's stream, as the code gathers it
-pub stream-is : {C : List Connection} {s : ℕ → ℕ} {E : List Entry} {n : ℕ} (conn from at : ℕ) → Stands C s E n → from ≡ (if is_open C conn then n else 0) → at ≡ earlier_at C conn + length (stamped_to C conn)
-    → stream_behind conn at (drop from E) ≡ drop (length (bytes_of (stamped_to C conn))) (sent_to conn (sends_of E))
-unfolding sends_of
-stream-is {C = C} {E = E} {n = n} conn from at h is place =
-    stream-from conn at from E (by (is_open C conn) refl is) ∙ stream-laid (earlier_at C) conn at [] E h.laid.places
-    ∙ ap (λ (m : ℕ). drop m (sent_to conn (sends_of E))) (omega (arith, place, length-bytes_of (stamped_to C conn)))
-  where
-    by : (b : Bool) → is_open C conn ≡ b → from ≡ (if b then n else 0) → (k : ℕ) (d : Entry) → k < from → k < length E → (get_or E k d).conn ≡ conn → rest_of at (get_or E k d) ≡ []
-    by true o e k d lt within same =
-        let before : k < position_or_len (waits_in C) E = omega (arith, lt, e, h.cursor) in
-        let opened : is_open C (get_or E k d).conn ≡ true = ap (is_open C) same ∙ o in
-        let none = waits-not C (get_or E k d) opened (fails_before_first (waits_in C) E k d before) in
-        let here : earlier_at C (get_or E k d).conn + length (stamped_to C (get_or E k d).conn) ≡ at = ap (λ (q : ℕ). earlier_at C q + length (stamped_to C q)) same ∙ sym place in
-        nil_from_length (rest_of at (get_or E k d)) (ap (λ (m : ℕ). length (rest_of m (get_or E k d))) (sym here) ∙ none)
-    by false o e k d lt within same = absurd (omega (arith, lt, e))
-
--- the parts as the contracts see them
-pub parts-are : {C : List Connection} {s : ℕ → ℕ} {E : List Entry} {n : ℕ} → Stands C s E n → parts_behind C [] (sends_of E) ≡ map (part_of C) E
-unfolding sends_of
-parts-are {C = C} {E = E} h = parts-laid C [] E h.laid.places
-
--- a send by its tally: where its connection's stream ends then
-pub sent_ends-set : (tallies : List (ℕ × Tally)) (reading : Tally → ℕ) (conn start end : ℕ) (bytes : List ℕ) (change : Tally → Tally) → ((t : Tally) → reading (change t) ≡ end) → IsSome (lookup (nat_eq conn) tallies)
-    → start ≡ number_at reading tallies conn → end ≡ start + length bytes
-    → (c : ℕ) → number_at reading (retallied conn change tallies) c ≡ (if conn == c then number_at reading tallies c + length bytes else number_at reading tallies c)
-sent_ends-set tallies reading conn start end bytes change same known s e c = number_at-set reading conn end change same tallies known c ∙ by (conn == c) refl
-  where
-    by : (b : Bool) → conn == c ≡ b → (if b then end else number_at reading tallies c) ≡ (if b then number_at reading tallies c + length bytes else number_at reading tallies c)
-    by true p = e ∙ ap (λ (n : ℕ). n + length bytes) (s ∙ ap (number_at reading tallies) (eqb-true conn c p))
-    by false p = refl
+pub passed-front : (A : ℕ → Kept) (K : List ℕ) (E : List Entry) (q : ℕ) → (is_known K q ≡ false → A q ≡ no_account) → Prefix (bytes_of (stamped_to (connections_of (sends_of E) A K) q)) (sent_to q (sends_of E))
+passed-front A K E q none =
+    (drop (length (A q).stamps) (sent_to q (sends_of E)), ap (λ (l : List ℕ). l ++ drop (length (A q).stamps) (sent_to q (sends_of E))) (passed-bytes (sends_of E) A K q none) ∙ take-append-drop (length (A q).stamps) (sent_to q (sends_of E)))
 
 -- a trial that begins agrees with what was passed
 prefix-agree : (xs ys : List ℕ) (front : List ℕ) → Prefix xs ys → Prefix front ys → agree front xs ≡ true
@@ -264,11 +199,11 @@ prefix-agree (x ∷ xs) (y ∷ ys) (f ∷ front) p q =
     let two : front ++ q.0 ≡ ys = (cc (q.1)) in
     and_from (f == x) (agree front xs) (eq-eqb f x heads) (prefix-agree xs ys front (p.0, one) (q.0, two))
 
-pub begun-agrees : {C : List Connection} {s : ℕ → ℕ} {E : List Entry} {n : ℕ} (k : ℕ) (own : List Entry) → own ≡ [] → Stands C s E n → (c : ℕ) → agree (sent_to c (sends_of (take k E ++ own))) (bytes_of (stamped_to C c)) ≡ true
-begun-agrees {C = C} {E = E} k own none h c =
-    let front : sent_to c (sends_of (take k E ++ own)) ≡ sent_to c (sends_of (take k E)) = ap (λ (l : List Entry). sent_to c (sends_of (take k E ++ l))) none ∙ ap (λ (l : List Entry). sent_to c (sends_of l)) (append-nil (take k E)) in
-    let whole : sent_to c (sends_of (take k E)) ++ sent_to c (sends_of (drop k E)) ≡ sent_to c (sends_of E) = sym (of_parts c (take k E) (drop k E)) ∙ ap (λ (l : List Entry). sent_to c (sends_of l)) (take-append-drop k E) in
-    ap (λ (l : List ℕ). agree l (bytes_of (stamped_to C c))) front ∙ prefix-agree (bytes_of (stamped_to C c)) (sent_to c (sends_of E)) (sent_to c (sends_of (take k E))) (h.passed c) (sent_to c (sends_of (drop k E)), whole)
+
+pub begun-agrees : (A : ℕ → Kept) (K : List ℕ) (E own : List Entry) (k q : ℕ) → own ≡ [] → (is_known K q ≡ false → A q ≡ no_account) → agree (sent_to q (sends_of (take k E ++ own))) (bytes_of (stamped_to (connections_of (sends_of E) A K) q)) ≡ true
+begun-agrees A K E own k q empty none =
+    ap (λ (l : List Entry). agree (sent_to q (sends_of l)) (bytes_of (stamped_to (connections_of (sends_of E) A K) q))) (ap (λ (l : List Entry). take k E ++ l) empty ∙ append-nil (take k E))
+    ∙ prefix-agree (bytes_of (stamped_to (connections_of (sends_of E) A K) q)) (sent_to q (sends_of E)) (sent_to q (sends_of (take k E))) (passed-front A K E q none) (sent_to q (sends_of (drop k E)), sym (parts_at q k E))
 
 agree-none : (ys : List ℕ) → agree [] ys ≡ true
 unfolding agree
@@ -302,24 +237,6 @@ agree-prefix (x ∷ xs) (y ∷ ys) h le =
 pub prefix-le : (xs ys : List ℕ) → Prefix xs ys → length xs ≤ length ys
 prefix-le xs ys p = let l = ap length p.1 in omega (arith, l, length-append xs p.0)
 
--- one more send of the survivor may be passed where its connection is open
-waits-new : {C : List Connection} {s : ℕ → ℕ} {E : List Entry} {n : ℕ} (e : Entry) → Stands C s E n → e.start ≡ s e.conn → 0 < length e.bytes → waits_in C e ≡ is_open C e.conn
-unfolding waits
-waits-new {C = C} {E = E} e h start some =
-    let le = prefix-le (bytes_of (stamped_to C e.conn)) (sent_to e.conn (sends_of E)) (h.passed e.conn) in
-    let whole : length (rest_of (earlier_at C e.conn + length (stamped_to C e.conn)) e) ≡ length e.bytes =
-    omega (arith, le, start, h.laid.ends e.conn, length-bytes_of (stamped_to C e.conn), length-drop (earlier_at C e.conn + length (stamped_to C e.conn) - e.start) e.bytes) in
-    ap (λ (b : Bool). is_open C e.conn && b) (ap (nat_lt 0) whole ∙ lt-ltb 0 (length e.bytes) some) ∙ by (is_open C e.conn)
-  where
-    by : (b : Bool) → (b && true) ≡ b
-    by true = refl
-    by false = refl
-
-pub cursor-sent : {C C' : List Connection} {s : ℕ → ℕ} {E : List Entry} {n n' : ℕ} (e : Entry) (opened : Bool) (count : ℕ) → C' ≡ C → e.start ≡ s e.conn → 0 < length e.bytes → opened ≡ is_open C e.conn → count ≡ length E + 1
-    → n' ≡ (if opened then n else if nat_lt (n + 1) count then n else n + 1) → Stands C s E n → n' ≡ position_or_len (waits_in C') (E ++ e ∷ [])
-cursor-sent {C = C} {E = E} {n = n} e opened count same start some is long place h =
-    place ∙ ap (λ (b : Bool). if b then n else if nat_lt (n + 1) count then n else n + 1) (is ∙ sym (waits-new e h start some))
-    ∙ sym (position-push (waits_in C) E e n count h.cursor long) ∙ ap (λ (l : List Connection). position_or_len (waits_in l) (E ++ e ∷ [])) (sym same)
 
 -- a front of what agrees agrees
 pub agree-front : (xs ys zs : List ℕ) → agree xs (ys ++ zs) ≡ true → agree xs ys ≡ true
@@ -342,97 +259,34 @@ until-front item (x ∷ xs) h = tested (nat_le x.stamp item)
     none [] h lt = refl
     none (y ∷ ys) h lt = ap (λ (b : Bool). cond b (y ∷ until item ys) (until item ys)) (lt-leb y.stamp item (omega (arith, h.0, lt))) ∙ none ys h.1 lt
 
--- a fact of each tally from that of each connection, and back
-later_key : (conn : ℕ) (k : ℕ) (es : List (ℕ × Tally)) (v : Tally) → AllByRecursion (λ (y : ℕ). nat_eq k y ≡ false) (keys_of es) → lookup (nat_eq conn) es ≡ Some v → nat_eq conn k ≡ false
-later_key conn k [] v a h = absurd (let no : ⊥ = cc in no)
-later_key conn k (e ∷ es) v a h = tested (nat_eq conn e.0)
-    (λ t. tested (nat_eq conn k) (λ u. absurd (true≢false (sym (eq-eqb k e.0 (sym (eqb-true conn k u) ∙ eqb-true conn e.0 t)) ∙ a.0))) (λ u. u))
-    (λ f. later_key conn k es v a.1 (sym (ap (λ (b : Bool). cond b (Some e.1) (lookup (nat_eq conn) es)) f) ∙ h))
 
-pub each_tally : (P : Tally → Type 0) (es : List (ℕ × Tally)) → IsDistinct nat_eq (keys_of es) → ((conn : ℕ) (v : Tally) → lookup (nat_eq conn) es ≡ Some v → P v) → AllByRecursion P (values_of es)
-unfolding IsDistinct
-each_tally P [] d h = tt
-each_tally P (e ∷ es) d h = (
-  h e.0 e.1 (ap (λ (b : Bool). cond b (Some e.1) (lookup (nat_eq e.0) es)) (eq-eqb e.0 e.0 refl)),
-  each_tally P es d.1 (λ conn v k. h conn v (ap (λ (b : Bool). cond b (Some e.1) (lookup (nat_eq conn) es)) (later_key conn e.0 es v d.0 k) ∙ k)),
-)
+-- a trial's sends are those that are written
+pub written-is : (E own : List Entry) (shared : Option ℕ) → IsSome (trial_of E own shared) → sends_of (written E own shared) ≡ unwrap_or (trial_of E own shared) []
+written-is E own None some = absurd (true≢false (sym some))
+written-is E own (Some n) some = refl
 
-pub tally_of_each : (P : Tally → Type 0) (es : List (ℕ × Tally)) → AllByRecursion P (values_of es) → (conn : ℕ) (v : Tally) → lookup (nat_eq conn) es ≡ Some v → P v
-tally_of_each P [] h conn v k = absurd (let no : ⊥ = cc in no)
-tally_of_each P (e ∷ es) h conn v k = tested (nat_eq conn e.0)
-    (λ t. let same : e.1 ≡ v = (let s = sym (ap (λ (b : Bool). cond b (Some e.1) (lookup (nat_eq conn) es)) t) ∙ k in (cc)) in subst P same h.0)
-    (λ f. tally_of_each P es h.1 conn v (sym (ap (λ (b : Bool). cond b (Some e.1) (lookup (nat_eq conn) es)) f) ∙ k))
-
-pub list_all-each : (p : Tally → Bool) (vs : List Tally) → AllByRecursion (λ v. p v ≡ true) vs → list_all p vs ≡ true
-list_all-each p [] h = refl
-list_all-each p (v ∷ vs) h = and_from (p v) (list_all p vs) h.0 (list_all-each p vs h.1)
-
-pub each-list_all : (p : Tally → Bool) (vs : List Tally) → list_all p vs ≡ true → AllByRecursion (λ v. p v ≡ true) vs
-each-list_all p [] h = tt
-each-list_all p (v ∷ vs) h = let parts = and_parts (p v) (list_all p vs) h in (parts.0, each-list_all p vs parts.1)
-
-pub all-each : (P : Tally → Type 0) (vs : List Tally) → AllByRecursion P vs → (k : ℕ) (d : Tally) → k < length vs → P (get_or vs k d)
-all-each P vs h k d lt = All-get_or P vs k d lt (All-from_recursion P vs h)
-
-bytes_of-none : bytes_of [] ≡ []
-unfolding bytes_of
-bytes_of-none = refl
-
--- whether a trial that agrees covers a part of what was passed to each connection
-pub covers-says : (T : List (ℕ × Tally)) (s : ℕ → ℕ) (E : List Entry) (F : List Send) (n : ℕ) (part : List Passed → List Passed) → Stands (connections_of T) s E n → ((c : ℕ) → tried_ends T c ≡ earlier_at (connections_of T) c + length (sent_to c F))
-    → part [] ≡ [] → ((c : ℕ) → agree (sent_to c F) (bytes_of (part (stamped_to (connections_of T) c))) ≡ true)
-    → ((list_all (λ (t : Tally). nat_le (t.earlier + length (part t.passed)) t.tried) (values_of T) ≡ true) → (c : ℕ) → Prefix (bytes_of (part (stamped_to (connections_of T) c))) (sent_to c F))
-    × (((c : ℕ) → Prefix (bytes_of (part (stamped_to (connections_of T) c))) (sent_to c F)) → list_all (λ (t : Tally). nat_le (t.earlier + length (part t.passed)) t.tried) (values_of T) ≡ true)
-covers-says T s E F n part h laid none agrees = (forth, back)
-  where
-    test : Tally → Bool
-    test t = nat_le (t.earlier + length (part t.passed)) t.tried
-
-    ends : (c : ℕ) (v : Tally) → lookup (nat_eq c) T ≡ Some v → v.tried ≡ v.earlier + length (sent_to c F)
-    ends c v k = sym (number_at-some (λ (t : Tally). t.tried) T c v (sym k)) ∙ laid c ∙ ap (λ (m : ℕ). m + length (sent_to c F)) (earlier_at-of T c ∙ number_at-some (λ (t : Tally). t.earlier) T c v (sym k))
-
-    shown : (c : ℕ) (v : Tally) → lookup (nat_eq c) T ≡ Some v → stamped_to (connections_of T) c ≡ v.passed
-    shown c v k = stamped_to-of T c ∙ passed_at-some T c v (sym k)
-
-    forth : list_all (λ (t : Tally). nat_le (t.earlier + length (part t.passed)) t.tried) (values_of T) ≡ true → (c : ℕ) → Prefix (bytes_of (part (stamped_to (connections_of T) c))) (sent_to c F)
-    forth all c = by (lookup (nat_eq c) T) refl
-      where
-        by : (o : Option Tally) → lookup (nat_eq c) T ≡ o → Prefix (bytes_of (part (stamped_to (connections_of T) c))) (sent_to c F)
-        by None k =
-            let empty : bytes_of (part (stamped_to (connections_of T) c)) ≡ bytes_of [] = ap (λ (l : List Passed). bytes_of (part l)) (stamped_to-of T c ∙ passed_at-none T c (sym k)) ∙ ap bytes_of none in
-            subst (λ (l : List ℕ). Prefix l (sent_to c F)) (sym (empty ∙ bytes_of-none)) (sent_to c F, refl)
-        by (Some v) k =
-            let le : v.earlier + length (part v.passed) ≤ v.tried = leb-true _ _ (tally_of_each (λ (t : Tally). nat_le (t.earlier + length (part t.passed)) t.tried ≡ true) T (each-list_all _ (values_of T) all) c v k) in
-            let long : length (bytes_of (part (stamped_to (connections_of T) c))) ≡ length (part v.passed) = length-bytes_of (part (stamped_to (connections_of T) c)) ∙ ap (λ (l : List Passed). length (part l)) (shown c v k) in
-            agree-prefix (sent_to c F) (bytes_of (part (stamped_to (connections_of T) c))) (agrees c) (omega (arith, le, long, ends c v k))
-
-    back : ((c : ℕ) → Prefix (bytes_of (part (stamped_to (connections_of T) c))) (sent_to c F)) → list_all (λ (t : Tally). nat_le (t.earlier + length (part t.passed)) t.tried) (values_of T) ≡ true
-    back covers = list_all-each _ (values_of T) (each_tally (λ (t : Tally). nat_le (t.earlier + length (part t.passed)) t.tried ≡ true) T (subst (IsDistinct nat_eq) (keys-of T) h.distinct) (λ c v k.
-        let long : length (bytes_of (part (stamped_to (connections_of T) c))) ≡ length (part v.passed) = length-bytes_of (part (stamped_to (connections_of T) c)) ∙ ap (λ (l : List Passed). length (part l)) (shown c v k) in
-        le-leb _ _ (omega (arith, prefix-le _ _ (covers c), long, ends c v k))))
-
--- a trial's streams
-pub trial-ends : (C : List Connection) (t : ℕ → ℕ) (E own : List Entry) (room : ℕ) (shared : Option ℕ) → TriesIfAny C t E own room shared → IsSome (trial_of E own shared)
-    → (c : ℕ) → t c ≡ earlier_at C c + length (sent_to c (unwrap_or (trial_of E own shared) []))
-trial-ends C t E own room None h some c = absurd (true≢false (sym some))
-trial-ends C t E own room (Some n) h some c = h.laid.ends c
-
-pub trial-same : (E own E' own' : List Entry) (shared : Option ℕ) → shared ≡ None → trial_of E' own' shared ≡ trial_of E own shared
-trial-same E own E' own' None k = refl
-trial-same E own E' own' (Some n) k = absurd (let no : ⊥ = cc in no)
-
-pub tries_any-sent : (C C' : List Connection) (t t' : ℕ → ℕ) (E own : List Entry) (room room' : ℕ) (shared : Option ℕ) (e : Entry) → C' ≡ C → IsSome (trial_of E own shared) → e.start ≡ t e.conn
-    → NotBefore e.taken (times_of (unwrap_or (trial_of E own shared) [])) → ((c : ℕ) → t' c ≡ (if e.conn == c then t c + length e.bytes else t c)) → length E + (length own + 1) ≤ room'
-    → TriesIfAny C t E own room shared → TriesIfAny C' t' E (own ++ e ∷ []) room' shared
-tries_any-sent C C' t t' E own room room' None e same some start later f fits h = absurd (true≢false (sym some))
-tries_any-sent C C' t t' E own room room' (Some n) e same some start later f fits h = tries-sent e same start later f (let w = h.within in omega (arith, w, fits)) h
+pub holds-tried : {A : ℕ → Kept} {K : List ℕ} {E E' own own' : List Entry} {room room' : ℕ} {n : ℕ} (shared : Option ℕ) (e : Entry) → IsSome (trial_of E own shared) → is_known K e.conn ≡ true → e.end ≡ (A e.conn).end + length e.bytes
+    → NotBefore e.taken (times_of (unwrap_or (trial_of E own shared) [])) → E' ≡ E → own' ≡ own ++ e ∷ [] → length E + (length own + 1) ≤ room' → Holds A K E own room shared n → Holds (put A e.conn (record (A e.conn) { end = e.end })) K E' own' room' shared n
+holds-tried None e some known end later same items fits h = absurd (true≢false (sym some))
+holds-tried {A = A} {K = K} {E = E} {own = own} {own' = own'} {room' = room'} {n = n} (Some k) e some known end later same items fits h =
+    subst (λ (l : List Entry). Holds (put A e.conn (record (A e.conn) { end = e.end })) K l own' room' (Some k) n) (sym same)
+    (subst (λ (l : List Entry). Holds (put A e.conn (record (A e.conn) { end = e.end })) K E l room' (Some k) n) (sym items) (record {
+      stands = record {
+        distinct = h.stands.distinct;
+        laid = laid-same (put-same (λ (x : Kept). x.earlier) A e.conn (record (A e.conn) { end = e.end }) refl) (λ q x. x) h.stands.laid;
+        fits = λ q. omega (arith, h.stands.fits q, ap length (put-same (λ (x : Kept). x.stamps) A e.conn (record (A e.conn) { end = e.end }) refl q));
+        stamps = λ q. subst IsInOrder (sym (put-same (λ (x : Kept). x.stamps) A e.conn (record (A e.conn) { end = e.end }) refl q)) (h.stands.stamps q);
+        cursor = h.stands.cursor ∙ (λ i. position_or_len (λ (x : Entry).
+            is_open_account (sym (put-same (λ (k : Kept). record k { end = 0 }) A e.conn (record (A e.conn) { end = e.end }) refl x.conn) i)
+            && nat_lt 0 (length (rest_of (passed_end (sym (put-same (λ (k : Kept). record k { end = 0 }) A e.conn (record (A e.conn) { end = e.end }) refl x.conn) i)) x))) E);
+      };
+      writes = subst (Writes (put A e.conn (record (A e.conn) { end = e.end })) K) (append_assoc (take k E) own (e ∷ [])) (writes-push e h.writes known end later);
+      room = (h.room.0, omega (arith, h.room.0, fits, length-append own (e ∷ [])));
+    }))
 
 pub trial-sent : (E own : List Entry) (shared : Option ℕ) (e : Entry) → IsSome (trial_of E own shared) → trial_of E (own ++ e ∷ []) shared ≡ Some (unwrap_or (trial_of E own shared) [] ++ send_of e ∷ [])
 trial-sent E own None e some = absurd (true≢false (sym some))
-trial-sent E own (Some n) e some = ap Some (ap sends_of (sym (append_assoc (take n E) own (e ∷ []))) ∙ sends_of-append (take n E ++ own) (e ∷ []) ∙ one)
-  where
-    one : sends_of (take n E ++ own) ++ sends_of (e ∷ []) ≡ sends_of (take n E ++ own) ++ send_of e ∷ []
-    one = ap (λ (l : List Send). sends_of (take n E ++ own) ++ l) (sends_of-one e)
+trial-sent E own (Some n) e some = ap Some (ap sends_of (sym (append_assoc (take n E) own (e ∷ []))) ∙ sends_of-append (take n E ++ own) (e ∷ []) ∙ ap (λ (l : List Send). sends_of (take n E ++ own) ++ l) (sends_of-one e))
 
 pub agrees-sent : (F : List Send) (send : Send) (passed : ℕ → List ℕ) → agree send.bytes (drop (length (sent_to send.conn F)) (passed send.conn)) ≡ true → ((c : ℕ) → agree (sent_to c F) (passed c) ≡ true)
     → (c : ℕ) → agree (sent_to c (F ++ send ∷ [])) (passed c) ≡ true
@@ -445,51 +299,157 @@ agrees-sent F send passed new old c =
     by true p = ap (λ (q : ℕ). agree send.bytes (drop (length (sent_to q F)) (passed q))) (sym (eqb-true send.conn c p)) ∙ new
     by false p = agree-none (drop (length (sent_to c F)) (passed c))
 
--- the oldest sends go
-pub is_open-none : (C : List Connection) (q : ℕ) → connection_of C q ≡ None → is_open C q ≡ false
-unfolding is_open
-is_open-none C q k = ap (λ (o : Option Connection). option_map_or (λ (c : Connection). not c.closed && not c.gone) o false) k
+-- the bytes that a trial's next ones are compared with
+pub compared-with : {A : ℕ → Kept} {K : List ℕ} {E own : List Entry} {room n : ℕ} {shared : Option ℕ} (conn : ℕ) (F : List Send) → (is_known K conn ≡ false → A conn ≡ no_account) → sends_of (written E own shared) ≡ F → Holds A K E own room shared n
+    → drop ((A conn).end - (A conn).earlier) (take (length (A conn).stamps) (sent_to conn (sends_of E))) ≡ drop (length (sent_to conn F)) (bytes_of (stamped_to (connections_of (sends_of E) A K) conn))
+compared-with {A = A} {K = K} {E = E} {own = own} {shared = shared} conn F none is h =
+    let behind : (A conn).end - (A conn).earlier ≡ length (sent_to conn F) = omega (arith, h.writes.ends conn, ap (λ (l : List Send). length (sent_to conn l)) is) in
+    (λ i. drop (behind i) (sym (passed-bytes (sends_of E) A K conn none) i))
+
+-- whether a trial that agrees covers a part of what was passed to each connection
+pub covers-says : (T : List (ℕ × Kept)) (F : List Send) (counts : Kept → ℕ) (part : ℕ → List ℕ) → IsDistinct nat_eq (keys_of T) → counts no_account ≡ 0 → ((q : ℕ) → length (part q) ≡ counts (account_at T q)) → ((q : ℕ) → agree (sent_to q F) (part q) ≡ true)
+    → ((q : ℕ) → (account_at T q).end ≡ (account_at T q).earlier + length (sent_to q F))
+    → (list_all (λ (k : Kept). nat_le (k.earlier + counts k) k.end) (values_of T) ≡ true → (q : ℕ) → Prefix (part q) (sent_to q F)) × (((q : ℕ) → Prefix (part q) (sent_to q F)) → list_all (λ (k : Kept). nat_le (k.earlier + counts k) k.end) (values_of T) ≡ true)
+covers-says T F counts part distinct none long agrees ends = (
+  (λ all q.
+      let le = leb-true _ _ (all_pass (λ (k : Kept). nat_le (k.earlier + counts k) k.end) T (le-leb _ _ (omega (arith, none))) all q) in
+      agree-prefix (sent_to q F) (part q) (agrees q) (omega (arith, le, long q, ends q))),
+  (λ covers. pass_all (λ (k : Kept). nat_le (k.earlier + counts k) k.end) T distinct (λ q. le-leb _ _ (omega (arith, prefix-le (part q) (sent_to q F) (covers q), long q, ends q)))),
+)
+
+-- what holds of each account holds of those in the map
+pub all-kept : (P : Kept → Type 0) (T : List (ℕ × Kept)) → IsDistinct nat_eq (keys_of T) → ((q : ℕ) → P (account_at T q)) → All P (values_of T)
+all-kept P T distinct h = All-values_from_lookup nat_eq_equiv P T distinct (λ q. by q (lookup (nat_eq q) T) refl)
+  where
+    by : (q : ℕ) (o : Option Kept) → lookup (nat_eq q) T ≡ o → IfSome o P
+    by q None k = tt
+    by q (Some v) k = subst P (account_at-some T q v (sym k)) (h q)
+
+-- the trial is adopted
+pub holds-adopted : {A : ℕ → Kept} {K : List ℕ} {E E' own own' : List Entry} {room room' k n n' : ℕ} → ((q : ℕ) → is_known K q ≡ false → A q ≡ no_account)
+    → ((q : ℕ) → Prefix (bytes_of (stamped_to (connections_of (sends_of E) A K) q)) (sent_to q (sends_of (take k E ++ own)))) → E' ≡ take k E ++ own → n' ≡ position_or_len (waits_in A) E' → Holds A K E own room (Some k) n → Holds A K E' own' room' None n'
+holds-adopted {A = A} {K = K} {E = E} {own = own} {own' = own'} {room' = room'} {k = k} {n' = n'} none covers items cursor h =
+    subst (λ (l : List Entry). n' ≡ position_or_len (waits_in A) l → Holds A K l own' room' None n') (sym items) (λ at. record {
+      stands = record {
+        distinct = h.stands.distinct;
+        laid = h.writes.laid;
+        fits = λ q. omega (arith, prefix-le _ _ (covers q), length-bytes_of (stamped_to (connections_of (sends_of E) A K) q), passed-length q (none q) h.stands);
+        stamps = h.stands.stamps;
+        cursor = at;
+      };
+      writes = h.writes;
+      room = tt;
+    }) cursor
+
+pub seen-adopted : {A : ℕ → Kept} {K : List ℕ} {E : List Entry} {n : ℕ} (S : List Send) → ((q : ℕ) → is_known K q ≡ false → A q ≡ no_account) → Stands A K E n
+    → ((q : ℕ) → Prefix (bytes_of (stamped_to (connections_of (sends_of E) A K) q)) (sent_to q S)) → connections_of S A K ≡ connections_of (sends_of E) A K
+seen-adopted {A = A} {K = K} {E = E} S none h covers = connections-same (sends_of E) S A A K (λ q.
+    ap (λ (l : List Passed). record { conn = q; closed = (A q).closed; gone = (A q).gone; earlier = (A q).earlier; passed = l })
+    (passed_of-same (sent_to q (sends_of E)) (sent_to q S) (A q).stamps (h.fits q) (subst (λ (l : List Passed). Prefix (bytes_of l) (sent_to q S)) (stamped_to-of (sends_of E) A K q (none q)) (covers q))))
+
+-- there is room for a trial's own sends behind those that it shares
+pub adopt-room : {A : ℕ → Kept} {K : List ℕ} {E own : List Entry} {room k n len new_len own_len new_room : ℕ} → Holds A K E own room (Some k) n → len ≡ length E → own_len ≡ length own → new_len ≡ min k len → new_room ≡ room → new_len + own_len ≤ new_room
+adopt-room h a b m r = omega (arith, h.room.0, h.room.1, a, b, m, r)
+
+-- more was passed
+order-replicate : (xs : List ℕ) (stamp n : ℕ) → IsInOrder xs → NotBefore stamp xs → IsInOrder (xs ++ replicate n stamp)
+order-replicate [] stamp zero h m = tt
+order-replicate [] stamp (suc n) h m = (all n, order-replicate [] stamp n tt tt)
+  where
+    all : (n : ℕ) → AllByRecursion (λ y. stamp ≤ y) (replicate n stamp)
+    all zero = tt
+    all (suc n) = (omega arith, all n)
+order-replicate (x ∷ xs) stamp n h m = (all xs n h.0 m.0, order-replicate xs stamp n h.1 m.1)
+  where
+    all : (xs : List ℕ) (n : ℕ) → AllByRecursion (λ y. x ≤ y) xs → x ≤ stamp → AllByRecursion (λ y. x ≤ y) (xs ++ replicate n stamp)
+    all [] zero h le = tt
+    all [] (suc n) h le = (le, all [] n h le)
+    all (y ∷ xs) n h le = (h.0, all xs n h.1 le)
+
+abbrev pub passed_account : Kept → ℕ → ℕ → Kept
+passed_account k count stamp = record k { stamps = k.stamps ++ replicate count stamp }
+
+pub cursor-passed : (A : ℕ → Kept) (E : List Entry) {n : ℕ} (conn count stamp : ℕ) → n ≡ position_or_len (waits_in A) E → n ≤ position_or_len (waits_in (put A conn (passed_account (A conn) count stamp))) E
+cursor-passed A E conn count stamp at = cursor-later A (put A conn (passed_account (A conn) count stamp)) E
+    (λ q h. sym (put-same is_open_account A conn (passed_account (A conn) count stamp) refl q) ∙ h) (λ q. by q (conn == q) refl) at
+  where
+    by : (q : ℕ) (b : Bool) → conn == q ≡ b → passed_end (A q) ≤ passed_end (if b then passed_account (A conn) count stamp else A q)
+    by q true p = subst (λ (c : ℕ). passed_end (A c) ≤ passed_end (passed_account (A conn) count stamp)) (eqb-true conn q p) (omega (arith, length-append (A conn).stamps (replicate count stamp)))
+    by q false p = omega arith
+
+pub holds-passed : {A : ℕ → Kept} {K : List ℕ} {E own : List Entry} {room : ℕ} {shared : Option ℕ} {n n' : ℕ} (conn count stamp : ℕ) → length (A conn).stamps + count ≤ length (sent_to conn (sends_of E)) → NotBefore stamp (A conn).stamps
+    → n' ≡ position_or_len (waits_in (put A conn (passed_account (A conn) count stamp))) E → Holds A K E own room shared n → Holds (put A conn (passed_account (A conn) count stamp)) K E own room shared n'
+holds-passed {A = A} {E = E} {own = own} {shared = shared} conn count stamp few later cursor h = record {
+  stands = record {
+    distinct = h.stands.distinct;
+    laid = laid-same earlier (λ q x. x) h.stands.laid;
+    fits = λ q. fits q (conn == q) refl;
+    stamps = λ q. order q (conn == q);
+    cursor = cursor;
+  };
+  writes = record {
+    laid = laid-same earlier (λ q x. x) h.writes.laid;
+    ends = λ q. put-same (λ (k : Kept). k.end) A conn (passed_account (A conn) count stamp) refl q ∙ h.writes.ends q ∙ ap (λ (m : ℕ). m + length (sent_to q (sends_of (written E own shared)))) (sym (earlier q));
+  };
+  room = h.room;
+}
+  where
+    earlier : (q : ℕ) → (put A conn (passed_account (A conn) count stamp) q).earlier ≡ (A q).earlier
+    earlier q = put-same (λ (k : Kept). k.earlier) A conn (passed_account (A conn) count stamp) refl q
+
+    fits : (q : ℕ) (b : Bool) → conn == q ≡ b → length (if b then passed_account (A conn) count stamp else A q).stamps ≤ length (sent_to q (sends_of E))
+    fits q true p = subst (λ (c : ℕ). length (passed_account (A conn) count stamp).stamps ≤ length (sent_to c (sends_of E))) (eqb-true conn q p) (omega (arith, few, length-append (A conn).stamps (replicate count stamp), length-replicate count stamp))
+    fits q false p = h.stands.fits q
+
+    order : (q : ℕ) (b : Bool) → IsInOrder (if b then passed_account (A conn) count stamp else A q).stamps
+    order q true = order-replicate (A conn).stamps stamp count (h.stands.stamps conn) later
+    order q false = h.stands.stamps q
+
+pub seen-passed : {A : ℕ → Kept} {K : List ℕ} {E : List Entry} {n : ℕ} (conn count stamp : ℕ) → (is_known K conn ≡ false → A conn ≡ no_account) → Stands A K E n
+    → connections_of (sends_of E) (put A conn (passed_account (A conn) count stamp)) K ≡ changed conn (passed_connection (stamped stamp (take count (drop (length (bytes_of (stamped_to (connections_of (sends_of E) A K) conn))) (sent_to conn (sends_of E)))))) (connections_of (sends_of E) A K)
+seen-passed {A = A} {K = K} {E = E} conn count stamp none h =
+    let place : length (A conn).stamps ≡ length (bytes_of (stamped_to (connections_of (sends_of E) A K) conn)) = sym (length-bytes_of (stamped_to (connections_of (sends_of E) A K) conn) ∙ passed-length conn none h) in
+    connections-changed (sends_of E) A conn (passed_account (A conn) count stamp) _ K
+    (ap (λ (l : List Passed). record { conn = conn; closed = (A conn).closed; gone = (A conn).gone; earlier = (A conn).earlier; passed = l })
+    (passed_of-more (sent_to conn (sends_of E)) (A conn).stamps count stamp (h.fits conn)
+    ∙ ap (λ (m : ℕ). passed_of (sent_to conn (sends_of E)) (A conn).stamps ++ stamped stamp (take count (drop m (sent_to conn (sends_of E))))) place))
+
+-- where the survivor's streams end
+pub sent-ends : {A : ℕ → Kept} {K : List ℕ} {E own : List Entry} {room n : ℕ} (shared : Option ℕ) → shared ≡ None → Holds A K E own room shared n → Writes A K E
+sent-ends None none h = h.writes
+sent-ends (Some k) none h = absurd (let no : ⊥ = cc (none) in no)
 
 -- the settled sends of an open connection are passed wholly
-pub settled-passed : {C : List Connection} {s : ℕ → ℕ} {E : List Entry} {n : ℕ} (count q : ℕ) → Stands C s E n → count ≤ n → is_open C q ≡ true → length (sent_to q (sends_of (take count E))) ≤ length (stamped_to C q)
+settled-passed : {A : ℕ → Kept} {K : List ℕ} {E : List Entry} {n : ℕ} (count q : ℕ) → Stands A K E n → count ≤ n → is_open_account (A q) ≡ true → length (sent_to q (sends_of (take count E))) ≤ length (A q).stamps
 unfolding sends_of
-settled-passed {C = C} {s = s} {E = E} {n = n} count q h le o =
-    let at = earlier_at C q + length (stamped_to C q) in
-    let within : count ≤ length E = omega (arith, le, h.cursor, position-le (waits_in C) E) in
-    let all = stream-laid (earlier_at C) q (earlier_at C q + length (stamped_to C q)) [] E h.laid.places in
-    let later = laid-drop {earlier' = λ (c : ℕ). earlier_at C c + length (sent_to c (sends_of (take count E)))} E count h.laid within (λ c. refl) in
-    let rest = stream-laid (λ (c : ℕ). earlier_at C c + length (sent_to c (sends_of (take count E)))) q (earlier_at C q + length (stamped_to C q)) [] (drop count E) later.places in
-    let same = stream-from q (earlier_at C q + length (stamped_to C q)) count E (λ k d lt in_range at_q.
-    let opened : is_open C (get_or E k d).conn ≡ true = ap (is_open C) at_q ∙ o in
-    let before : k < position_or_len (waits_in C) E = omega (arith, lt, le, h.cursor) in
-    let none = waits-not C (get_or E k d) opened (fails_before_first (waits_in C) E k d before) in
-    let here : earlier_at C (get_or E k d).conn + length (stamped_to C (get_or E k d).conn) ≡ earlier_at C q + length (stamped_to C q) = ap (λ (c : ℕ). earlier_at C c + length (stamped_to C c)) at_q in
-    nil_from_length (rest_of (earlier_at C q + length (stamped_to C q)) (get_or E k d)) (ap (λ (m : ℕ). length (rest_of m (get_or E k d))) (sym here) ∙ none)) in
-    let long = ap length (sym rest ∙ same ∙ all) in
-    let whole : length (sent_to q (sends_of (take count E))) + length (sent_to q (sends_of (drop count E))) ≡ length (sent_to q (sends_of E)) = sym (length_parts q (take count E) (drop count E)) ∙ ap (λ (l : List Entry). length (sent_to q (sends_of l))) (take-append-drop count E) in
-    let left = length-drop (earlier_at C q + length (stamped_to C q) - earlier_at C q - 0) (sent_to q (sends_of E)) in
-    let right = length-drop (earlier_at C q + length (stamped_to C q) - (earlier_at C q + length (sent_to q (sends_of (take count E)))) - 0) (sent_to q (sends_of (drop count E))) in
-    let bound = prefix-le (bytes_of (stamped_to C q)) (sent_to q (sends_of E)) (h.passed q) in
-    omega (arith, long, whole, left, right, bound, length-bytes_of (stamped_to C q))
+settled-passed zero q h le o = omega arith
+settled-passed {A = A} {E = E} {n = n} (suc count) q h le o = by (d.conn == q) refl (settled-passed count q h (omega (arith, le)) o)
+  where
+    d : Entry
+    d = get_or E count (record { conn = 0; bytes = []; taken = 0; end = 0 })
+
+    within : count < length E
+    within = omega (arith, le, h.cursor, position-le (waits_in A) E)
+
+    by : (b : Bool) → d.conn == q ≡ b → length (sent_to q (sends_of (take count E))) ≤ length (A q).stamps → length (sent_to q (sends_of (take (suc count) E))) ≤ length (A q).stamps
+    by true p ih =
+        let none : Entry = record { conn = 0; bytes = []; taken = 0; end = 0 } in
+        let same : d.conn ≡ q = eqb-true d.conn q p in
+        let more : length (sent_to q (sends_of (take (suc count) E))) ≡ length (sent_to q (sends_of (take count E))) + length d.bytes = one_more q count (record { conn = 0; bytes = []; taken = 0; end = 0 }) E within ∙ ap (λ (b : Bool). length (sent_to q (sends_of (take count E))) + (if b then length d.bytes else 0)) p in
+        let place : d.end ≡ (A q).earlier + length (sent_to q (sends_of (take (suc count) E))) = h.laid.places count (record { conn = 0; bytes = []; taken = 0; end = 0 }) within ∙ ap (λ (c : ℕ). (A c).earlier + length (sent_to c (sends_of (take (suc count) E)))) same in
+        let rest : length (rest_of (passed_end (A q)) d) ≡ 0 = ap (λ (c : ℕ). length (rest_of (passed_end (A c)) d)) (sym same) ∙ waits-not A d (ap (λ (c : ℕ). is_open_account (A c)) same ∙ o) (fails_before_first (waits_in A) E count (record { conn = 0; bytes = []; taken = 0; end = 0 }) (omega (arith, le, h.cursor))) in
+        omega (arith, ih, more, place, rest, length-drop (passed_end (A q) - start_of d) d.bytes)
+    by false p ih =
+        let more : length (sent_to q (sends_of (take (suc count) E))) ≡ length (sent_to q (sends_of (take count E))) + 0 = one_more q count (record { conn = 0; bytes = []; taken = 0; end = 0 }) E within ∙ ap (λ (b : Bool). length (sent_to q (sends_of (take count E))) + (if b then length d.bytes else 0)) p in
+        omega (arith, ih, more)
 
 -- so the sends behind them wait as before
-waits-trimmed : {C : List Connection} {s : ℕ → ℕ} {E : List Entry} {n : ℕ} (count : ℕ) (e : Entry) → Stands C s E n → count ≤ n → (b : Bool) → is_open C e.conn ≡ b → waits_in (trimmed_connections (sends_of (take count E)) C) e ≡ waits_in C e
-unfolding waits
-waits-trimmed {C = C} {E = E} count e h le true o =
-    let settled_le = settled-passed count e.conn h le o in
-    let place : earlier_at (trimmed_connections (sends_of (take count E)) C) e.conn + length (stamped_to (trimmed_connections (sends_of (take count E)) C) e.conn) ≡ earlier_at C e.conn + length (stamped_to C e.conn) =
-    omega (
-      arith,
-      settled_le,
-      earlier_at-trimmed (sends_of (take count E)) C e.conn (λ k. absurd (true≢false (sym o ∙ is_open-none C e.conn k))),
-      ap length (stamped_to-trimmed (sends_of (take count E)) C e.conn),
-      length-drop (length (sent_to e.conn (sends_of (take count E)))) (stamped_to C e.conn),
-    ) in
-    (λ i. is_open-trimmed (sends_of (take count E)) C e.conn i && nat_lt 0 (length (rest_of (place i) e)))
-waits-trimmed {C = C} {E = E} count e h le false o =
-    let shut : is_open (trimmed_connections (sends_of (take count E)) C) e.conn ≡ false = is_open-trimmed (sends_of (take count E)) C e.conn ∙ o in
-    ap (λ (b : Bool). b && nat_lt 0 (length (rest_of (earlier_at (trimmed_connections (sends_of (take count E)) C) e.conn + length (stamped_to (trimmed_connections (sends_of (take count E)) C) e.conn)) e))) shut
-    ∙ sym (ap (λ (b : Bool). b && nat_lt 0 (length (rest_of (earlier_at C e.conn + length (stamped_to C e.conn)) e))) o)
+waits-trimmed : {A : ℕ → Kept} {K : List ℕ} {E : List Entry} {n : ℕ} (count : ℕ) (e : Entry) → Stands A K E n → count ≤ n → (b : Bool) → is_open_account (A e.conn) ≡ b → waits_in (given_up A (take count E)) e ≡ waits_in A e
+waits-trimmed {A = A} {E = E} count e h le true o =
+    let place : passed_end (given_up A (take count E) e.conn) ≡ passed_end (A e.conn) = omega (arith, settled-passed count e.conn h le o, length-drop (length (sent_to e.conn (sends_of (take count E)))) (A e.conn).stamps) in
+    ap (λ (m : ℕ). is_open_account (A e.conn) && nat_lt 0 (length (rest_of m e))) place
+waits-trimmed {A = A} {E = E} count e h le false o =
+    ap (λ (b : Bool). b && nat_lt 0 (length (rest_of (passed_end (given_up A (take count E) e.conn)) e))) o ∙ sym (ap (λ (b : Bool). b && nat_lt 0 (length (rest_of (passed_end (A e.conn)) e))) o)
 
 pub prefix-drop : (front rest passed : List ℕ) → Prefix passed (front ++ rest) → Prefix (drop (length front) passed) rest
 prefix-drop [] rest passed p = p
@@ -502,130 +462,133 @@ bytes_of-drop zero xs = refl
 bytes_of-drop (suc n) [] = refl
 bytes_of-drop (suc n) (x ∷ xs) = bytes_of-drop n xs
 
-stamps_of-drop : (n : ℕ) (xs : List Passed) → stamps_of (drop n xs) ≡ drop n (stamps_of xs)
-unfolding stamps_of
-stamps_of-drop zero xs = refl
-stamps_of-drop (suc n) [] = refl
-stamps_of-drop (suc n) (x ∷ xs) = stamps_of-drop n xs
 
-pub stands-trimmed : {C C' : List Connection} {s s' : ℕ → ℕ} {E E' : List Entry} {n n' : ℕ} (count : ℕ) → Stands C s E n → count ≤ n → C' ≡ trimmed_connections (sends_of (take count E)) C → E' ≡ drop count E
-    → Laid (earlier_at C') s' E' → n' ≡ n - count → Stands C' s' E' n'
-stands-trimmed {C = C} {C' = C'} {s = s} {s' = s'} {E = E} {E' = E'} {n = n} count h le is left laid cursor = record {
-  distinct = subst (IsDistinct nat_eq) (sym (ap (map (λ (c : Connection). c.conn)) is ∙ keys-trimmed (sends_of (take count E)) C)) h.distinct;
-  laid = laid;
-  passed = λ c. subst (λ (l : List Passed). Prefix (bytes_of l) (sent_to c (sends_of E'))) (sym (new c)) (front c);
-  stamps = λ c. subst (λ (l : List Passed). IsInOrder (stamps_of l)) (sym (new c)) (subst IsInOrder (sym (stamps_of-drop (length (sent_to c (sends_of (take count E)))) (stamped_to C c)))
-      (order-behind (take (length (sent_to c (sends_of (take count E)))) (stamps_of (stamped_to C c))) _ (subst IsInOrder (sym (take-append-drop (length (sent_to c (sends_of (take count E)))) (stamps_of (stamped_to C c)))) (h.stamps c))));
-  cursor = cursor ∙ place ∙ (λ i. position_or_len (waits_in (sym is i)) (sym left i));
-}
+order-drop : (n : ℕ) (xs : List ℕ) → IsInOrder xs → IsInOrder (drop n xs)
+order-drop n xs h = order-behind (take n xs) (drop n xs) (subst IsInOrder (sym (take-append-drop n xs)) h)
+
+pub holds-trimmed : {A B : ℕ → Kept} {K K' : List ℕ} {E E' own own' : List Entry} {room room' n n' : ℕ} (count : ℕ) (shared : Option ℕ) → shared ≡ None → count ≤ n → K' ≡ K → ((q : ℕ) → B q ≡ given_up A (take count E) q) → E' ≡ drop count E → n' ≡ n - count
+    → Holds A K E own room shared n → Holds B K' E' own' room' shared n'
+holds-trimmed count (Some k) none le keys at left place h = absurd (let no : ⊥ = cc (none) in no)
+holds-trimmed {A = A} {B = B} {K = K} {E = E} {E' = E'} {own' = own'} {room' = room'} {n = n} {n' = n'} count None none le keys at left place h =
+    subst (λ (l : List ℕ). Holds B l E' own' room' None n') (sym keys) (subst (λ (l : List Entry). Holds B K l own' room' None n') (sym left) (record {
+      stands = record {
+        distinct = h.stands.distinct;
+        laid = laid;
+        fits = λ q. omega (arith, h.stands.fits q, ap (λ (k : Kept). length k.stamps) (at q), length-drop (length (sent_to q (sends_of (take count E)))) (A q).stamps, lengths_at q count E);
+        stamps = λ q. subst (λ (k : Kept). IsInOrder k.stamps) (sym (at q)) (order-drop (length (sent_to q (sends_of (take count E)))) (A q).stamps (h.stands.stamps q));
+        cursor =
+            let moved = position-drop (waits_in A) E count (omega (arith, le, h.stands.cursor)) in
+            let same = position-same (waits_in (given_up A (take count E))) (waits_in A) (drop count E) (λ k d lt. waits-trimmed count (get_or (drop count E) k d) h.stands le (is_open_account (A (get_or (drop count E) k d).conn)) refl) in
+            let here : n' ≡ position_or_len (waits_in (given_up A (take count E))) (drop count E) = omega (arith, moved, same, h.stands.cursor, place) in
+            here ∙ (λ i. position_or_len (λ (e : Entry). is_open_account (sym (at e.conn) i) && nat_lt 0 (length (rest_of (passed_end (sym (at e.conn) i)) e))) (drop count E));
+      };
+      writes = record { laid = laid; ends = λ q. omega (arith, h.writes.ends q, ap (λ (k : Kept). k.end) (at q), ap (λ (k : Kept). k.earlier) (at q), lengths_at q count E) };
+      room = tt;
+    }))
   where
-    new : (c : ℕ) → stamped_to C' c ≡ drop (length (sent_to c (sends_of (take count E)))) (stamped_to C c)
-    new c = ap (λ (l : List Connection). stamped_to l c) is ∙ stamped_to-trimmed (sends_of (take count E)) C c
+    laid : Laid B K (drop count E)
+    laid = laid-drop E count h.stands.laid (omega (arith, le, h.stands.cursor, position-le (waits_in A) E)) (λ q. ap (λ (k : Kept). k.earlier) (at q))
 
-    front : (c : ℕ) → Prefix (bytes_of (drop (length (sent_to c (sends_of (take count E)))) (stamped_to C c))) (sent_to c (sends_of E'))
-    front c =
-        let whole : sent_to c (sends_of E) ≡ sent_to c (sends_of (take count E)) ++ sent_to c (sends_of (drop count E)) = ap (λ (l : List Entry). sent_to c (sends_of l)) (sym (take-append-drop count E)) ∙ of_parts c (take count E) (drop count E) in
-        let p = prefix-drop (sent_to c (sends_of (take count E))) (sent_to c (sends_of (drop count E))) (bytes_of (stamped_to C c)) (subst (Prefix (bytes_of (stamped_to C c))) whole (h.passed c)) in
-        subst (λ (l : List Entry). Prefix (bytes_of (drop (length (sent_to c (sends_of (take count E)))) (stamped_to C c))) (sent_to c (sends_of l))) (sym left)
-        (subst (λ (l : List ℕ). Prefix l (sent_to c (sends_of (drop count E)))) (sym (bytes_of-drop (length (sent_to c (sends_of (take count E)))) (stamped_to C c))) p)
+pub seen-trimmed : (A B : ℕ → Kept) (K K' : List ℕ) (E E' : List Entry) (count : ℕ) → K' ≡ K → ((q : ℕ) → B q ≡ given_up A (take count E) q) → E' ≡ drop count E
+    → connections_of (sends_of E') B K' ≡ trimmed_connections (take count (sends_of E)) (connections_of (sends_of E) A K)
+seen-trimmed A B K K' E E' count keys at left =
+    ap (connections_of (sends_of E') B) keys ∙ connections-trimmed (sends_of E) (sends_of E') A B (sends_of (take count E)) K (λ q. ap (seen (sends_of E') q) (at q)
+    ∙ ap (λ (l : List Passed). record { conn = q; closed = (A q).closed; gone = (A q).gone; earlier = (A q).earlier + length (sent_to q (sends_of (take count E))); passed = l })
+    (ap (λ (l : List ℕ). passed_of l (drop (length (sent_to q (sends_of (take count E)))) (A q).stamps)) (ap (λ (l : List Entry). sent_to q (sends_of l)) left ∙ sym (behind_front q count E))
+    ∙ passed_of-drop (length (sent_to q (sends_of (take count E)))) (sent_to q (sends_of E)) (A q).stamps))
+    ∙ ap (λ (l : List Send). trimmed_connections l (connections_of (sends_of E) A K)) (sends_of-take count E)
 
-    place : n - count ≡ position_or_len (waits_in (trimmed_connections (sends_of (take count E)) C)) (drop count E)
-    place =
-        let moved = position-drop (waits_in C) E count (omega (arith, le, h.cursor)) in
-        let same = position-same (waits_in (trimmed_connections (sends_of (take count E)) C)) (waits_in C) (drop count E) (λ k d lt. waits-trimmed count (get_or (drop count E) k d) h le (is_open C (get_or (drop count E) k d).conn) refl) in
-        omega (arith, moved, same, h.cursor)
+-- the parts as contracts see them
+abbrev pub part_in : (ℕ → Kept) → Entry → Send
+part_in A e = record { conn = e.conn; bytes = rest_of (passed_end (A e.conn)) e; taken = e.taken }
 
-pub settled-is : {C : List Connection} {s : ℕ → ℕ} {E : List Entry} {n : ℕ} → Stands C s E n → position_or_len (waits C) (parts_behind C [] (sends_of E)) ≡ n
-settled-is {C = C} {E = E} h = ap (position_or_len (waits C)) (parts-are h) ∙ position-map (waits C) (part_of C) E ∙ sym h.cursor
+parts-are : {A : ℕ → Kept} {K : List ℕ} {E : List Entry} {n : ℕ} → ((q : ℕ) → is_known K q ≡ false → A q ≡ no_account) → Stands A K E n → parts_behind (connections_of (sends_of E) A K) [] (sends_of E) ≡ map (part_in A) E
+unfolding sends_of
+parts-are {A = A} {K = K} {E = E} none h = parts-laid (connections_of (sends_of E) A K) A (λ q. passed-length q (none q) h) [] E h.laid.places
+
+waits-seen : {A : ℕ → Kept} (K : List ℕ) (S : List Send) → ((q : ℕ) → is_known K q ≡ false → A q ≡ no_account) → (λ (e : Entry). waits (connections_of S A K) (part_in A e)) ≡ waits_in A
+unfolding waits
+waits-seen {A = A} K S none = λ i e. is_open-of S A K e.conn (none e.conn) i && nat_lt 0 (length (rest_of (passed_end (A e.conn)) e))
+
+pub settled-is : {A : ℕ → Kept} {K : List ℕ} {E : List Entry} {n : ℕ} → ((q : ℕ) → is_known K q ≡ false → A q ≡ no_account) → Stands A K E n
+    → position_or_len (waits (connections_of (sends_of E) A K)) (parts_behind (connections_of (sends_of E) A K) [] (sends_of E)) ≡ n
+settled-is {A = A} {K = K} {E = E} none h =
+    ap (position_or_len (waits (connections_of (sends_of E) A K))) (parts-are none h) ∙ position-map (waits (connections_of (sends_of E) A K)) (part_in A) E ∙ ap (λ (p : Entry → Bool). position_or_len p E) (waits-seen K (sends_of E) none) ∙ sym h.cursor
 
 -- the next part that may be passed
-pub next-found : {C : List Connection} {s : ℕ → ℕ} {E : List Entry} {n : ℕ} (until : ℕ) (e : Entry) → Stands C s E n → n < length E → e ≡ get_or E n e → e.taken ≤ until
-    → find (λ (p : Send). waits C p && nat_le p.taken until) (parts_behind C [] (sends_of E)) ≡ Some (part_of C e)
-next-found {C = C} {E = E} {n = n} until e h lt is le =
-    let here : waits_in C e ≡ true = ap (waits_in C) is ∙ position-at (waits_in C) E n e h.cursor lt in
-    ap (find (λ (p : Send). waits C p && nat_le p.taken until)) (parts-are h) ∙ find-map (λ (p : Send). waits C p && nat_le p.taken until) (part_of C) E
-    ∙ ap (option_map (part_of C)) (find-at (λ (x : Entry). waits_in C x && nat_le x.taken until) E n e lt is (and_from (waits_in C e) (nat_le e.taken until) here (le-leb e.taken until le))
-    (λ k d before. and_left (waits_in C (get_or E k d)) (nat_le (get_or E k d).taken until) (fails_before_first (waits_in C) E k d (omega (arith, before, h.cursor)))))
+next-of : {A : ℕ → Kept} {K : List ℕ} {E : List Entry} {n : ℕ} (until : ℕ) → ((q : ℕ) → is_known K q ≡ false → A q ≡ no_account) → Stands A K E n
+    → find (λ (p : Send). waits (connections_of (sends_of E) A K) p && nat_le p.taken until) (parts_behind (connections_of (sends_of E) A K) [] (sends_of E)) ≡ option_map (part_in A) (find (λ (e : Entry). waits_in A e && nat_le e.taken until) E)
+next-of {A = A} {K = K} {E = E} until none h =
+    ap (find (λ (p : Send). waits (connections_of (sends_of E) A K) p && nat_le p.taken until)) (parts-are none h) ∙ find-map (λ (p : Send). waits (connections_of (sends_of E) A K) p && nat_le p.taken until) (part_in A) E
+    ∙ ap (λ (p : Entry → Bool). option_map (part_in A) (find (λ (e : Entry). p e && nat_le e.taken until) E)) (waits-seen K (sends_of E) none)
 
-pub next-none : {C : List Connection} {s : ℕ → ℕ} {E : List Entry} {n : ℕ} (until : ℕ) → Stands C s E n → length E ≤ n
-    → find (λ (p : Send). waits C p && nat_le p.taken until) (parts_behind C [] (sends_of E)) ≡ None
-next-none {C = C} {E = E} {n = n} until h le =
-    ap (find (λ (p : Send). waits C p && nat_le p.taken until)) (parts-are h) ∙ find-map (λ (p : Send). waits C p && nat_le p.taken until) (part_of C) E
-    ∙ ap (option_map (part_of C)) (find-none (λ (x : Entry). waits_in C x && nat_le x.taken until) E
-    (λ k d lt. and_left (waits_in C (get_or E k d)) (nat_le (get_or E k d).taken until) (fails_before_first (waits_in C) E k d (omega (arith, lt, le, h.cursor)))))
+pub next-found : {A : ℕ → Kept} {K : List ℕ} {E : List Entry} {n : ℕ} (until : ℕ) (e : Entry) → ((q : ℕ) → is_known K q ≡ false → A q ≡ no_account) → Stands A K E n → n < length E → e ≡ get_or E n e → e.taken ≤ until
+    → find (λ (p : Send). waits (connections_of (sends_of E) A K) p && nat_le p.taken until) (parts_behind (connections_of (sends_of E) A K) [] (sends_of E)) ≡ Some (part_in A e)
+next-found {A = A} {E = E} {n = n} until e none h lt is le =
+    let here : waits_in A e ≡ true = ap (waits_in A) is ∙ position-at (waits_in A) E n e h.cursor lt in
+    next-of until none h ∙ ap (option_map (part_in A)) (find-at (λ (x : Entry). waits_in A x && nat_le x.taken until) E n e lt is (and_from (waits_in A e) (nat_le e.taken until) here (le-leb e.taken until le))
+    (λ k d before. and_left (waits_in A (get_or E k d)) (nat_le (get_or E k d).taken until) (fails_before_first (waits_in A) E k d (omega (arith, before, h.cursor)))))
 
-pub next-late : {C : List Connection} {s : ℕ → ℕ} {E : List Entry} {n : ℕ} (until : ℕ) (e : Entry) → Stands C s E n → n < length E → e ≡ get_or E n e → until < e.taken
-    → find (λ (p : Send). waits C p && nat_le p.taken until) (parts_behind C [] (sends_of E)) ≡ None
-next-late {C = C} {E = E} {n = n} until e h lt is late =
-    ap (find (λ (p : Send). waits C p && nat_le p.taken until)) (parts-are h) ∙ find-map (λ (p : Send). waits C p && nat_le p.taken until) (part_of C) E
-    ∙ ap (option_map (part_of C)) (find-none (λ (x : Entry). waits_in C x && nat_le x.taken until) E (λ k d within. by k d within (cases_lt k n)))
+pub next-none : {A : ℕ → Kept} {K : List ℕ} {E : List Entry} {n : ℕ} (until : ℕ) → ((q : ℕ) → is_known K q ≡ false → A q ≡ no_account) → Stands A K E n → ((e : Entry) → n < length E → e ≡ get_or E n e → until < e.taken)
+    → find (λ (p : Send). waits (connections_of (sends_of E) A K) p && nat_le p.taken until) (parts_behind (connections_of (sends_of E) A K) [] (sends_of E)) ≡ None
+next-none {A = A} {E = E} {n = n} until none h late =
+    next-of until none h ∙ ap (option_map (part_in A)) (find-none (λ (x : Entry). waits_in A x && nat_le x.taken until) E (λ k d within. by k d within (cases_lt k n)))
   where
-    by : (k : ℕ) (d : Entry) → k < length E → (k < n) ⊎ (n ≤ k) → (waits_in C (get_or E k d) && nat_le (get_or E k d).taken until) ≡ false
-    by k d within (inl before) = and_left (waits_in C (get_or E k d)) (nat_le (get_or E k d).taken until) (fails_before_first (waits_in C) E k d (omega (arith, before, h.cursor)))
+    by : (k : ℕ) (d : Entry) → k < length E → (k < n) ⊎ (n ≤ k) → (waits_in A (get_or E k d) && nat_le (get_or E k d).taken until) ≡ false
+    by k d within (inl before) = and_left (waits_in A (get_or E k d)) (nat_le (get_or E k d).taken until) (fails_before_first (waits_in A) E k d (omega (arith, before, h.cursor)))
     by k d within (inr behind) =
-        let same : get_or E n d ≡ e = get_or_default E n d e lt ∙ sym is in
-        let after : e.taken ≤ (get_or E k d).taken = subst (λ (x : Entry). x.taken ≤ (get_or E k d).taken) same (later-at E n k d h.laid.times behind within) in
-        and_right (waits_in C (get_or E k d)) (nat_le (get_or E k d).taken until) (lt-leb (get_or E k d).taken until (omega (arith, late, after)))
+        let here : until < (get_or E n d).taken = late (get_or E n d) (omega (arith, behind, within)) (get_or_default E n d (get_or E n d) (omega (arith, behind, within))) in
+        and_right (waits_in A (get_or E k d)) (nat_le (get_or E k d).taken until) (lt-leb (get_or E k d).taken until (omega (arith, here, later-at E n k d h.laid.times behind within)))
 
 -- the next part of one connection
-abbrev pub rests : List Connection → ℕ → Entry → Bool
-rests C conn e = (e.conn == conn) && nat_lt 0 (length (rest_of (earlier_at C e.conn + length (stamped_to C e.conn)) e))
+abbrev pub rests : (ℕ → Kept) → ℕ → Entry → Bool
+rests A conn e = (e.conn == conn) && nat_lt 0 (length (rest_of (passed_end (A e.conn)) e))
 
-pub rest-found : {C : List Connection} {s : ℕ → ℕ} {E : List Entry} {n : ℕ} (conn i : ℕ) (e : Entry) → Stands C s E n → i < length E → e ≡ get_or E i e → rests C conn e ≡ true
-    → ((k : ℕ) (d : Entry) → k < i → rests C conn (get_or E k d) ≡ false) → find (λ (p : Send). p.conn == conn && nat_lt 0 (length p.bytes)) (parts_behind C [] (sends_of E)) ≡ Some (part_of C e)
-rest-found {C = C} {E = E} conn i e h lt is t before =
-    ap (find (λ (p : Send). p.conn == conn && nat_lt 0 (length p.bytes))) (parts-are h) ∙ find-map (λ (p : Send). p.conn == conn && nat_lt 0 (length p.bytes)) (part_of C) E
-    ∙ ap (option_map (part_of C)) (find-at (rests C conn) E i e lt is t before)
+pub rest-of : {A : ℕ → Kept} {K : List ℕ} {E : List Entry} {n : ℕ} (conn : ℕ) (found : Option Entry) → ((q : ℕ) → is_known K q ≡ false → A q ≡ no_account) → Stands A K E n → find (rests A conn) E ≡ found
+    → find (λ (p : Send). p.conn == conn && nat_lt 0 (length p.bytes)) (parts_behind (connections_of (sends_of E) A K) [] (sends_of E)) ≡ option_map (part_in A) found
+rest-of {A = A} {E = E} conn found none h is =
+    ap (find (λ (p : Send). p.conn == conn && nat_lt 0 (length p.bytes))) (parts-are none h) ∙ find-map (λ (p : Send). p.conn == conn && nat_lt 0 (length p.bytes)) (part_in A) E ∙ ap (option_map (part_in A)) is
 
-pub rest-none : {C : List Connection} {s : ℕ → ℕ} {E : List Entry} {n : ℕ} (conn : ℕ) → Stands C s E n
-    → ((k : ℕ) (d : Entry) → k < length E → rests C conn (get_or E k d) ≡ false) → find (λ (p : Send). p.conn == conn && nat_lt 0 (length p.bytes)) (parts_behind C [] (sends_of E)) ≡ None
-rest-none {C = C} {E = E} conn h none =
-    ap (find (λ (p : Send). p.conn == conn && nat_lt 0 (length p.bytes))) (parts-are h) ∙ find-map (λ (p : Send). p.conn == conn && nat_lt 0 (length p.bytes)) (part_of C) E
-    ∙ ap (option_map (part_of C)) (find-none (rests C conn) E none)
-
-pub rests-before : {C : List Connection} {s : ℕ → ℕ} {E : List Entry} {n : ℕ} (conn from : ℕ) → Stands C s E n → from ≡ (if is_open C conn then n else 0) → (k : ℕ) (d : Entry) → k < from → rests C conn (get_or E k d) ≡ false
-rests-before {C = C} {E = E} {n = n} conn from h is k d lt = by (is_open C conn) refl is
+pub rests-before : {A : ℕ → Kept} {K : List ℕ} {E : List Entry} {n : ℕ} (conn from : ℕ) → Stands A K E n → from ≡ (if is_open_account (A conn) then n else 0) → (k : ℕ) (d : Entry) → k < from → rests A conn (get_or E k d) ≡ false
+rests-before {A = A} {E = E} {n = n} conn from h is k d lt = by (is_open_account (A conn)) refl is
   where
-    by : (b : Bool) → is_open C conn ≡ b → from ≡ (if b then n else 0) → rests C conn (get_or E k d) ≡ false
+    by : (b : Bool) → is_open_account (A conn) ≡ b → from ≡ (if b then n else 0) → rests A conn (get_or E k d) ≡ false
     by true o e = tested ((get_or E k d).conn == conn)
         (λ p.
-        let opened : is_open C (get_or E k d).conn ≡ true = ap (is_open C) (eqb-true (get_or E k d).conn conn p) ∙ o in
-        let none = waits-not C (get_or E k d) opened (fails_before_first (waits_in C) E k d (omega (arith, lt, e, h.cursor))) in
-        and_right ((get_or E k d).conn == conn) _ (ap (nat_lt 0) none))
+        let opened : is_open_account (A (get_or E k d).conn) ≡ true = ap (λ (q : ℕ). is_open_account (A q)) (eqb-true (get_or E k d).conn conn p) ∙ o in
+        and_right ((get_or E k d).conn == conn) _ (ap (nat_lt 0) (waits-not A (get_or E k d) opened (fails_before_first (waits_in A) E k d (omega (arith, lt, e, h.cursor))))))
         (λ p. and_left ((get_or E k d).conn == conn) _ p)
     by false o e = absurd (omega (arith, lt, e))
 
 -- whether a part that the code looks at is left
-pub rests-part : (C : List Connection) (conn at : ℕ) (e : Entry) (part : List ℕ) → at ≡ earlier_at C conn + length (stamped_to C conn) → part ≡ (if e.conn == conn then rest_of at e else []) → rests C conn e ≡ not (length part == 0)
-rests-part C conn at e part place is = by (e.conn == conn) refl is
+pub rests-part : (A : ℕ → Kept) (conn at : ℕ) (e : Entry) (part : List ℕ) → at ≡ passed_end (A conn) → part ≡ (if e.conn == conn then rest_of at e else []) → rests A conn e ≡ not (length part == 0)
+rests-part A conn at e part place is = by (e.conn == conn) refl is
   where
-    by : (b : Bool) → e.conn == conn ≡ b → part ≡ (if b then rest_of at e else []) → (b && nat_lt 0 (length (rest_of (earlier_at C e.conn + length (stamped_to C e.conn)) e))) ≡ not (length part == 0)
+    by : (b : Bool) → e.conn == conn ≡ b → part ≡ (if b then rest_of at e else []) → (b && nat_lt 0 (length (rest_of (passed_end (A e.conn)) e))) ≡ not (length part == 0)
     by true p q =
-        let here : earlier_at C e.conn + length (stamped_to C e.conn) ≡ at = ap (λ (c : ℕ). earlier_at C c + length (stamped_to C c)) (eqb-true e.conn conn p) ∙ sym place in
+        let here : passed_end (A e.conn) ≡ at = ap (λ (c : ℕ). passed_end (A c)) (eqb-true e.conn conn p) ∙ sym place in
         ap (λ (m : ℕ). nat_lt 0 (length (rest_of m e))) here ∙ ap (λ (l : List ℕ). nat_lt 0 (length l)) (sym q) ∙ sym (not-empty (length part))
     by false p q = sym (ap (λ (l : List ℕ). not (length l == 0)) q)
 
-pub until-none : (item : ℕ) → until item [] ≡ []
-unfolding until
-until-none item = refl
+pub rests-bytes : (A : ℕ → Kept) (conn at : ℕ) (e : Entry) (part : List ℕ) → at ≡ passed_end (A conn) → part ≡ (if e.conn == conn then rest_of at e else []) → rests A conn e ≡ true → part ≡ rest_of (passed_end (A e.conn)) e
+rests-bytes A conn at e part place is t =
+    let same = (and_parts (e.conn == conn) _ t).0 in
+    is ∙ ap (λ (b : Bool). if b then rest_of at e else []) same ∙ ap (λ (m : ℕ). rest_of m e) (place ∙ ap (λ (c : ℕ). passed_end (A c)) (sym (eqb-true e.conn conn same)))
 
--- there is room for a trial's own sends behind those that it shares
-pub adopt-room : {C : List Connection} {t : ℕ → ℕ} {E own : List Entry} {room shared len new_len own_len new_room : ℕ} → Tries C t E own room shared → len ≡ length E → own_len ≡ length own → new_len ≡ min shared len → new_room ≡ room → new_len + own_len ≤ new_room
-adopt-room h a b m r = let w = h.within in let x = h.room in omega (arith, w, x, a, b, m, r)
-
-pub rests-more : (C : List Connection) (conn i : ℕ) (E : List Entry) (e : Entry) → i < length E → e ≡ get_or E i e → rests C conn e ≡ false → ((k : ℕ) (d : Entry) → k < i → rests C conn (get_or E k d) ≡ false)
-    → (k : ℕ) (d : Entry) → k < i + 1 → rests C conn (get_or E k d) ≡ false
-rests-more C conn i E e lt is f h k d below = by (cases_lt k i)
+pub rests-more : (A : ℕ → Kept) (conn i : ℕ) (E : List Entry) (e : Entry) → i < length E → e ≡ get_or E i e → rests A conn e ≡ false → ((k : ℕ) (d : Entry) → k < i → rests A conn (get_or E k d) ≡ false)
+    → (k : ℕ) (d : Entry) → k < i + 1 → rests A conn (get_or E k d) ≡ false
+rests-more A conn i E e lt is f h k d below = by (cases_lt k i)
   where
-    by : (k < i) ⊎ (i ≤ k) → rests C conn (get_or E k d) ≡ false
+    by : (k < i) ⊎ (i ≤ k) → rests A conn (get_or E k d) ≡ false
     by (inl before) = h k d before
     by (inr behind) =
         let at : k ≡ i = omega (arith, below, behind) in
-        let same : get_or E k d ≡ e = ap (λ (n : ℕ). get_or E n d) at ∙ get_or_default E i d e lt ∙ sym is in
-        ap (rests C conn) same ∙ f
+        ap (rests A conn) (ap (λ (n : ℕ). get_or E n d) at ∙ get_or_default E i d e lt ∙ sym is) ∙ f
 
-pub rests-bytes : (C : List Connection) (conn at : ℕ) (e : Entry) (part : List ℕ) → at ≡ earlier_at C conn + length (stamped_to C conn) → part ≡ (if e.conn == conn then rest_of at e else []) → rests C conn e ≡ true
-    → part ≡ rest_of (earlier_at C e.conn + length (stamped_to C e.conn)) e
-rests-bytes C conn at e part place is t =
-    let same = (and_parts (e.conn == conn) _ t).0 in
-    is ∙ ap (λ (b : Bool). if b then rest_of at e else []) same ∙ ap (λ (m : ℕ). rest_of m e) (place ∙ ap (λ (c : ℕ). earlier_at C c + length (stamped_to C c)) (sym (eqb-true e.conn conn same)))
+-- what holds of every ledger
+pub lawful : {A : ℕ → Kept} {K : List ℕ} {E own : List Entry} {room n : ℕ} {shared : Option ℕ} (first : ℕ) → ((q : ℕ) → is_known K q ≡ false → A q ≡ no_account) → Holds A K E own room shared n → IsLawful (ledger_of first E own shared (connections_of (sends_of E) A K))
+lawful {A = A} {K = K} {E = E} first none h = record { passed = λ q. passed-front A K E q (none q); times = h.stands.laid.times; stamps = λ q. subst IsInOrder (sym (passed-stamps q (none q) h.stands)) (h.stands.stamps q) }
+
+pub trial-same : (E own E' own' : List Entry) (shared : Option ℕ) → shared ≡ None → trial_of E' own' shared ≡ trial_of E own shared
+trial-same E own E' own' None k = refl
+trial-same E own E' own' (Some n) k = absurd (let no : ⊥ = cc (k) in no)

@@ -3,7 +3,7 @@ pub mod Ledger
 pub mod Parts
 pub mod Trials
 pub mod Trimming
-pub mod Tallies
+pub mod Accounts
 pub mod Entries
 pub mod Inside
 pub mod Shows

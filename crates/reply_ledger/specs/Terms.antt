@@ -1,5 +1,5 @@
 -- The words that this crate's definitions are written in: those of crates below, and types of its code.
-pub use Rattle.std.specs.List.{AllByRecursion, AllWithin, flat_map, list_all, position_or_len}
+pub use Rattle.std.specs.List.{AllByRecursion, AllWithin, flat_map, list_all, list_any, position_or_len}
 unfoldable pub use Rattle.std.specs.List.{IsDistinct}
 pub use Rattle.std.specs.Map.{keys_of, lookup, set_value, values_of}
 pub use Rattle.std.specs.Option.{option_map, option_map_or}

@@ -1,15 +1,11 @@
 // What is kept of one connection.
-ghost use Rattle.std.specs.Prelude.{◌≡◌, ℕ, ◌+◌, ◌-◌, ◌<◌, ◌≤◌, ◌&&◌, not, true, false, List, [], ◌++◌, length, take, drop, nat_le, OnOk, OnErr, IfSome, IfNone, OnSome, if◌then◌else◌};
-ghost use Rattle.reply_ledger.specs.Ledger.{Passed, bytes_of, stamped, stamps_of, IsInOrder};
-ghost use Rattle.reply_ledger.specs.Trials.{agree, until};
+ghost use Rattle.std.specs.Prelude.{◌≡◌, ℕ, ◌+◌, ◌-◌, ◌<◌, ◌≤◌, ◌&&◌, not, true, false, ◌++◌, length, drop, filter, replicate, nat_le, OnOk, OnErr, IfSome, IfNone, OnSome, if◌then◌else◌};
+ghost use Rattle.reply_ledger.specs.Ledger.{IsInOrder};
 ghost use Rattle.std.specs.List.{AllWithin};
 ghost use Rattle.std.specs.List.Sorted.{IsPartitionedBy};
 ghost use Rattle.std.specs.VecDeque.{deque_len};
-ghost use Rattle.reply_ledger.specs.Tallies.{new_tally, runs_past, Notes};
-ghost use Rattle.reply_ledger.specs.Entries.{stream_behind};
+ghost use Rattle.reply_ledger.specs.Accounts.{new_account, is_open_account, passed_end, runs_past, Notes};
 
-use crate::byte_queue::ByteQueue;
-use crate::entry::{Entry, gather};
 use std::alloc::{AllocError, Global};
 use std::collections::VecDeque;
 use std::marker::Model;
@@ -21,43 +17,38 @@ pub struct Run {
     pub stamp: u64,
 }
 
-/// What is kept of one connection. Places are counted from the first byte that was ever sent to it.
+/// What is kept of one connection. Places are counted from the first byte that was ever sent to it. The bytes stand in the sends.
 #[derive(Debug, Drop)]
 pub struct Account {
     closed: bool,
     gone: bool,
     earlier: u64,
-    bytes: ByteQueue,
     runs: VecDeque<Run>,
-    sent: u64,
-    tried: u64,
+    end: u64,
 }
 
 impl Model for Account {
-    ghost use Rattle.std.specs.Prelude.{ℕ, ◌+◌, ◌^◌, ◌<◌, ◌≤◌, length};
-    ghost use Rattle.reply_ledger.specs.Tallies.{Tally, passed_in, RunsFrom};
+    ghost use Rattle.reply_ledger.specs.Accounts.{Kept, stamps_in, RunsRise};
 
-    ghost Value = { Tally };
+    ghost Value = { Kept };
 
-    ghost view = { λ a. record { closed = a.closed; gone = a.gone; earlier = a.earlier; passed = passed_in a.earlier a.bytes a.runs.items; sent = a.sent; tried = a.tried } };
+    ghost view = { λ a. record { closed = a.closed; gone = a.gone; earlier = a.earlier; stamps = stamps_in a.earlier a.runs.items; end = a.end } };
 
-    ghost invariant = { λ a. RunsFrom a.earlier (a.earlier + length a.bytes) a.runs.items × (a.earlier + length a.bytes ≤ a.sent) × (a.sent < 2 ^ 64) };
+    ghost invariant = { λ a. RunsRise a.earlier a.runs.items };
 }
 
 impl Account {
     /// A connection to which nothing was sent.
-    #[tactic(auto, unfolding(crate::specs::Tallies::passed_in, crate::specs::Tallies::RunsFrom))]
+    #[tactic(auto, unfolding(crate::specs::Accounts::stamps_in, crate::specs::Accounts::RunsRise))]
     pub fn new(alloc: Global) -> Account
-        ensures { result ≡ new_tally }
+        ensures { result ≡ new_account }
     {
         Account {
             closed: false,
             gone: false,
             earlier: 0,
-            bytes: ByteQueue::new(alloc),
             runs: VecDeque::new(alloc),
-            sent: 0,
-            tried: 0,
+            end: 0,
         }
     }
 
@@ -77,45 +68,39 @@ impl Account {
 
     /// Whether it is neither closed nor gone.
     pub fn is_open(&self) -> bool
-        ensures { result ≡ (not self.now.closed && not self.now.gone) }
+        ensures { result ≡ is_open_account self.now }
     {
         !self.closed && !self.gone
     }
 
-    /// Where the survivor's stream ends.
-    pub fn sent(&self) -> u64
-        ensures { result ≡ self.now.sent }
+    /// Where the bytes of the sends that aren't kept any more end.
+    pub fn earlier(&self) -> u64
+        ensures { result ≡ self.now.earlier }
     {
-        self.sent
+        self.earlier
     }
 
-    /// Where the trial's stream ends.
-    pub fn tried(&self) -> u64
-        ensures { result ≡ self.now.tried }
+    /// Where the stream ends that is being written.
+    pub fn end(&self) -> u64
+        ensures { result ≡ self.now.end }
     {
-        self.tried
-    }
-
-    /// Whether bytes differ at no place from what was passed past the trial's bytes so far.
-    pub fn agrees(&self, bytes: &[u8]) -> bool
-        ensures { result ≡ agree bytes.now (drop (self.now.tried - self.now.earlier) (bytes_of self.now.passed)) }
-    {
-        let behind = self.tried.saturating_sub(self.earlier);
-        behind >= self.bytes.len() as u64
-            || agree_from(bytes, self.bytes.as_slice(), behind as usize)
+        self.end
     }
 
     /// Where the bytes end that were passed.
     pub fn passed(&self) -> u64
-        ensures { result ≡ self.now.earlier + length self.now.passed }
+        ensures { result ≡ passed_end self.now }
     {
-        self.earlier + self.bytes.len() as u64
+        match self.runs.back() {
+            Some(run) => run.end,
+            None => self.earlier,
+        }
     }
 
     /// Where the bytes end that were passed with so many items received, or fewer.
     pub fn passed_until(&self, item: u64) -> u64
-        requires { IsInOrder (stamps_of self.now.passed) }
-        ensures { result ≡ self.now.earlier + length (until item self.now.passed) }
+        requires { IsInOrder self.now.stamps }
+        ensures { result ≡ self.now.earlier + length (filter (λ stamp. nat_le stamp item) self.now.stamps) }
     {
         let count = runs_until(&self.runs, item);
         if count == 0 {
@@ -125,82 +110,50 @@ impl Account {
         }
     }
 
-    /// Moves the end of the survivor's stream by so many bytes, and answers where it was: nothing, where it would pass 2^64 - 1.
+    /// Moves the end of the stream by so many bytes, and answers where it is then: nothing, where it would pass 2^64 - 1.
     pub fn send(&mut self, count: u64) -> Option<u64>
-        ensures start { IfSome result (λ start. start ≡ self.old.sent) }
-        ensures moved { OnSome result (self.new ≡ record self.old { sent = self.old.sent + count }) }
+        ensures end { IfSome result (λ end. end ≡ self.old.end + count) }
+        ensures moved { OnSome result (self.new ≡ record self.old { end = self.old.end + count }) }
         ensures full { IfNone result (self.new ≡ self.old) }
     {
-        let start = self.sent;
-        let Some(end) = start.checked_add(count) else {
+        let Some(end) = self.end.checked_add(count) else {
             return None;
         };
-        self.sent = end;
-        Some(start)
+        self.end = end;
+        Some(end)
     }
 
-    /// Moves the end of the trial's stream.
-    pub fn try_send(&mut self, end: u64)
-        ensures { self.new ≡ record self.old { tried = end } }
+    /// Moves the end of the stream.
+    pub fn set_end(&mut self, end: u64)
+        ensures { self.new ≡ record self.old { end = end } }
     {
-        self.tried = end;
+        self.end = end;
     }
 
-    /// A trial begins with all that the survivor sent.
-    pub fn begin_trial(&mut self)
-        ensures { self.new ≡ record self.old { tried = self.old.sent } }
+    /// Moves the end of the stream to where the kept sends begin.
+    pub fn restart(&mut self)
+        ensures { self.new ≡ record self.old { end = self.old.earlier } }
     {
-        self.tried = self.sent;
+        self.end = self.earlier;
     }
 
-    /// The trial's stream is the survivor's.
-    pub fn adopt(&mut self)
-        requires { self.old.earlier + length self.old.passed ≤ self.old.tried }
-        ensures { self.new ≡ record self.old { sent = self.old.tried } }
-    {
-        self.sent = self.tried;
-    }
-
-    /// Passes the next bytes of the connection's stream at a stamp. The sends before `from` have none of them.
-    pub fn pass(
-        &mut self,
-        sends: &VecDeque<Entry>,
-        from: usize,
-        conn: u16,
-        count: usize,
-        stamp: u64,
-    ) -> Result<(), AllocError>
-        requires { self.old.earlier + length self.old.passed + count ≤ self.old.sent }
-        ensures ok { OnOk result (let at = self.old.earlier + length self.old.passed in
-            self.new ≡ record self.old { passed = self.old.passed ++ stamped stamp (take count (stream_behind conn at (drop from sends.now.items))) }) }
+    /// The next so many bytes of the connection's stream were passed at a stamp.
+    pub fn pass(&mut self, count: usize, stamp: u64) -> Result<(), AllocError>
+        requires { passed_end self.old + count ≤ self.old.end }
+        ensures ok { OnOk result (self.new ≡ record self.old { stamps = self.old.stamps ++ replicate count stamp }) }
         ensures err { OnErr result (self.new ≡ self.old) }
     {
-        let before = self.bytes.len();
-        let at = self.earlier + before as u64;
-        match gather(sends, from, conn, at, count, &mut self.bytes) {
-            Ok(()) => {}
-            Err(error) => {
-                self.bytes.truncate(before);
-                return Err(error);
-            }
-        }
-        let end = self.earlier + self.bytes.len() as u64;
-        match note(&mut self.runs, at, end, stamp) {
-            Ok(()) => Ok(()),
-            Err(error) => {
-                self.bytes.truncate(before);
-                Err(error)
-            }
-        }
+        let at = self.passed();
+        note(&mut self.runs, at, at + count as u64, stamp)?;
+        Ok(())
     }
 
-    /// Gives up the oldest bytes of the stream, and what was passed of them.
+    /// Gives up the oldest bytes of the stream, and what is kept of those that were passed of them.
     pub fn give_up(&mut self, count: u64)
-        requires { self.old.earlier + count ≤ self.old.sent }
-        ensures { self.new ≡ record self.old { earlier = self.old.earlier + count; passed = drop count self.old.passed } }
+        requires { self.old.earlier + count ≤ self.old.end }
+        ensures { self.new ≡ record self.old { earlier = self.old.earlier + count; stamps = drop count self.old.stamps } }
     {
         self.earlier += count;
-        self.bytes.give_up(count);
         drop_runs(&mut self.runs, self.earlier);
         give_room_back(&mut self.runs);
     }
@@ -212,24 +165,6 @@ pub fn first_left(opened: bool, next: usize) -> usize
     ensures { result ≡ (if opened then next else 0) }
 {
     if opened { next } else { 0 }
-}
-
-// Whether bytes differ at no place from others, from a place of these on.
-fn agree_from(bytes: &[u8], passed: &[u8], from: usize) -> bool
-    requires { from < length passed.now }
-    ensures { result ≡ agree bytes.now (drop from passed.now) }
-{
-    let mut at = from;
-    for byte in bytes {
-        if at >= passed.len() {
-            return true;
-        }
-        if passed[at] != *byte {
-            return false;
-        }
-        at += 1;
-    }
-    true
 }
 
 // How many of the runs have a stamp that isn't above this number, where the stamps don't fall.

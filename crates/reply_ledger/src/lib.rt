@@ -9,7 +9,7 @@
 
 mod account;
 mod accounts;
-mod byte_queue;
+mod comparing;
 mod entry;
 mod replies;
 mod sends;

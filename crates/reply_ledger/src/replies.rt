@@ -10,8 +10,9 @@ ghost use Rattle.reply_ledger.specs.Trimming.{trimmed, IsLawful};
 use crate::account::give_room_back;
 use crate::accounts;
 use crate::accounts::Accounts;
+use crate::comparing::compare;
 use crate::entry::{Entry, part_of, rest_of};
-use crate::sends::{drop_oldest, first_of_more, first_waiting, first_with_rest, reserve, rewind};
+use crate::sends::{drop_oldest, first_of_more, first_waiting, first_with_rest, recount, reserve};
 use indexmap::IndexMap;
 use rx_io::Bytes;
 use std::alloc::{AllocError, Global};
@@ -30,21 +31,23 @@ pub struct Replies {
     next: usize,
     shared: Option<usize>,
     own: VecDeque<Entry>,
+    seen: usize,
     accounts: Accounts,
 }
 
 impl Model for Replies {
     ghost use Rattle.std.specs.VecDeque.{deque_capacity};
+    ghost use Rattle.std.specs.Map.{keys_of};
     ghost use Rattle.reply_ledger.specs.Ledger.{Ledger};
-    ghost use Rattle.reply_ledger.specs.Tallies.{connections_of};
+    ghost use Rattle.reply_ledger.specs.Accounts.{account_at};
     ghost use Rattle.reply_ledger.specs.Entries.{sends_of};
-    ghost use Rattle.reply_ledger.specs.Inside.{Stands, TriesIfAny, trial_of, sent_ends, tried_ends};
+    ghost use Rattle.reply_ledger.specs.Inside.{Holds, connections_of, ledger_of};
 
     ghost Value = { Ledger };
 
-    ghost view = { λ r. record { first = r.first; kept = sends_of r.sends.items; trial = trial_of r.sends.items r.own.items r.shared; connections = connections_of r.accounts.entries } };
+    ghost view = { λ r. ledger_of r.first r.sends.items r.own.items r.shared (connections_of (sends_of r.sends.items) (account_at r.accounts.entries) (keys_of r.accounts.entries)) };
 
-    ghost invariant = { λ r. Stands (connections_of r.accounts.entries) (sent_ends r.accounts.entries) r.sends.items r.next × TriesIfAny (connections_of r.accounts.entries) (tried_ends r.accounts.entries) r.sends.items r.own.items (deque_capacity r.sends) r.shared };
+    ghost invariant = { λ r. Holds (account_at r.accounts.entries) (keys_of r.accounts.entries) r.sends.items r.own.items (deque_capacity r.sends) r.shared r.next };
 }
 
 impl Replies {
@@ -66,6 +69,7 @@ impl Replies {
             next: 0,
             shared: None,
             own: VecDeque::new(alloc),
+            seen: 0,
             accounts: IndexMap::new(alloc),
         })
     }
@@ -123,7 +127,7 @@ impl Replies {
             conn,
             bytes,
             taken,
-            start: place.0,
+            end: place.0,
         });
         self.next = first_of_more(self.next, self.sends.len(), place.1);
         Ok(())
@@ -138,7 +142,9 @@ impl Replies {
         ensures agrees { Agrees self.new }
     {
         let shared = (sends - self.first) as usize;
-        rewind(&mut self.accounts, &self.sends, shared);
+        recount(&mut self.accounts, &self.sends, shared);
+        self.own.clear();
+        self.seen = shared;
         self.shared = Some(shared);
     }
 
@@ -154,20 +160,27 @@ impl Replies {
         ensures agrees { IfOk result (λ same. same ≡ true → Agrees self.old → Agrees self.new) }
         ensures err { OnErr result (self.new ≡ self.old) }
     {
-        let start = accounts::tried(&self.accounts, conn);
-        let Some(end) = start.checked_add(bytes.as_slice().len() as u64) else {
+        let count = bytes.as_slice().len() as u64;
+        let Some(end) = accounts::end(&self.accounts, conn).checked_add(count) else {
             return Err(AllocError);
         };
-        let same = accounts::agrees(&self.accounts, conn, bytes.as_slice());
+        let same = compare(
+            &self.accounts,
+            &self.sends,
+            self.seen,
+            conn,
+            bytes.as_slice(),
+        );
         reserve(&mut self.sends, self.own.len() + 1)?;
         self.own.push_back(Entry {
             conn,
             bytes,
             taken,
-            start,
+            end,
         })?;
-        accounts::try_send(&mut self.accounts, conn, end);
-        Ok(same)
+        accounts::set_end(&mut self.accounts, conn, end);
+        self.seen = same.unwrap_or(self.seen);
+        Ok(same.is_some())
     }
 
     /// Whether the trial sends each passed byte, those of closed and gone connections too.
@@ -200,7 +213,6 @@ impl Replies {
         };
         self.sends.truncate(shared);
         let _ = self.sends.append(&mut self.own);
-        accounts::adopt(&mut self.accounts);
         self.shared = None;
         self.next = first_waiting(&self.sends, &self.accounts, 0);
     }
@@ -209,8 +221,14 @@ impl Replies {
     pub fn discard(&mut self)
         ensures { self.new ≡ discarded self.old }
     {
-        self.shared = None;
-        self.own.clear();
+        match self.shared {
+            Some(_) => {
+                recount(&mut self.accounts, &self.sends, self.sends.len());
+                self.own.clear();
+                self.shared = None;
+            }
+            None => {}
+        }
     }
 
     /// The first part that wasn't passed, of a send to an open connection that was made with so many items taken at most: its connection
@@ -256,14 +274,7 @@ impl Replies {
         ensures ok { OnOk result (self.new ≡ with_passed self.old conn count stamp) }
         ensures err { OnErr result (self.new ≡ self.old) }
     {
-        accounts::pass(
-            &mut self.accounts,
-            &self.sends,
-            self.next,
-            conn,
-            count,
-            stamp,
-        )?;
+        accounts::pass(&mut self.accounts, conn, count, stamp)?;
         self.next = first_waiting(&self.sends, &self.accounts, self.next);
         Ok(())
     }

@@ -1,14 +1,10 @@
 // The survivor's sends beside what is kept of their connections.
-ghost use Rattle.std.specs.Prelude.{◌≡◌, ℕ, ◌+◌, ◌-◌, ◌<◌, ◌≤◌, List, length, take, drop, if◌then◌else◌, nat_lt, OnOk, OnErr};
+ghost use Rattle.std.specs.Prelude.{◌≡◌, ℕ, ◌+◌, ◌-◌, ◌<◌, ◌≤◌, length, take, drop, if◌then◌else◌, nat_lt, OnOk};
 ghost use Rattle.std.specs.List.{position_or_len};
 ghost use Rattle.std.specs.Map.{keys_of};
 ghost use Rattle.std.specs.VecDeque.{deque_capacity, deque_len};
-ghost use Rattle.rx_io.specs.Sends.{sent_to};
-ghost use Rattle.reply_ledger.specs.Ledger.{is_open};
-ghost use Rattle.reply_ledger.specs.Trimming.{trimmed_connections};
-ghost use Rattle.reply_ledger.specs.Tallies.{connections_of};
-ghost use Rattle.reply_ledger.specs.Entries.{sends_of};
-ghost use Rattle.reply_ledger.specs.Inside.{Laid, earlier_at, sent_ends, tried_ends, waits_in};
+ghost use Rattle.reply_ledger.specs.Accounts.{account_at, is_open_account};
+ghost use Rattle.reply_ledger.specs.Inside.{Laid, Writes, ending, given_up, waits_in};
 
 use crate::account::first_left;
 use crate::accounts;
@@ -19,7 +15,7 @@ use std::collections::VecDeque;
 
 /// Whether a send may still be passed: something is left of it, and its connection is open.
 fn waits(accounts: &Accounts, entry: &Entry) -> bool
-    ensures { result ≡ waits_in (connections_of accounts.now.entries) entry.now }
+    ensures { result ≡ waits_in (account_at accounts.now.entries) entry.now }
 {
     match accounts.get(&entry.conn) {
         Some(account) => account.is_open() && !rest_of(entry, account.passed()).is_empty(),
@@ -29,8 +25,8 @@ fn waits(accounts: &Accounts, entry: &Entry) -> bool
 
 /// The place of the first send that may still be passed, or the number of sends. It is `from` or stands behind it.
 pub fn first_waiting(sends: &VecDeque<Entry>, accounts: &Accounts, from: usize) -> usize
-    requires { from ≤ position_or_len (waits_in (connections_of accounts.now.entries)) sends.now.items }
-    ensures { result ≡ position_or_len (waits_in (connections_of accounts.now.entries)) sends.now.items }
+    requires { from ≤ position_or_len (waits_in (account_at accounts.now.entries)) sends.now.items }
+    ensures { result ≡ position_or_len (waits_in (account_at accounts.now.entries)) sends.now.items }
 {
     for i in from..sends.len() {
         if waits(accounts, &sends[i]) {
@@ -55,25 +51,22 @@ pub fn first_of_more(next: usize, count: usize, opened: bool) -> usize
 /// A place before which no send has anything of a connection that wasn't passed: the place of the first that may still be passed, where the
 /// connection is open.
 pub fn first_with_rest(accounts: &Accounts, conn: u16, next: usize) -> usize
-    ensures { result ≡ (if is_open (connections_of accounts.now.entries) conn then next else 0) }
+    ensures { result ≡ (if is_open_account (account_at accounts.now.entries conn) then next else 0) }
 {
     first_left(accounts::is_open(accounts, conn), next)
 }
 
-/// A trial's streams begin as the survivor's first so many sends.
-pub fn rewind(accounts: &mut Accounts, sends: &VecDeque<Entry>, shared: usize)
-    requires laid { Laid (earlier_at (connections_of accounts.old.entries)) (sent_ends accounts.old.entries) sends.now.items }
-    requires within { shared ≤ length sends.now.items }
-    ensures connections { connections_of accounts.new.entries ≡ connections_of accounts.old.entries }
-    ensures sent { (conn : ℕ) → sent_ends accounts.new.entries conn ≡ sent_ends accounts.old.entries conn }
-    ensures tried { (conn : ℕ) → tried_ends accounts.new.entries conn ≡ earlier_at (connections_of accounts.old.entries) conn + length (sent_to conn (sends_of (take shared sends.now.items))) }
+/// The streams that are being written end where the first so many sends do.
+pub fn recount(accounts: &mut Accounts, sends: &VecDeque<Entry>, count: usize)
+    requires laid { Laid (account_at accounts.old.entries) (keys_of accounts.old.entries) sends.now.items }
+    requires within { count ≤ length sends.now.items }
+    ensures keys { keys_of accounts.new.entries ≡ keys_of accounts.old.entries }
+    ensures ends { (conn : ℕ) → account_at accounts.new.entries conn ≡ ending (account_at accounts.old.entries) (take count sends.now.items) conn }
 {
-    accounts::begin_trial(accounts);
-    let mut i = sends.len();
-    'back: while i > shared {
-        i -= 1;
+    accounts::restart(accounts);
+    for i in 0..count {
         let entry = &sends[i];
-        accounts::try_send(accounts, entry.conn, entry.start);
+        accounts::set_end(accounts, entry.conn, entry.end);
     }
 }
 
@@ -92,12 +85,11 @@ pub fn reserve(sends: &mut VecDeque<Entry>, more: usize) -> Result<(), AllocErro
 
 /// Gives up so many of the oldest sends, and what was passed of them.
 pub fn drop_oldest(sends: &mut VecDeque<Entry>, accounts: &mut Accounts, count: u64)
-    requires laid { Laid (earlier_at (connections_of accounts.old.entries)) (sent_ends accounts.old.entries) sends.old.items }
+    requires writes { Writes (account_at accounts.old.entries) (keys_of accounts.old.entries) sends.old.items }
     requires within { count ≤ length sends.old.items }
     ensures items { sends.new.items ≡ drop count sends.old.items }
-    ensures connections { connections_of accounts.new.entries ≡ trimmed_connections (sends_of (take count sends.old.items)) (connections_of accounts.old.entries) }
-    ensures laid { Laid (earlier_at (connections_of accounts.new.entries)) (sent_ends accounts.new.entries) sends.new.items }
-    ensures sent { (conn : ℕ) → sent_ends accounts.new.entries conn ≡ sent_ends accounts.old.entries conn }
+    ensures keys { keys_of accounts.new.entries ≡ keys_of accounts.old.entries }
+    ensures given { (conn : ℕ) → account_at accounts.new.entries conn ≡ given_up (account_at accounts.old.entries) (take count sends.old.items) conn }
 {
     for _ in 0..count {
         let Some(entry) = sends.pop_front() else {

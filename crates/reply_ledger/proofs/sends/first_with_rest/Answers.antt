@@ -1,6 +1,5 @@
-use Rattle.reply_ledger.proofs.Lemmas.{is_open-of}
-use Rattle.reply_ledger.proofs.Terms.{Bool, ap, if◌then◌else◌, sym, ◌∙◌}
+use Rattle.reply_ledger.proofs.Terms.{Bool, ap, if◌then◌else◌, ◌∙◌}
 use Rattle.reply_ledger.proofs.sends.first_with_rest.Goals as goal
 
 pub returns : goal.returns
-returns c = c.first_left.ensures ∙ ap (λ (b : Bool). if b then c.args.next else 0) (c.is_open.ensures ∙ sym (is_open-of c.args.accounts.now.entries c.args.conn))
+returns c = c.first_left.ensures ∙ ap (λ (b : Bool). if b then c.args.next else 0) c.is_open.ensures

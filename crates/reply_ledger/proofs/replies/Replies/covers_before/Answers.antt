@@ -1,17 +1,19 @@
-use Rattle.reply_ledger.proofs.Lemmas.{passed_at-some, keys-of, stamped_to-of, agree-front, all-each, covers-says, each_tally, trial-ends, until-front, until-none}
-use Rattle.reply_ledger.proofs.Terms.{List, [], ap, subst, sym, true, ℕ, ◌∙◌, ◌≡◌, IsDistinct, values_of, IsSome, nat_eq, unwrap_or, sent_to, IsInOrder, Passed, bytes_of, stamped_to, stamps_of, agree, until, Tally, connections_of, sent_ends, trial_of, tried_ends}
+use Rattle.reply_ledger.proofs.Lemmas.{agree-front, all-kept, covers-says, length-bytes_of, none_kept, passed-stamps, stamped_to-of, until-front, until-passed_of, written-is}
+use Rattle.reply_ledger.proofs.Terms.{List, [], ap, arith, filter, length, nat_le, refl, subst, sym, true, ℕ, ◌∙◌, ◌≡◌, keys_of, IsSome, unwrap_or, sent_to, IsInOrder, Passed, Send, bytes_of, stamped_to, stamps_of, agree, until, Kept, account_at, connections_of, ledger_of, sends_of, trial_of, written}
 use Rattle.reply_ledger.proofs.replies.Replies.covers_before.Goals as goal
 
 pub covers_until-requires : goal.covers_until-requires
-covers_until-requires c = all-each (λ (t : Tally). IsInOrder (stamps_of t.passed)) (values_of c.self.inside.accounts.entries) (each_tally (λ (t : Tally). IsInOrder (stamps_of t.passed)) c.self.inside.accounts.entries (subst (IsDistinct nat_eq) (keys-of c.self.inside.accounts.entries) c.self.invariant.0.distinct)
-    (λ q v k. subst (λ (l : List Passed). IsInOrder (stamps_of l)) (stamped_to-of c.self.inside.accounts.entries q ∙ passed_at-some c.self.inside.accounts.entries q v (sym k)) (c.self.invariant.0.stamps q)))
+covers_until-requires c = all-kept (λ (k : Kept). IsInOrder k.stamps) c.self.inside.accounts.entries c.self.invariant.stands.distinct c.self.invariant.stands.stamps
 
 pub returns : goal.returns
 returns c =
     let some : IsSome (trial_of c.self.inside.sends.items c.self.inside.own.items c.self.inside.shared) = rw (← c.self.view_is) at c.requires.trial in
     let agrees = rw (← c.self.view_is) at c.requires.agrees in
-    let fronts : (q : ℕ) → agree (sent_to q (unwrap_or (trial_of c.self.inside.sends.items c.self.inside.own.items c.self.inside.shared) [])) (bytes_of (until c.args.item (stamped_to (connections_of c.self.inside.accounts.entries) q))) ≡ true = λ (q : ℕ).
-    let p = until-front c.args.item (stamped_to (connections_of c.self.inside.accounts.entries) q) (c.self.invariant.0.stamps q) in
-    agree-front (sent_to q (unwrap_or (trial_of c.self.inside.sends.items c.self.inside.own.items c.self.inside.shared) [])) (bytes_of (until c.args.item (stamped_to (connections_of c.self.inside.accounts.entries) q))) p.0 (ap (agree (sent_to q (unwrap_or (trial_of c.self.inside.sends.items c.self.inside.own.items c.self.inside.shared) []))) p.1 ∙ agrees q) in
-    let says = covers-says c.self.inside.accounts.entries (sent_ends c.self.inside.accounts.entries) c.self.inside.sends.items (unwrap_or (trial_of c.self.inside.sends.items c.self.inside.own.items c.self.inside.shared) []) c.self.inside.next (until c.args.item) c.self.invariant.0 (trial-ends (connections_of c.self.inside.accounts.entries) (tried_ends c.self.inside.accounts.entries) c.self.inside.sends.items c.self.inside.own.items _ c.self.inside.shared c.self.invariant.1 some) (until-none c.args.item) fronts in
+    let long : (q : ℕ) → length (bytes_of (until c.args.item (stamped_to (connections_of (sends_of c.self.inside.sends.items) (account_at c.self.inside.accounts.entries) (keys_of c.self.inside.accounts.entries)) q))) ≡ length (filter (λ (s : ℕ). nat_le s c.args.item) ((account_at c.self.inside.accounts.entries) q).stamps) = λ (q : ℕ).
+    length-bytes_of (until c.args.item (stamped_to (connections_of (sends_of c.self.inside.sends.items) (account_at c.self.inside.accounts.entries) (keys_of c.self.inside.accounts.entries)) q)) ∙ ap (λ (l : List Passed). length (until c.args.item l)) (stamped_to-of (sends_of c.self.inside.sends.items) (account_at c.self.inside.accounts.entries) (keys_of c.self.inside.accounts.entries) q ((none_kept c.self.inside.accounts.entries) q)) ∙ until-passed_of c.args.item (sent_to q (sends_of c.self.inside.sends.items)) ((account_at c.self.inside.accounts.entries) q).stamps (c.self.invariant.stands.fits q) in
+    let fronts : (q : ℕ) → agree (sent_to q (unwrap_or (trial_of c.self.inside.sends.items c.self.inside.own.items c.self.inside.shared) [])) (bytes_of (until c.args.item (stamped_to (connections_of (sends_of c.self.inside.sends.items) (account_at c.self.inside.accounts.entries) (keys_of c.self.inside.accounts.entries)) q))) ≡ true = λ (q : ℕ).
+    let p = until-front c.args.item (stamped_to (connections_of (sends_of c.self.inside.sends.items) (account_at c.self.inside.accounts.entries) (keys_of c.self.inside.accounts.entries)) q) (subst IsInOrder (sym (passed-stamps q ((none_kept c.self.inside.accounts.entries) q) c.self.invariant.stands)) (c.self.invariant.stands.stamps q)) in
+    agree-front (sent_to q (unwrap_or (trial_of c.self.inside.sends.items c.self.inside.own.items c.self.inside.shared) [])) (bytes_of (until c.args.item (stamped_to (connections_of (sends_of c.self.inside.sends.items) (account_at c.self.inside.accounts.entries) (keys_of c.self.inside.accounts.entries)) q))) p.0 (ap (agree (sent_to q (unwrap_or (trial_of c.self.inside.sends.items c.self.inside.own.items c.self.inside.shared) []))) p.1 ∙ agrees q) in
+    let says = covers-says c.self.inside.accounts.entries (unwrap_or (trial_of c.self.inside.sends.items c.self.inside.own.items c.self.inside.shared) []) (λ k. length (filter (λ (s : ℕ). nat_le s c.args.item) k.stamps)) (λ q. bytes_of (until c.args.item (stamped_to (connections_of (sends_of c.self.inside.sends.items) (account_at c.self.inside.accounts.entries) (keys_of c.self.inside.accounts.entries)) q))) c.self.invariant.stands.distinct refl long fronts
+    (λ q. omega (arith, c.self.invariant.writes.ends q, ap (λ (l : List Send). length (sent_to q l)) (written-is c.self.inside.sends.items c.self.inside.own.items c.self.inside.shared some))) in
     rw (← c.self.view_is) ((λ h. says.0 (sym c.covers_until.ensures ∙ h)), (λ h. c.covers_until.ensures ∙ says.1 h))
