@@ -98,7 +98,7 @@ fn notes_fail(rt: HostRuntime) -> Result<(), Fail> {
             overflow o0|p0hi.|p0yo. ring=1 hold=1000 note_fail=1 > FileFault taken=2 o0|p0hi.| recorded=0 noted=0 behind=2 episodes=0
             overflow o0|p0hi.|p0yo. ring=1 hold=1000 note_fail=2 > FileFault taken=3 o0|p0hi.|p0yo.| recorded=2 noted=2 behind=2 episodes=0
             # An episode, of which a trial survived or none.
-            overflow o0|p0*. note_fail=1 star=39 > FileFault taken=2 o0|p0*.| recorded=0 noted=0 behind=2 episodes=0
+            overflow o0|p0*. note_fail=1 star=39 > FileFault taken=2 o0|p0*.| recorded=0 noted=0 behind=2 behind_blocks=12100,12310, episodes=0
             overflow o0|p0*. note_fail=2 star=39 > FileFault taken=2 o0|p0*.|g0*.|e0| recorded=0 noted=0 behind=2 episodes=1
             overflow o0|p0*. ring=1 note_fail=2 star=39 > FileFault taken=2 o0|p0*.|g0*.| recorded=0 noted=0 behind=2 episodes=1
             null o0|p0hi. note_fail=1 > FileFault taken=2 o0|p0hi.| recorded=0 noted=0 behind=0 episodes=0
