@@ -6,6 +6,4 @@ mod command_line_tests;
 #[cfg(test)]
 mod order_tests;
 #[cfg(test)]
-mod playing;
-#[cfg(test)]
 mod rx_serve_tests;

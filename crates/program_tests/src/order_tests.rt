@@ -1,7 +1,6 @@
 // In which order a command makes its calls: a reply is written before the next read, and the files are called in their order.
 ghost use Rattle.std.specs.Prelude.{◌≡◌, ◌<◌, None};
 
-use crate::playing::{RUN, executable_of, run_over, shown};
 use rx_io::{FileCall, IoFault, Sink, Source, TameFiles};
 use rx_serve::End;
 use std::alloc::{AllocError, Global};
@@ -9,6 +8,7 @@ use std::cell::RefCell;
 use std::marker::Brand;
 use std::sync::ledger::{Blank, Ledger};
 use std::test::Fail;
+use test_commands::{RUN, executable_of, run_over, shown};
 
 // A source and a sink that never fail and write their calls into one log: `R` for a read, and the bytes of a write.
 #[derive(Drop)]

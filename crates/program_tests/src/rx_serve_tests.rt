@@ -4,15 +4,14 @@
 //
 // The program stands at 0x10000. The first block stands at 0x12000 behind a buffer of one page, and at 0x13000 behind more data.
 // Padding puts it 0x100 further on, and the next one 0x210 behind it.
-use crate::playing::play_rows;
 use std::alloc::{AllocError, Global};
 use std::test::Fail;
+use test_commands::play_rows;
 
 // The echo does 6 instructions up to its recv, 10 for an item that is no message, and 18 for one that is.
 #[test]
 fn an_echo_ends_as_its_row_says(rt: HostRuntime) -> Result<(), Fail> {
     play_rows(
-        &rt,
         rt.alloc(),
         r#"
         echo
@@ -33,7 +32,6 @@ fn an_echo_ends_as_its_row_says(rt: HostRuntime) -> Result<(), Fail> {
 #[test]
 fn an_echo_has_other_options_and_streams(rt: HostRuntime) -> Result<(), Fail> {
     play_rows(
-        &rt,
         rt.alloc(),
         r#"
         echo
@@ -51,7 +49,6 @@ fn an_echo_has_other_options_and_streams(rt: HostRuntime) -> Result<(), Fail> {
 #[test]
 fn a_line_has_4096_bytes_at_most(rt: HostRuntime) -> Result<(), Fail> {
     play_rows(
-        &rt,
         rt.alloc(),
         r#"
         echo
@@ -65,7 +62,6 @@ fn a_line_has_4096_bytes_at_most(rt: HostRuntime) -> Result<(), Fail> {
 #[test]
 fn a_guest_ends_as_its_row_says(rt: HostRuntime) -> Result<(), Fail> {
     play_rows(
-        &rt,
         rt.alloc(),
         r#"
         divide
@@ -102,7 +98,6 @@ fn a_guest_ends_as_its_row_says(rt: HostRuntime) -> Result<(), Fail> {
 #[test]
 fn a_guest_that_fails_ends_as_its_row_says(rt: HostRuntime) -> Result<(), Fail> {
     play_rows(
-        &rt,
         rt.alloc(),
         r#"
         overflow
@@ -151,7 +146,6 @@ fn a_guest_that_fails_ends_as_its_row_says(rt: HostRuntime) -> Result<(), Fail> 
 #[test]
 fn a_guard_finds_an_access_where_it_goes_wrong(rt: HostRuntime) -> Result<(), Fail> {
     play_rows(
-        &rt,
         rt.alloc(),
         r#"
         overflow
@@ -173,7 +167,6 @@ fn a_guard_finds_an_access_where_it_goes_wrong(rt: HostRuntime) -> Result<(), Fa
 #[test]
 fn a_failure_is_diagnosed_as_its_row_says(rt: HostRuntime) -> Result<(), Fail> {
     play_rows(
-        &rt,
         rt.alloc(),
         r#"
         overflow
@@ -200,7 +193,6 @@ fn a_failure_is_diagnosed_as_its_row_says(rt: HostRuntime) -> Result<(), Fail> {
 #[test]
 fn a_call_fails_at_the_start(rt: HostRuntime) -> Result<(), Fail> {
     play_rows(
-        &rt,
         rt.alloc(),
         r#"
         echo
@@ -227,7 +219,6 @@ fn a_call_fails_at_the_start(rt: HostRuntime) -> Result<(), Fail> {
 #[test]
 fn a_call_fails_in_mid_session(rt: HostRuntime) -> Result<(), Fail> {
     play_rows(
-        &rt,
         rt.alloc(),
         r#"
         overflow
@@ -257,7 +248,6 @@ fn a_call_fails_in_mid_session(rt: HostRuntime) -> Result<(), Fail> {
 #[test]
 fn no_session_begins(rt: HostRuntime) -> Result<(), Fail> {
     play_rows(
-        &rt,
         rt.alloc(),
         r#"
         three
@@ -292,7 +282,6 @@ fn no_session_begins(rt: HostRuntime) -> Result<(), Fail> {
 #[test]
 fn a_record_is_replayed_as_its_row_says(rt: HostRuntime) -> Result<(), Fail> {
     play_rows(
-        &rt,
         rt.alloc(),
         r#"
         overflow
@@ -326,7 +315,6 @@ fn a_record_is_replayed_as_its_row_says(rt: HostRuntime) -> Result<(), Fail> {
 #[test]
 fn a_command_without_a_program_ends_as_its_row_says(rt: HostRuntime) -> Result<(), Fail> {
     play_rows(
-        &rt,
         rt.alloc(),
         r#"
         three
@@ -346,7 +334,6 @@ fn a_command_without_a_program_ends_as_its_row_says(rt: HostRuntime) -> Result<(
 #[test]
 fn a_record_is_converted_as_its_row_says(rt: HostRuntime) -> Result<(), Fail> {
     play_rows(
-        &rt,
         rt.alloc(),
         r#"
         overflow
@@ -371,7 +358,6 @@ fn a_record_is_converted_as_its_row_says(rt: HostRuntime) -> Result<(), Fail> {
 #[test]
 fn a_port_is_served_as_its_row_says(rt: HostRuntime) -> Result<(), Fail> {
     play_rows(
-        &rt,
         rt.alloc(),
         r#"
         echo
@@ -399,7 +385,6 @@ fn a_port_is_served_as_its_row_says(rt: HostRuntime) -> Result<(), Fail> {
 #[test]
 fn a_guest_that_fails_serves_a_port(rt: HostRuntime) -> Result<(), Fail> {
     play_rows(
-        &rt,
         rt.alloc(),
         r#"
         overflow
@@ -414,7 +399,6 @@ fn a_guest_that_fails_serves_a_port(rt: HostRuntime) -> Result<(), Fail> {
 #[test]
 fn a_crowd_is_served_as_its_row_says(rt: HostRuntime) -> Result<(), Fail> {
     play_rows(
-        &rt,
         rt.alloc(),
         r#"
         echo
@@ -447,7 +431,6 @@ fn a_crowd_is_served_as_its_row_says(rt: HostRuntime) -> Result<(), Fail> {
 #[test]
 fn a_guest_that_fails_serves_a_crowd(rt: HostRuntime) -> Result<(), Fail> {
     play_rows(
-        &rt,
         rt.alloc(),
         r#"
         overflow
@@ -484,5 +467,5 @@ fn a_store_of_keys_serves_a_port(rt: HostRuntime) -> Result<(), Fail> {
     let rows = format!(in alloc;
         "keys\nwords=serve p 80 2 --record r --report t; clients={sets}set aaaaaaaaaaaaaaaaaaaaaaaaaaaaaaaaaaaaaaaa z/|{gets}get k0/; end=Finished 0 400 [] 199745 204; replies={done}|{values}v0/|; report=rx report 1/failure 0 point 101 cause AssertFailed 6 at 0001015c/try 0 checkpoint 100 env pad result survived/end 0 taken 204 steps 199745/"
     )?;
-    play_rows(&rt, alloc, rows.as_str())
+    play_rows(alloc, rows.as_str())
 }

@@ -1,4 +1,4 @@
-use Rattle.program_tests.proofs.playing.outcome_of.Given as goal
+use Rattle.test_commands.proofs.running.outcome_of.Given as goal
 
 abbrev pub ghosts-run_counted : goal.ghosts-run_counted
 ghosts-run_counted a = record { name = a.blank.name; parts = a.blank.parts }

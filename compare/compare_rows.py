@@ -1,0 +1,158 @@
+#!/usr/bin/env python3
+"""Sets the second engine beside the rows that the tests of hostile use play.
+
+Each row of crates/hostile_tests/src/fault_tests.rt is run by the second engine: the same program, input, record and failing calls. Answer, counts, output and
+both files have to be those of the row; of a port, what each client was given. An edited program is read by the second reader. The second engine knows no
+crowd: rows of several clients at once are passed over.
+
+usage: compare_rows.py
+"""
+
+import os
+import re
+import sys
+
+HERE = os.path.dirname(os.path.abspath(__file__))
+sys.path.insert(0, HERE)
+
+# pylint: disable=wrong-import-position
+import compare_elf  # noqa: E402
+from second import guests  # noqa: E402
+from second.command import convert, replay, run, serve  # noqa: E402
+from second.machine import MIB, executable  # noqa: E402
+from second.outside import MemoryFiles, MemoryListener, MemorySink, MemorySource  # noqa: E402
+from second.session import Options  # noqa: E402
+
+ROWS = os.path.join(HERE, "..", "crates", "hostile_tests", "src", "fault_tests.rt")
+KINDS = {"GaveUp": "GaveUp { point: %d, cause: %s }", "InputRefused": "InputRefused { kind: %d, offset: %d }",
+         "RecordRefused": "RecordRefused { line: %d }"}
+
+
+def bytes_of(text):
+    words = (word.split("*") for word in text.split())
+    return b"".join(bytes.fromhex(word[0]) * int(word[1] if len(word) > 1 else 1) for word in words)
+
+
+def blocks_in(text):
+    """The program's line and the rows of each block."""
+    for rows in re.findall(r'r#"(.*?)"#', text, re.DOTALL):
+        for block in rows.split("\n\n"):
+            program, *rows = [line.strip() for line in block.strip().split("\n")]
+            yield program, [row for row in rows if not row.startswith("#")]
+
+
+def each_of(row):
+    """The cells of a row, for each of its numbers."""
+    first, last = re.search(r"each=(\d+)\.\.(\d+)", row + "; each=0..0").groups()
+    for number in range(int(first), int(last) + 1):
+        yield dict(cell.strip().split("=", 1) for cell in row.replace("@", str(number)).split(";"))
+
+
+def shown(done):
+    """An end as the rows write it."""
+    answer = KINDS.get(done.answer[0], done.answer[0])
+    tail = ", ".join("Choice { ask: Malloc { size: %d }, at: %d, zeroed: %s }" % (c.ask.first, c.at, str(c.zeroed).lower()) for c in done.tail)
+    answer = answer % done.answer[1:] if len(done.answer) > 1 else answer
+    return "%s %d %d [%s] %d %d" % (answer, done.status, done.recorded, tail, done.steps, done.taken)
+
+
+def edited(content, edits):
+    """The bytes with others in the places of some of them."""
+    content = bytearray(content)
+    for edit in edits.split():
+        at, byte = edit.split(":")
+        content[int(at)] = int(byte, 16)
+    return bytes(content)
+
+
+def file_of(program, cells):
+    """The bytes of an edited program."""
+    file = bytes_of(program.split("=")[1]) if program.startswith("bytes=") else executable(*guests.program(program))
+    return edited(file, cells.get("edit", ""))
+
+
+def number(cells, name, usual):
+    return int(cells.get(name, usual))
+
+
+def options_in(line):
+    """The options of numbers among the words of a line."""
+    words = line.split()
+    named = {name[2:]: int(value) for name, value in zip(words, words[1:]) if name.startswith("--") and value.isdigit()}
+    return Options(**{name: value * MIB if name == "window" else value for name, value in named.items()})
+
+
+def source_of(cells):
+    content = bytes_of(cells["in"])
+    return MemorySource(content[:number(cells, "cut", len(content))], [number(cells, "source", 0)], number(cells, "takes", 10000))
+
+
+def left_in(source):
+    return source.content[source.at:][:min(64, source.most)]
+
+
+def text_of(files, name):
+    return files.files[name].decode().replace("\n", "/") if name in files.files else "none"
+
+
+def played(program, cells):
+    """What comes of a row: each expected cell, as the second engine has it."""
+    source, failing = source_of(cells), number(cells, "sink", 0)
+    sink = MemorySink([failing], number(cells, "gives", 10000))
+    files = MemoryFiles({"p": b""}, [number(cells, "files", 0)])
+    options = options_in(cells.get("options", ""))
+    done = run(guests.image(program, options.window), source, sink, options, files)
+    wrote = bytes_of(cells["wrote"])[:failing - 1] if "wrote" in cells else None
+    return {"end": shown(done), "out": sink.content, "wrote": wrote is None or sink.content == wrote, "left": left_in(source),
+            "record": text_of(files, "r"), "report": text_of(files, "t")}
+
+
+def replayed(program, cells):
+    """What comes of a row whose record is replayed or converted."""
+    record = cells["before"].replace("/", "\n").encode()
+    record = edited(record[:number(cells, "kept", len(record))], cells.get("spoilt", ""))
+    source, sink, files, image = source_of(cells), MemorySink(), MemoryFiles({}), lambda window: guests.image(program, window)
+    done = convert(image, record, source, files) if "convert" in cells["words"] else replay(image, record, source, sink)
+    return {"end": shown(done), "out": sink.content, "left": left_in(source), "o": text_of(files, "o")}
+
+
+def served(program, cells):
+    """What comes of a row of a port."""
+    fails = {(name, int(cells[name])) for name in ("accept", "take", "give") if name in cells}
+    inputs = [client.replace("/", "\n").encode() for client in cells["clients"].split("|")]
+    listener = MemoryListener(inputs, fails, int(cells["moves"]))
+    options = options_in(cells["words"])
+    done = serve(guests.image(program, options.window), listener, len(inputs), options)
+    replies = "".join(output.decode().replace("\n", "/") + "|" for output in listener.outputs)
+    return {"end": shown(done), "replies": replies}
+
+
+def differences(program, cells):
+    if "ElfRefused" in cells["end"]:
+        refused = compare_elf.refusal(file_of(program, cells))
+        return [] if cells["end"] == "ElfRefused(%s) 3 0 [] 0 0" % refused else [("end", refused)]
+    seen = served(program, cells) if "clients" in cells else replayed(program, cells) if "kept" in cells or "spoilt" in cells else played(program, cells)
+    for name in ("out", "left"):
+        if name in cells:
+            cells[name] = bytes_of(cells[name])
+    cells["wrote"] = True
+    return [(name, value) for name, value in seen.items() if name in cells and cells[name] != value]
+
+
+def main():
+    with open(ROWS, encoding="utf-8") as file:
+        text = file.read()
+    agree = wrong = 0
+    for program, rows in blocks_in(text):
+        for row in rows:
+            for cells in () if "--at-once" in row else each_of(row):
+                found = differences(program, cells)
+                agree, wrong = agree + (not found), wrong + bool(found)
+                if found:
+                    print("%s: %s: the second engine has %s" % (program, row, found))
+    print("%d rows agree, %d differ" % (agree, wrong))
+    sys.exit(1 if wrong else 0)
+
+
+if __name__ == "__main__":
+    main()

@@ -1,0 +1,172 @@
+// What a command is run over: files, streams, a listener and a crowd, all in memory.
+use crate::cells::{bytes_of, cell_of, number_of, put_bytes, text_of};
+use crowd::{CrowdCall, MemoryCrowd, Ready};
+use rx_io::{ListenCall, MemoryFiles, MemoryListener, MemorySink, MemorySource, Source};
+use std::alloc::{AllocError, Global};
+use std::test::Fail;
+
+// What a command is run over.
+#[derive(Drop)]
+pub(crate) struct Outside {
+    pub(crate) files: MemoryFiles,
+    pub(crate) source: MemorySource,
+    pub(crate) sink: MemorySink,
+    pub(crate) listener: MemoryListener,
+    pub(crate) crowd: MemoryCrowd,
+}
+
+// A call on a listener, and the name of its cell.
+type CallRow = (ListenCall, &'static str);
+
+// A call on a crowd, and the name of its cell.
+type CrowdRow = (CrowdCall, &'static str);
+
+// The bytes of a file that a row has before its command.
+fn before_in(alloc: Global, before: &str, row: &str) -> Result<Vec<u8>, Fail> {
+    let mut bytes = text_of(alloc, before)?.into_bytes();
+    bytes.truncate(number_of(row, "kept", bytes.len())?);
+    put_bytes(bytes.as_mut_slice(), cell_of(row, "spoilt").unwrap_or(""))?;
+    Ok(bytes)
+}
+
+// Files in memory with the file `p`, and with `r` and `t` where a row says what they have.
+fn files_of(alloc: Global, program: &[u8], row: &str) -> Result<MemoryFiles, Fail> {
+    let mut held = Vec::new(alloc);
+    held.push((String::from_str(alloc, "p")?, program.to_vec(alloc)?))?;
+    if let Some(before) = cell_of(row, "before") {
+        for name in ["r", "t"] {
+            let bytes = before_in(alloc, before, row)?;
+            held.push((String::from_str(alloc, name)?, bytes))?;
+        }
+    }
+    let fails = number_of(row, "files", 0)? as u64;
+    Ok(MemoryFiles::make(alloc, held, [fails].to_vec(alloc)?))
+}
+
+// The source of a row.
+fn source_in(alloc: Global, row: &str) -> Result<MemorySource, Fail> {
+    let mut input = bytes_of(alloc, cell_of(row, "in").unwrap_or(""))?;
+    input.truncate(number_of(row, "cut", input.len())?);
+    let fails = number_of(row, "source", 0)? as u64;
+    let most = number_of(row, "takes", 10_000)?.max(1);
+    Ok(MemorySource::make(input, [fails].to_vec(alloc)?, most))
+}
+
+// The sink of a row.
+fn sink_in(alloc: Global, row: &str) -> Result<MemorySink, Fail> {
+    let fails = number_of(row, "sink", 0)? as u64;
+    let most = number_of(row, "gives", 10_000)?.max(1);
+    Ok(MemorySink::make(alloc, [fails].to_vec(alloc)?, most))
+}
+
+// Adds which call of a kind fails.
+fn push_fail(fails: &mut Vec<(ListenCall, u64)>, row: &str, call: CallRow) -> Result<(), Fail> {
+    let fail = number_of(row, call.1, 0)? as u64;
+    fails.push((call.0, fail))?;
+    Ok(())
+}
+
+// The calls on the listener of a row that fail.
+fn listen_fails_of(alloc: Global, row: &str) -> Result<Vec<(ListenCall, u64)>, Fail> {
+    let calls: [CallRow; 4] = [
+        (ListenCall::Bind, "bind"),
+        (ListenCall::Accept, "accept"),
+        (ListenCall::Take, "take"),
+        (ListenCall::Give, "give"),
+    ];
+    let mut fails = Vec::new(alloc);
+    for call in calls {
+        push_fail(&mut fails, row, call)?;
+    }
+    Ok(fails)
+}
+
+// What each client of a port sends.
+fn inputs_of(alloc: Global, clients: &str) -> Result<Vec<Vec<u8>>, AllocError> {
+    let mut inputs = Vec::new(alloc);
+    for client in clients.split('|') {
+        let text = text_of(alloc, client)?;
+        inputs.push(text.into_bytes())?;
+    }
+    Ok(inputs)
+}
+
+// The listener of a row.
+fn listener_in(alloc: Global, row: &str) -> Result<MemoryListener, Fail> {
+    let inputs = inputs_of(alloc, cell_of(row, "clients").unwrap_or(""))?;
+    let fails = listen_fails_of(alloc, row)?;
+    let most = number_of(row, "moves", 10_000)?.max(1);
+    Ok(MemoryListener::make(alloc, inputs, fails, most))
+}
+
+// Adds which call of a kind fails.
+fn push_crowd_fail(
+    fails: &mut Vec<(CrowdCall, u64)>,
+    row: &str,
+    call: CrowdRow,
+) -> Result<(), Fail> {
+    let fail = number_of(row, call.1, 0)? as u64;
+    fails.push((call.0, fail))?;
+    Ok(())
+}
+
+// The calls on the crowd of a row that fail.
+fn crowd_fails_of(alloc: Global, row: &str) -> Result<Vec<(CrowdCall, u64)>, Fail> {
+    let calls: [CrowdRow; 5] = [
+        (CrowdCall::Bind, "bind"),
+        (CrowdCall::Wait, "wait"),
+        (CrowdCall::Accept, "accept"),
+        (CrowdCall::Take, "take"),
+        (CrowdCall::Give, "give"),
+    ];
+    let mut fails = Vec::new(alloc);
+    for call in calls {
+        push_crowd_fail(&mut fails, row, call)?;
+    }
+    Ok(fails)
+}
+
+// What is ready by a word.
+fn ready_of(word: &str) -> Result<Ready, Fail> {
+    if word == "client" {
+        return Ok(Ready::Accepts);
+    }
+    Ok(Ready::Reads(word.parse::<u16>()?))
+}
+
+// What the waits of a row answer.
+fn script_of(alloc: Global, row: &str) -> Result<Vec<Ready>, Fail> {
+    let mut script = Vec::new(alloc);
+    for word in cell_of(row, "ready").unwrap_or("").split_whitespace() {
+        script.push(ready_of(word)?)?;
+    }
+    Ok(script)
+}
+
+// The crowd of a row.
+fn crowd_in(alloc: Global, row: &str) -> Result<MemoryCrowd, Fail> {
+    let inputs = inputs_of(alloc, cell_of(row, "clients").unwrap_or(""))?;
+    let script = script_of(alloc, row)?;
+    let fails = crowd_fails_of(alloc, row)?;
+    let most = number_of(row, "moves", 10_000)?.max(1);
+    Ok(MemoryCrowd::make(alloc, inputs, script, fails, most))
+}
+
+// What a row says of files, streams, listener and crowd.
+pub(crate) fn outside_in(alloc: Global, program: &[u8], row: &str) -> Result<Outside, Fail> {
+    Ok(Outside {
+        files: files_of(alloc, program, row)?,
+        source: source_in(alloc, row)?,
+        sink: sink_in(alloc, row)?,
+        listener: listener_in(alloc, row)?,
+        crowd: crowd_in(alloc, row)?,
+    })
+}
+
+// What a source gives in one call, none where that fails.
+pub(crate) fn left_in(alloc: Global, source: &mut MemorySource) -> Result<Vec<u8>, AllocError> {
+    let mut buffer = [0u8; 64].to_vec(alloc)?;
+    let count = source.take(buffer.as_mut_slice()).unwrap_or(0);
+    buffer.truncate(count);
+    Ok(buffer)
+}
