@@ -2,7 +2,7 @@
 use Rattle.schedule_file.specs.declared.recorded.Line.{Line}
 use Rattle.replay.specs.Giving as giving
 use Rattle.run_history.specs.declared.answer.Answer.TheVariants as answer
-use Rattle.over_trunk.proofs.Terms.{All, List, None, Option, Some, [], ap, arith, inr, length, map, refl, subst, sym, ℕ, ◌++◌, ◌∙◌, ◌∷◌, ◌≡◌, All-head, All-tail, Err, IsErrOf, Ok, Result, Rose, Stream, Entry, pieces_in, Choice, Image, Answer, Recorded, VERSION, choice_line, choice_lines, end_line, head_line, line_of, lines_text, IsAnswer, IsAskOf, AreOfLines, HasAsk, IsOfLine, ConvertsToItself, ReplaysTrunk, TakesReplay, Concludes, ConvertsTrunk, converted}
+use Rattle.over_trunk.proofs.Terms.{All, List, None, Option, Some, [], ap, arith, inr, length, map, refl, subst, sym, ℕ, ◌++◌, ◌∙◌, ◌∷◌, ◌≡◌, All-head, All-tail, Err, IsErrOf, Ok, Result, Rose, Stream, Entry, pieces_in, Choice, Image, Answer, Recorded, Difference, VERSION, choice_line, choice_lines, end_line, head_line, line_of, lines_text, IsAnswer, IsAskOf, AreOfLines, HasAsk, IsOfLine, ConvertsToItself, ComparesTrunk, ReplaysTrunk, TakesReplay, ComparesConverted, Concludes, ConvertsTrunk, converted}
 
 -- what was taken is less to say where memory ran out
 takes_memory : (source later : Option Stream) (entries : List Entry) → TakesReplay source later entries answer.Memory
@@ -28,14 +28,14 @@ at_memory {source = source} {later = later} is = record {
 }
 
 -- what a conversion leaves, by what its replay leaves
-pub converts_by : (image : Image) (recording : Recorded) (source later : Option Stream) (counted : ℕ) (came : Answer) (choices : List Choice) (result : Result (List ℕ) Answer) → (is : ReplaysTrunk image recording source later None None came counted)
-    → choices ≡ is.replay.choices → (came ≡ answer.WriteFault → ⊥) → Concludes recording came choices result → ConvertsTrunk image recording source later result counted
-converts_by image recording source later counted answer.Finished choices (Ok text) is all no_fault concludes = record { replayed = is; text_is = concludes ∙ ap (converted recording) all }
-converts_by image recording source later counted answer.Finished choices (Err end) is all no_fault concludes =
-    subst (λ (e : Answer). ConvertsTrunk image recording source later (Err e) counted) (sym concludes) (at_memory is)
-converts_by image recording source later counted answer.WriteFault choices result is all no_fault concludes = absurd (no_fault refl)
-converts_by image recording source later counted _ choices result is all no_fault concludes =
-    subst (λ (r : Result (List ℕ) Answer). ConvertsTrunk image recording source later r counted) (sym concludes) is
+pub converts_by : (image : Image) (recording : Recorded) (source later : Option Stream) (counted : ℕ) (came : Answer) (found : Option Difference) (choices : List Choice) (result : Result (List ℕ) Answer) → (is : ComparesTrunk image recording source later None None came found counted)
+    → choices ≡ is.replays.replay.choices → (came ≡ answer.WriteFault → ⊥) → Concludes recording came choices result → ComparesConverted image recording source later result found counted
+converts_by image recording source later counted answer.Finished found choices (Ok text) is all no_fault concludes = record { converts = record { replayed = is.replays; text_is = concludes ∙ ap (converted recording) all }; differs = is.differs }
+converts_by image recording source later counted answer.Finished found choices (Err end) is all no_fault concludes =
+    subst (λ (e : Answer). ComparesConverted image recording source later (Err e) found counted) (sym concludes) (record { converts = at_memory is.replays; differs = is.differs })
+converts_by image recording source later counted answer.WriteFault found choices result is all no_fault concludes = absurd (no_fault refl)
+converts_by image recording source later counted _ found choices result is all no_fault concludes =
+    subst (λ (r : Result (List ℕ) Answer). ComparesConverted image recording source later r found counted) (sym concludes) (record { converts = is.replays; differs = is.differs })
 
 -- no fault of a sink is answered that never fails
 pub no_write_fault : {now : ℕ} → now ≡ 0 → (Rose 0 now → ⊥)

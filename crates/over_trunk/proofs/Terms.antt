@@ -20,5 +20,5 @@ unfoldable pub use Rattle.over_trunk.specs.Terms.{end_line, head_line, heeded_be
 pub use Rattle.over_trunk.specs.Trunk.{BreaksTrunk, Carried, Carries, IsBehind, StopsAt, StopsTrunk, TakesNoPart, TakesTrunk, TookNoPart, TookRefused, TookTrunk, TookWhole, WritesTrunk, WritesWhole, WroteTrunk, WroteWhole}
 pub use Rattle.over_trunk.specs.Serving.{HeadsAt, HeadsDue, HeadsTrunk, IsRecordedUpTo, IsTrunkFault, ServesTrunk, WatchesTrunk, trunk_counts}
 pub use Rattle.over_trunk.specs.Laws.{ConvertsToItself, IsAsRecorded, IsConverted, IsWithin, SameBytesAreReplayed, SessionIsConverted}
-pub use Rattle.over_trunk.specs.Replaying.{IsRecordedRun, ReplaysTrunk, TakesReplay, TookReplay, WritesFirst, WritesFront, WritesReplay, WritesSends, sent_pieces}
-pub use Rattle.over_trunk.specs.Converting.{Concludes, ConvertsTrunk, HasConvertCause, converted}
+pub use Rattle.over_trunk.specs.Replaying.{ComparesTrunk, IsRecordedRun, ReplaysTrunk, TakesReplay, TookReplay, WritesFirst, WritesFront, WritesReplay, WritesSends, sent_pieces}
+pub use Rattle.over_trunk.specs.Converting.{ComparesConverted, Concludes, ConvertsTrunk, HasConvertCause, converted}

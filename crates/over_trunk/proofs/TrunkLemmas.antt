@@ -1,7 +1,7 @@
 -- What a replay over a trunk leaves, by what it leaves over a link.
 use Rattle.run_history.specs.declared.answer.Answer.TheVariants as answer
 use Rattle.session_state.specs.Serving.{StaysKnown}
-use Rattle.over_trunk.proofs.Terms.{List, None, Option, Some, [], arith, inl, inr, option_map, refl, subst, sym, true, ℕ, ◌+◌, ◌∙◌, ◌≡◌, IsSome, Stream, Entry, gives_below_4096, Coming, Counts, Grew, Handed, IsFresh, Told, events_in, pieces_in, Seen, Choice, Countable, GivesOn, Intake, Output, TakesOn, TookFrames, WroteFrames, told_coming, told_events, told_nothing, told_pieces, trunk_told, Image, Answer, Run, items_in, Recorded, EndsBy, HasReplayedBy, IsAsking, IsReplay, LeavesLink, Replay, bounds_of, BreaksTrunk, TakesNoPart, WritesWhole, IsRecordedRun, ReplaysTrunk, TakesReplay, TookReplay, WritesFront, WritesReplay}
+use Rattle.over_trunk.proofs.Terms.{List, None, Option, Some, [], arith, inl, inr, option_map, refl, subst, sym, true, ℕ, ◌+◌, ◌∙◌, ◌≡◌, IsSome, Stream, Entry, gives_below_4096, Coming, Counts, Grew, Handed, IsFresh, Told, events_in, pieces_in, Seen, Choice, Countable, GivesOn, Intake, Output, TakesOn, TookFrames, WroteFrames, told_coming, told_events, told_nothing, told_pieces, trunk_told, Image, Answer, Run, items_in, Recorded, Difference, TellsDifference, EndsBy, HasReplayedBy, IsAsking, IsReplay, LeavesLink, Replay, bounds_of, BreaksTrunk, TakesNoPart, WritesWhole, ComparesTrunk, IsRecordedRun, ReplaysTrunk, TakesReplay, TookReplay, WritesFront, WritesReplay}
 use Rattle.over_trunk.proofs.WriteLemmas.{Short}
 use Rattle.over_trunk.proofs.StopLemmas.{HasTaken, took_whole, took_refused, drained}
 use Rattle.over_trunk.proofs.ServeLemmas.{upcoming, has_taken, known_still, takes_trunk, writes_trunk, writes_whole}
@@ -114,14 +114,29 @@ replays image recording old new out later handed handed_later counts counts_late
       breaks = breaks_by image recording replayed.entries replayed.replay old new is_fresh none few went events (upcoming new) (shown old out handed counts) (shown new later handed_later counts_later) out.told later.told end refl replayed.ends leaves whole;
     }
 
--- and the answers of the allocator that it used
-pub fills : (image : Image) (recording : Recorded) (old new : Intake) (out later : Output) (handed handed_later : Option Handed) (counts counts_later : Counts) (end : Answer) (choices : List Choice) (before after counted : ℕ) → IsFresh old.phases → old.took ≡ 0
+-- and what differs from the record
+pub compares : (image : Image) (recording : Recorded) (old new : Intake) (out later : Output) (handed handed_later : Option Handed) (counts counts_later : Counts) (end : Answer) (found : Option Difference) (before after counted : ℕ) → IsFresh old.phases → old.took ≡ 0
     → out.wrote ≡ 0 → old.takes ≡ true → out.gives ≡ true → Countable new.told → Short later.told → (shown old out handed counts).told ≡ told_nothing old.told out.told → TakesOn old.takes old new → GivesOn out.gives out later
     → LeavesLink (shown old out handed counts) (shown new later handed_later counts_later) end
-    → (has : HasReplayedBy image recording (shown old out handed counts) (shown new later handed_later counts_later) (WritesFront out.told later.told) end before after) → choices ≡ has.replayed.replay.choices
-    → after ≡ before + counted → (is : ReplaysTrunk image recording old.told new.told out.told later.told end counted) × (choices ≡ is.replay.choices)
+    → (has : HasReplayedBy image recording (shown old out handed counts) (shown new later handed_later counts_later) (WritesFront out.told later.told) end before after)
+    → TellsDifference recording has.replayed.entries has.replayed.replay end found → after ≡ before + counted → ComparesTrunk image recording old.told new.told out.told later.told end found counted
 unfolding replays
-fills image recording old new out later handed handed_later counts counts_later end choices before after counted is_fresh none nothing takes gives few short start taken_on given_on leaves has all count = (
-  replays image recording old new out later handed handed_later counts counts_later end before after counted is_fresh none nothing takes gives few short start taken_on given_on leaves has count,
+compares image recording old new out later handed handed_later counts counts_later end found before after counted is_fresh none nothing takes gives few short start taken_on given_on leaves has differs count = record {
+  replays = replays image recording old new out later handed handed_later counts counts_later end before after counted is_fresh none nothing takes gives few short start taken_on given_on leaves has count;
+  differs = differs;
+}
+
+-- and the answers of the allocator that it used
+pub fills : (image : Image) (recording : Recorded) (old new : Intake) (out later : Output) (handed handed_later : Option Handed) (counts counts_later : Counts) (end : Answer) (found : Option Difference) (choices : List Choice) (before after counted : ℕ) → IsFresh old.phases → old.took ≡ 0
+    → out.wrote ≡ 0 → old.takes ≡ true → out.gives ≡ true → Countable new.told → Short later.told → (shown old out handed counts).told ≡ told_nothing old.told out.told → TakesOn old.takes old new → GivesOn out.gives out later
+    → LeavesLink (shown old out handed counts) (shown new later handed_later counts_later) end
+    → (has : HasReplayedBy image recording (shown old out handed counts) (shown new later handed_later counts_later) (WritesFront out.told later.told) end before after)
+    → TellsDifference recording has.replayed.entries has.replayed.replay end found → choices ≡ has.replayed.replay.choices → after ≡ before + counted
+    → (is : ComparesTrunk image recording old.told new.told out.told later.told end found counted) × (choices ≡ is.replays.replay.choices)
+unfolding replays
+
+unfolding compares
+fills image recording old new out later handed handed_later counts counts_later end found choices before after counted is_fresh none nothing takes gives few short start taken_on given_on leaves has differs all count = (
+  compares image recording old new out later handed handed_later counts counts_later end found before after counted is_fresh none nothing takes gives few short start taken_on given_on leaves has differs count,
   all,
 )

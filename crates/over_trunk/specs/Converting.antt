@@ -1,7 +1,7 @@
 -- What a conversion over a source leaves: what a replay does that gives nothing, and the text of its run.
 use Rattle.std.specs.Prelude.{◌≡◌, ◌≤◌, ℕ, List, Option, None, Result, Ok, Err, IsErrOf}
 use Rattle.run_history.specs.declared.answer.Answer.TheVariants as answer
-use Rattle.over_trunk.specs.Terms.{Rose, Stream, Choice, Image, Answer, Recorded, record_of, text_of}
+use Rattle.over_trunk.specs.Terms.{Rose, Stream, Choice, Image, Answer, Recorded, Difference, HasDifference, record_of, text_of}
 use Rattle.over_trunk.specs.Replaying.{ReplaysTrunk}
 
 -- the text in version 2 of a record whose run used these answers of the allocator
@@ -20,6 +20,16 @@ ConvertsTrunk image recorded source source_later (Ok text) counted = ConvertsWho
 ConvertsTrunk image recorded source source_later (Err answer.Finished) counted = ⊥
 ConvertsTrunk image recorded source source_later (Err answer.WriteFault) counted = ⊥
 ConvertsTrunk image recorded source source_later (Err end) counted = ReplaysTrunk image recorded source source_later None None end counted
+
+-- what differs is there exactly where the run comes to Mismatch, and then it is so of that run
+abbrev pub TellsConverted : (image : Image) (recorded : Recorded) (source source_later : Option Stream) (result : Result (List ℕ) Answer) (counted : ℕ) → ConvertsTrunk image recorded source source_later result counted → Option Difference → Type 0
+TellsConverted image recorded source source_later (Err (answer.Mismatch step)) counted converts found = HasDifference recorded converts.entries converts.replay found
+TellsConverted image recorded source source_later _ counted converts found = found ≡ None
+
+-- what a conversion leaves, and what differs from the record
+pub record ComparesConverted (image : Image) (recorded : Recorded) (source source_later : Option Stream) (result : Result (List ℕ) Answer) (found : Option Difference) (counted : ℕ) : Type 0 where
+  pub converts : ConvertsTrunk image recorded source source_later result counted
+  pub differs : TellsConverted image recorded source source_later result counted converts found
 
 -- no count of failed calls of the source falls, and a fault of it is answered only where its own rose
 abbrev pub HasConvertCause : ℕ → ℕ → Result (List ℕ) Answer → Type 0

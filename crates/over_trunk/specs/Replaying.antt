@@ -1,7 +1,7 @@
 -- What a replay over a trunk leaves: the bytes that its source lost, and those that its sink gained.
 use Rattle.std.specs.Prelude.{◌≡◌, ℕ, List, length, map, false, Option, None, Some}
 use Rattle.run_history.specs.declared.answer.Answer.TheVariants as answer
-use Rattle.over_trunk.specs.Terms.{Appends, IsDrained, Stream, Prefix, Send, Entry, Coming, HasEnded, Piece, events_in, pieces_in, frames, Image, Answer, Run, items_in, Recorded, piece_of, AreAsked, AreOfLines, EndsBy, IsAsking, IsReplay, Replay, bounds_of}
+use Rattle.over_trunk.specs.Terms.{Appends, IsDrained, Stream, Prefix, Send, Entry, Coming, HasEnded, Piece, events_in, pieces_in, frames, Image, Answer, Run, items_in, Recorded, Difference, TellsDifference, piece_of, AreAsked, AreOfLines, EndsBy, IsAsking, IsReplay, Replay, bounds_of}
 use Rattle.over_trunk.specs.Trunk.{TakesTrunk, TookWhole, TookRefused, WritesTrunk, BreaksTrunk}
 
 -- each send as one whole piece
@@ -68,3 +68,8 @@ pub record ReplaysTrunk (image : Image) (recorded : Recorded) (source source_lat
   pub wrote : WritesTrunk sink sink_later (pieces_in entries)
   pub writes : WritesReplay sink sink_later replay.state.sends end
   pub breaks : BreaksTrunk source source_later sink sink_later (events_in entries) (pieces_in entries) end
+
+-- The same, and what differs from the record.
+pub record ComparesTrunk (image : Image) (recorded : Recorded) (source source_later : Option Stream) (sink sink_later : Option (List ℕ)) (end : Answer) (found : Option Difference) (counted : ℕ) : Type 0 where
+  pub replays : ReplaysTrunk image recorded source source_later sink sink_later end counted
+  pub differs : TellsDifference recorded replays.entries replays.replay end found

@@ -53,6 +53,8 @@ pub use Rattle.session_state.specs.Options.{keeping_for}
 pub use Rattle.session_state.specs.Recovered.{AreAllTables, AreLastTables, AreTables, HasGivenUp, HasWatched, IsHandedLast, IsOutcome, IsTable, IsTelling, Outcome, Telling, Walk, entries, episodes_of, story_of, walk_behind}
 pub use Rattle.session_state.specs.Serving.{BreaksAt, LinkAnswers, NotesAnswer, UnlessNoteFault, outcome_of, rules_by}
 pub use Rattle.session_state.specs.Sessions.{IsBegun, SessionState}
+pub use Rattle.replay.specs.declared.difference.Difference.{Difference}
+pub use Rattle.replay.specs.Differing.{HasDifference, TellsDifference}
 pub use Rattle.replay.specs.Giving.{AreGiven, BreaksOff, found_gone, piece_of}
 pub use Rattle.replay.specs.Laws.{BringsFirst, HadOneStream, HasSession, IsRecordOf}
 pub use Rattle.replay.specs.Replaying.{AreAsked, AreOfLines, EndsBy, HasAsk, HasReplayed, HasReplayedBy, IsAsking, IsOfLine, IsReplay, LeavesLink, Replay, bounds_of}

@@ -3,13 +3,13 @@ ghost use Rattle.std.specs.Prelude.{◌≡◌, ℕ, ◌+◌, ◌*◌, ◌≤◌,
 ghost use Rattle.schedule_file.specs.Answers.{Writes};
 ghost use Rattle.schedule_file.specs.Lines.{choice_lines};
 ghost use Rattle.schedule_file.specs.Records.{IsRecord};
-ghost use Rattle.over_trunk.specs.Converting.{converted, Concludes, ConvertsTrunk, HasConvertCause};
+ghost use Rattle.over_trunk.specs.Converting.{converted, ComparesConverted, Concludes, HasConvertCause};
 
 use crate::discard::Discard;
 use crate::frame_giver::FrameGiver;
 use block_book::Choice;
 use elf_image::Image;
-use replay::{Filled, fill_by};
+use replay::{Difference, Filled, fill_by};
 use run_history::Answer;
 use rx_io::{Bytes, Source, Steps};
 use schedule_file::{Recorded, add_choice, end_line, head_line};
@@ -55,6 +55,13 @@ fn outcome(alloc: Global, recorded: &Recorded, filled: &Filled) -> Result<Bytes,
     }
 }
 
+/// What a conversion comes to: the text, or the answer of a run that has none; and at Mismatch what differs.
+#[derive(Debug, Drop)]
+pub struct Converted {
+    pub text: Result<Bytes, Answer>,
+    pub difference: Option<Difference>,
+}
+
 /// Runs as a replay does over the events of a source, gives nothing, and answers the text in version 2 of the run that the record tells
 /// of. A line of version 1 doesn't say what was asked of the allocator; the text does. No byte is taken of `input` that a replay doesn't
 /// take, and at `Ok` it has come to the record's end.
@@ -64,16 +71,19 @@ pub fn convert_trunk<S: Source, L: Ledger>(
     recorded: &Recorded,
     input: &mut S,
     steps: &mut Steps<L>,
-) -> Result<Bytes, Answer>
+) -> Converted
     requires window { image.now.window ≡ recorded.now.window * 1048576 }
     requires lawful { IsRecord recorded.now }
-    ensures converted { (counted : ℕ) → steps.new ≡ steps.old + counted → ConvertsTrunk image.now recorded.now (S.told input.old) (S.told input.new) result counted }
+    ensures converted { (counted : ℕ) → steps.new ≡ steps.old + counted → ComparesConverted image.now recorded.now (S.told input.old) (S.told input.new) result.text result.difference counted }
     ensures counted_more { steps.old ≤ steps.new }
-    ensures cause { HasConvertCause (S.faults input.old) (S.faults input.new) result }
+    ensures cause { HasConvertCause (S.faults input.old) (S.faults input.new) result.text }
     ensures outside { S.fixed input.new ≡ S.fixed input.old }
 {
     let mut output = Discard;
     let mut link = TrunkLink::make(alloc, &mut *input, &mut output);
     let filled = fill_by(alloc, image, recorded, &FrameGiver, &mut link, steps);
-    outcome(alloc, recorded, &filled)
+    Converted {
+        text: outcome(alloc, recorded, &filled),
+        difference: filled.difference,
+    }
 }

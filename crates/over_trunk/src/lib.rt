@@ -20,6 +20,6 @@ pub mod laws;
 mod replaying;
 mod serving;
 
-pub use converting::convert_trunk;
-pub use replaying::replay_trunk;
+pub use converting::{Converted, convert_trunk};
+pub use replaying::{Replayed, replay_trunk};
 pub use serving::serve_trunk;

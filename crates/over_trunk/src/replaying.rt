@@ -1,12 +1,12 @@
 // A record is replayed over a trunk of many connections.
 ghost use Rattle.std.specs.Prelude.{◌≡◌, ℕ, ◌+◌, ◌*◌, ◌<◌, ◌≤◌, ◌^◌};
 ghost use Rattle.session_history.specs.Answering.{HasAnswerCause};
-ghost use Rattle.over_trunk.specs.Replaying.{ReplaysTrunk};
+ghost use Rattle.over_trunk.specs.Replaying.{ComparesTrunk};
 ghost use Rattle.over_trunk.specs.Serving.{trunk_counts};
 
 use crate::frame_giver::FrameGiver;
 use elf_image::Image;
-use replay::replay_by;
+use replay::{Difference, fill_by};
 use run_history::Answer;
 use rx_io::{Sink, Source, Steps};
 use schedule_file::Recorded;
@@ -14,7 +14,14 @@ use std::alloc::Global;
 use std::sync::ledger::Ledger;
 use trunk_wire::TrunkLink;
 
-/// Replays a record over a source and a sink, and answers how that ended. The frames of events are taken from `input`, none before the
+/// How a replay has ended: its answer, and at Mismatch what differs.
+#[derive(Clone, Copy, Debug, PartialEq, Eq)]
+pub struct Replayed {
+    pub answer: Answer,
+    pub difference: Option<Difference>,
+}
+
+/// Replays a record over a source and a sink, and answers how that ended, at Mismatch with what differs. The frames of events are taken from `input`, none before the
 /// run asks for an item, and no byte behind one; each send of the run goes to `output` as a frame. Behind a fault of writing or want of
 /// memory a first part of the frames of the sends so far was written. `alloc` is for the payloads and for the program's memory.
 pub fn replay_trunk<S: Source, K: Sink, L: Ledger>(
@@ -24,14 +31,18 @@ pub fn replay_trunk<S: Source, K: Sink, L: Ledger>(
     input: &mut S,
     output: &mut K,
     steps: &mut Steps<L>,
-) -> Answer
+) -> Replayed
     requires window { image.now.window ≡ recorded.now.window * 1048576 }
     requires short { recorded.now.steps < 2 ^ 63 }
-    ensures replayed { (counted : ℕ) → steps.new ≡ steps.old + counted → ReplaysTrunk image.now recorded.now (S.told input.old) (S.told input.new) (K.told output.old) (K.told output.new) result counted }
+    ensures replayed { (counted : ℕ) → steps.new ≡ steps.old + counted → ComparesTrunk image.now recorded.now (S.told input.old) (S.told input.new) (K.told output.old) (K.told output.new) result.answer result.difference counted }
     ensures counted_more { steps.old ≤ steps.new }
-    ensures cause { HasAnswerCause (trunk_counts (S.faults input.old) (K.faults output.old)) (trunk_counts (S.faults input.new) (K.faults output.new)) result }
+    ensures cause { HasAnswerCause (trunk_counts (S.faults input.old) (K.faults output.old)) (trunk_counts (S.faults input.new) (K.faults output.new)) result.answer }
     ensures outside { (S.fixed input.new ≡ S.fixed input.old) × (K.fixed output.new ≡ K.fixed output.old) }
 {
     let mut link = TrunkLink::make(alloc, &mut *input, &mut *output);
-    replay_by(alloc, image, recorded, &FrameGiver, &mut link, steps)
+    let filled = fill_by(alloc, image, recorded, &FrameGiver, &mut link, steps);
+    Replayed {
+        answer: filled.answer,
+        difference: filled.difference,
+    }
 }

@@ -8,6 +8,7 @@ ghost use Rattle.rx_serve.specs.Status.{status_of};
 
 mod blame;
 mod descriptors;
+mod differing;
 mod helping;
 mod message;
 mod outputs;
@@ -126,7 +127,7 @@ fn main(rt: HostRuntime) -> ExitCode {
     let end = run::<Brand>(&rt, words.as_slice(), patience, &teller, Blank::new(1));
     teller.tell_end(&end);
     if end.status != 0 {
-        tell(&rt, end.answer, words.as_slice());
+        tell(&rt, end.answer, end.difference, words.as_slice());
     }
     tell_diagnosed(&rt, end.answer, words.as_slice());
     ExitCode::from(end.status)

@@ -5,6 +5,7 @@ ghost use Rattle.command_line.specs.Commands.{run_shown, serve, serve_shown};
 ghost use Rattle.command_line.specs.Ranges.{AreInRange, HasRanges};
 
 use crate::blame::{Blame, find_blame};
+use crate::differing::write_difference;
 use crate::message::{write_outside, write_refused};
 use crate::outputs::Objection;
 use crate::readings::tell_readings;
@@ -14,6 +15,7 @@ use command_line::{
     complaint, read_command, usage,
 };
 use elf_image::{RefusedField, field_of_refusal};
+use replay::Difference;
 use run_history::{Answer, Cause};
 use rv_asm::explain;
 use rx_io::{Files, StdFiles};
@@ -433,6 +435,8 @@ fn tell_asm(rt: &HostRuntime, answer: Answer, asm: &AsmCommand<'_>) {
 #[derive(Debug, Drop)]
 struct ReplayMessage<'a> {
     answer: Answer,
+    /// What differs, where the run isn't the recorded one.
+    difference: Option<Difference>,
     program: &'a str,
     recording: &'a str,
     /// The field that the program file is refused for, where it was found.
@@ -444,6 +448,20 @@ struct ReplayMessage<'a> {
 }
 
 impl ReplayMessage<'_> {
+    fn mismatch<W: fmt::Write>(&self, f: &mut fmt::Formatter<W>, step: u64) -> fmt::Result {
+        let program = self.program;
+        let recording = self.recording;
+        write!(
+            f,
+            "the program {program} doesn't go on as the record {recording} says: it went as recorded for {step} instructions"
+        )?;
+        if let Some(difference) = self.difference {
+            write!(f, "; then ")?;
+            write_difference(f, recording, difference)?;
+        }
+        Ok(())
+    }
+
     fn file_fault<W: fmt::Write>(&self, f: &mut fmt::Formatter<W>) -> fmt::Result {
         let program = self.program;
         let recording = self.recording;
@@ -482,10 +500,7 @@ impl fmt::Display for ReplayMessage<'_> {
                 "the program file {program} has more than {MAX_PROGRAM} bytes, or the record {recording} more than {MAX_RECORD}: these are the limits"
             ),
             Answer::RecordRefused { line } => self.refused(f, line),
-            Answer::Mismatch { step } => write!(
-                f,
-                "the program {program} doesn't go on as the record {recording} says: it went as recorded for {step} instructions"
-            ),
+            Answer::Mismatch { step } => self.mismatch(f, step),
             Answer::ElfRefused(kind) => write_refused(f, program, kind, &self.field),
             _ => write_outside(f, self.answer),
         }
@@ -522,13 +537,19 @@ fn is_cut(rt: &HostRuntime, answer: Answer, recording: &str) -> bool {
     ended + 1 == u64::from(line) && text.as_slice().last() == Some(&b'\n')
 }
 
-fn tell_replay(rt: &HostRuntime, answer: Answer, replay: &ReplayCommand<'_>) {
+fn tell_replay(
+    rt: &HostRuntime,
+    answer: Answer,
+    difference: Option<Difference>,
+    replay: &ReplayCommand<'_>,
+) {
     let field = match recorded_window(rt, replay.recording) {
         Some(window) => refused_field(rt, answer, replay.program, window),
         None => None,
     };
     let message = ReplayMessage {
         answer,
+        difference,
         program: replay.program,
         recording: replay.recording,
         field,
@@ -565,7 +586,12 @@ impl fmt::Display for ConvertMessage<'_> {
     }
 }
 
-fn tell_convert(rt: &HostRuntime, answer: Answer, convert: &ConvertCommand<'_>) {
+fn tell_convert(
+    rt: &HostRuntime,
+    answer: Answer,
+    difference: Option<Difference>,
+    convert: &ConvertCommand<'_>,
+) {
     let field = match recorded_window(rt, convert.recording) {
         Some(window) => refused_field(rt, answer, convert.program, window),
         None => None,
@@ -573,6 +599,7 @@ fn tell_convert(rt: &HostRuntime, answer: Answer, convert: &ConvertCommand<'_>) 
     let message = ConvertMessage {
         replayed: ReplayMessage {
             answer,
+            difference,
             program: convert.program,
             recording: convert.recording,
             field,
@@ -591,13 +618,14 @@ fn tell_convert(rt: &HostRuntime, answer: Answer, convert: &ConvertCommand<'_>) 
 
 // ---- all commands
 
-/// Tells what an answer to these words means. The names and numbers in it are those of the command that the words ask for.
-pub fn tell(rt: &HostRuntime, answer: Answer, words: &[String]) {
+/// Tells what an answer to these words means, and of a run that isn't the recorded one what differs. The names and numbers in it are those
+/// of the command that the words ask for.
+pub fn tell(rt: &HostRuntime, answer: Answer, difference: Option<Difference>, words: &[String]) {
     match read_command(rt.alloc(), words) {
         Ok(Some(Command::Run(run))) => tell_run(rt, answer, &run),
         Ok(Some(Command::Asm(asm))) => tell_asm(rt, answer, &asm),
-        Ok(Some(Command::Replay(replay))) => tell_replay(rt, answer, &replay),
-        Ok(Some(Command::Convert(convert))) => tell_convert(rt, answer, &convert),
+        Ok(Some(Command::Replay(replay))) => tell_replay(rt, answer, difference, &replay),
+        Ok(Some(Command::Convert(convert))) => tell_convert(rt, answer, difference, &convert),
         Ok(Some(Command::Serve(serve))) => tell_serve(rt, answer, &serve),
         Ok(Some(Command::Diagnose(diagnose))) => tell_diagnose(rt, answer, &diagnose),
         Ok(Some(Command::Drill(_))) => tell_drill(rt, answer),

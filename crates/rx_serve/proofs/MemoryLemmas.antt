@@ -20,19 +20,19 @@ nothing_turned way old end part is nothing = record {
   nothing = nothing;
 }
 
-pub memory_ends : (asked : Option CommandValue) (before : Heard) (old : Outside) (end : End) → (asked ≡ None → ⊥) → end.answer ≡ answer.Memory → HasNoSession end → Ends asked before before old old end
-memory_ends None before old end some is nothing = absurd (some refl)
-memory_ends (Some (run value)) before old end some is nothing = search (rules, is, nothing)
-memory_ends (Some (asm value)) before old end some is nothing = search (rules, is, nothing)
-memory_ends (Some (replay value)) before old end some is nothing = search (rules, is, nothing)
-memory_ends (Some (convert value)) before old end some is nothing = search (rules, is, nothing)
-memory_ends (Some (serve value)) before old end some is nothing = search (rules, is, nothing)
-memory_ends (Some (diagnose value)) before old end some is nothing = search (rules, is, nothing)
-memory_ends (Some (drill value)) before old end some is nothing = record {
+pub memory_ends : (asked : Option CommandValue) (before : Heard) (old : Outside) (end : End) → (asked ≡ None → ⊥) → end.answer ≡ answer.Memory → HasNoSession end → end.difference ≡ None → Ends asked before before old old end
+memory_ends None before old end some is nothing none = absurd (some refl)
+memory_ends (Some (run value)) before old end some is nothing none = search (rules, is, nothing)
+memory_ends (Some (asm value)) before old end some is nothing none = search (rules, is, nothing)
+memory_ends (Some (replay value)) before old end some is nothing none = search (rules, is, nothing, none)
+memory_ends (Some (convert value)) before old end some is nothing none = search (rules, is, nothing, none)
+memory_ends (Some (serve value)) before old end some is nothing none = search (rules, is, nothing)
+memory_ends (Some (diagnose value)) before old end some is nothing none = search (rules, is, nothing)
+memory_ends (Some (drill value)) before old end some is nothing none = record {
   counted = omega arith;
   drilled = subst (DrillEnds value.seed value.count (old.counter - old.counter) old.output old.output) (sym is) (inl refl);
   untouched = refl;
   nothing = nothing;
 }
-memory_ends (Some frame) before old end some is nothing = nothing_turned framing old end (search rules) is nothing
-memory_ends (Some unframe) before old end some is nothing = nothing_turned unframing old end tt is nothing
+memory_ends (Some frame) before old end some is nothing none = nothing_turned framing old end (search rules) is nothing
+memory_ends (Some unframe) before old end some is nothing none = nothing_turned unframing old end tt is nothing

@@ -5,11 +5,11 @@ use Rattle.rx_serve.specs.Terms.{ListenEntry, framing, unframing, CallsFront, As
 use Rattle.rx_serve.specs.declared.ending.End.{End}
 use Rattle.rx_serve.specs.Assembly.{Assembles, HasAsmCause}
 use Rattle.rx_serve.specs.Calling.{CallsAsm, CallsConvert, replaying}
-use Rattle.rx_serve.specs.Converting.{ConvertsFile}
+use Rattle.rx_serve.specs.Converting.{ConvertsFile, TellsConversion}
 use Rattle.rx_serve.specs.Drilling.{DrillLeaves}
 use Rattle.rx_serve.specs.Ended.{HasNoSession}
 use Rattle.rx_serve.specs.Outside.{Outside, IsUntouched}
-use Rattle.rx_serve.specs.Replaying.{ReplaysFile}
+use Rattle.rx_serve.specs.Replaying.{ReplaysFile, TellsFile}
 use Rattle.rx_serve.specs.Route.{trunk_of}
 use Rattle.rx_serve.specs.Running.{HasNotBegun, HasServed}
 use Rattle.rx_serve.specs.Serving.{Heard, ServeEnds, heard_at}
@@ -28,16 +28,19 @@ pub record AsmEnds (value : AsmValue) (old new : Outside) (end : End) : Type 0 w
   pub untouched : IsUntouched old new
   pub nothing : HasNoSession end
 
--- what `replay` leaves: a replay of the record, or why none began. No file was touched
+-- what `replay` leaves: a replay of the record, or why none began; and at Mismatch what differs. No file was touched
 pub record ReplayEnds (value : ReplayValue) (old new : Outside) (end : End) : Type 0 where
   pub replays : ReplaysFile value old new end.answer
+  pub differs : TellsFile value old new end.answer replays end.difference
   pub called : CallsFront old.calls new.calls (replaying value)
   pub same_files : new.files ≡ old.files
   pub nothing : HasNoSession end
 
--- what `convert` leaves: the record of version 2 of the recorded run, or why there is none. Nothing was written to the output
+-- what `convert` leaves: the record of version 2 of the recorded run, or why there is none; and at Mismatch what differs. Nothing was written to
+-- the output
 pub record ConvertEnds (value : ConvertValue) (old new : Outside) (end : End) : Type 0 where
   pub converts : ConvertsFile value old new end.answer
+  pub differs : TellsConversion value old new end.answer converts end.difference
   pub called : CallsConvert value old.calls new.calls end.answer
   pub same_output : new.output ≡ old.output
   pub nothing : HasNoSession end
@@ -70,6 +73,12 @@ Listens _ = ⊥
 abbrev pub Gathers : Option CommandValue → Type 0
 Gathers (Some (serve value)) = value.at_once ≢ 1
 Gathers _ = ⊥
+
+-- the words ask for a recorded run to be done again
+abbrev pub Replays : Option CommandValue → Type 0
+Replays (Some (replay value)) = Unit {0}
+Replays (Some (convert value)) = Unit {0}
+Replays _ = ⊥
 
 -- where a command's events come from, of three counts of faults: that of the input, that of the listener, and that of the crowd
 abbrev pub heard_by : Option CommandValue → ℕ → ℕ → ℕ → ℕ

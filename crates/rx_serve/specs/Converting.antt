@@ -1,6 +1,7 @@
 -- The command `convert`: a program and a record of it are loaded, the recorded run is done again, and then its record of version 2 is written.
-use Rattle.std.specs.Prelude.{◌≡◌, ◌⊎◌, ℕ, ◌+◌, List, Result, Ok, Err}
-use Rattle.rx_serve.specs.Terms.{Calls, Image, Answer, Recorded, ConvertsTrunk, ConvertValue}
+use Rattle.std.specs.Prelude.{◌≡◌, ◌⊎◌, ℕ, ◌+◌, List, Option, None, Result, Ok, Err}
+use Rattle.std.proofs.Common.{inl, inr}
+use Rattle.rx_serve.specs.Terms.{Calls, Image, Answer, Recorded, Difference, ConvertsTrunk, TellsConverted, ConvertValue}
 use Rattle.rx_serve.specs.Assembly.{Writes}
 use Rattle.rx_serve.specs.Calling.{replayed, replaying}
 use Rattle.rx_serve.specs.Outside.{Outside, IsUntouched}
@@ -31,3 +32,13 @@ pub record HasBeenConverted (value : ConvertValue) (old new : Outside) (end : An
 
 abbrev pub ConvertsFile : ConvertValue → Outside → Outside → Answer → Type 0
 ConvertsFile value old new end = HasNotConverted value old new end ⊎ HasBeenConverted value old new end
+
+-- what differs is there exactly where a run that was done comes to Mismatch, and then it is so of that run
+abbrev pub TellsConversion : (value : ConvertValue) (old new : Outside) (end : Answer) → ConvertsFile value old new end → Option Difference → Type 0
+TellsConversion value old new end (inl none) found = found ≡ None
+TellsConversion value old new end (inr done) found = TellsConverted done.image done.recorded old.input new.input done.text done.counted done.converts found
+
+-- what is left of a conversion, and what differs from the record
+pub record ComparesConversion (value : ConvertValue) (old new : Outside) (end : Answer) (found : Option Difference) : Type 0 where
+  pub converts : ConvertsFile value old new end
+  pub differs : TellsConversion value old new end converts found

@@ -1,6 +1,7 @@
 -- The command `replay`: a program and a record of it are loaded, and the recorded run is done again.
-use Rattle.std.specs.Prelude.{◌≡◌, ◌⊎◌, ℕ, ◌+◌, ◌*◌, ◌^◌, List, Option, Some, Result, Ok, Err}
-use Rattle.rx_serve.specs.Terms.{Calls, Contents, Image, IsImage, refusal, Answer, ElfRefused, FileFault, Memory, RecordRefused, TooLarge, Recorded, IsReading, refused_line, ReplaysTrunk, ReplayValue}
+use Rattle.std.specs.Prelude.{◌≡◌, ◌⊎◌, ℕ, ◌+◌, ◌*◌, ◌^◌, List, Option, None, Some, Result, Ok, Err}
+use Rattle.std.proofs.Common.{inl, inr}
+use Rattle.rx_serve.specs.Terms.{Calls, Contents, Image, IsImage, refusal, Answer, ElfRefused, FileFault, Memory, RecordRefused, TooLarge, Recorded, Difference, TellsDifference, IsReading, refused_line, ReplaysTrunk, ReplayValue}
 use Rattle.rx_serve.specs.Limits.{program_limit, record_limit}
 use Rattle.rx_serve.specs.Loading.{HasFile, IsTooLarge}
 use Rattle.rx_serve.specs.Calling.{replaying}
@@ -82,3 +83,13 @@ pub record HasBeenReplayed (value : ReplayValue) (old new : Outside) (end : Answ
 
 abbrev pub ReplaysFile : ReplayValue → Outside → Outside → Answer → Type 0
 ReplaysFile value old new end = HasNotReplayed value old new end ⊎ HasBeenReplayed value old new end
+
+-- what differs is there exactly at Mismatch of a replay that began, and then it is so of that replay
+abbrev pub TellsFile : (value : ReplayValue) (old new : Outside) (end : Answer) → ReplaysFile value old new end → Option Difference → Type 0
+TellsFile value old new end (inl none) found = found ≡ None
+TellsFile value old new end (inr done) found = TellsDifference done.recorded done.replays.entries done.replays.replay end found
+
+-- what is left of a replay, and what differs from the record
+pub record ComparesFile (value : ReplayValue) (old new : Outside) (end : Answer) (found : Option Difference) : Type 0 where
+  pub replays : ReplaysFile value old new end
+  pub differs : TellsFile value old new end replays found

@@ -72,8 +72,10 @@ pub use Rattle.session_state.specs.declared.options.Options.{Options}
 pub use Rattle.session_state.specs.Options.{AreInRange, keeping_for, rules_of}
 pub use Rattle.session_state.specs.Recovered.{AreAllTables, HasNoted, IsHandedLast, IsNoteStop, IsOutcome, Outcome, Telling, story_of}
 pub use Rattle.session_state.specs.Sessions.{IsBegun, SessionState}
+pub use Rattle.replay.specs.declared.difference.Difference.{Difference}
+pub use Rattle.replay.specs.Differing.{TellsDifference}
 pub use Rattle.replay.specs.Replaying.{EndsBy, bounds_of}
-pub use Rattle.over_trunk.specs.Converting.{ConvertsTrunk}
+pub use Rattle.over_trunk.specs.Converting.{ConvertsTrunk, TellsConverted}
 pub use Rattle.over_trunk.specs.EndLaws.{AreAllHeeded, NoOtherEnd, SendsAreWritten}
 pub use Rattle.over_trunk.specs.Replaying.{ReplaysTrunk, WritesSends}
 pub use Rattle.over_trunk.specs.Serving.{GoesOverTrunk, HasServedTrunk, IsRecordedUpTo, IsTrunkFault, ServesTrunk, WatchesTrunk}

@@ -40,6 +40,7 @@ pub(crate) fn serve_clients<F: Files, N: Listener, C: Crowd, T: Teller, L: Ledge
     ensures listener { serve.now.at_once ≢ 1 → listener.new ≡ listener.old }
     ensures crowd { serve.now.at_once ≡ 1 → crowd.new ≡ crowd.old }
     ensures fixed { (N.fixed listener.new ≡ N.fixed listener.old) × (C.fixed crowd.new ≡ C.fixed crowd.old) }
+    ensures differs { result.difference ≡ None }
     ensures status { result.status ≡ status_of result.answer }
     ensures counted_at_least { steps.old + result.steps ≤ steps.new }
 {

@@ -91,6 +91,7 @@ fn serve_crowd_under<R: AccessRule + Drop, F: Files, C: Crowd, T: Teller, L: Led
     ensures ends { (input : Option Stream) (output : Option (List ℕ)) → SeveralEnds (serve_shown serve.now) (C.told crowd.old) (C.told crowd.new) (outside (F.told files.old) (F.calls files.old) input output steps.old) (outside (F.told files.new) (F.calls files.new) input output steps.new) result }
     ensures faults { (output : ℕ) → HasFaults (faults (F.faults files.old) (C.faults crowd.old) output) (faults (F.faults files.new) (C.faults crowd.new) output) result.answer }
     ensures fixed { C.fixed crowd.new ≡ C.fixed crowd.old }
+    ensures differs { result.difference ≡ None }
     ensures status { result.status ≡ status_of result.answer }
     ensures counted_at_least { steps.old + result.steps ≤ steps.new }
 {
@@ -129,6 +130,7 @@ pub fn serve_crowd_program<F: Files, C: Crowd, T: Teller, L: Ledger>(
     ensures ends { (input : Option Stream) (output : Option (List ℕ)) → SeveralEnds (serve_shown serve.now) (C.told crowd.old) (C.told crowd.new) (outside (F.told files.old) (F.calls files.old) input output steps.old) (outside (F.told files.new) (F.calls files.new) input output steps.new) result }
     ensures faults { (output : ℕ) → HasFaults (faults (F.faults files.old) (C.faults crowd.old) output) (faults (F.faults files.new) (C.faults crowd.new) output) result.answer }
     ensures fixed { C.fixed crowd.new ≡ C.fixed crowd.old }
+    ensures differs { result.difference ≡ None }
     ensures status { result.status ≡ status_of result.answer }
     ensures counted_at_least { steps.old + result.steps ≤ steps.new }
 {

@@ -24,6 +24,7 @@ pub(crate) fn drill_session<K: Sink, L: Ledger>(
 ) -> End
     ensures drills { (files : Option Contents) (calls : Option (List FileCall)) (input : Option Stream) → DrillLeaves (drill_shown drill) (outside files calls input (K.told output.old) steps.old) (outside files calls input (K.told output.new) steps.new) result }
     ensures faults { (files : ℕ) (input : ℕ) → HasFaults (faults files input (K.faults output.old)) (faults files input (K.faults output.new)) result.answer }
+    ensures differs { result.difference ≡ None }
     ensures status { result.status ≡ status_of result.answer }
     ensures counted_at_least { steps.old + result.steps ≤ steps.new }
 {

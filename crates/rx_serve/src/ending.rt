@@ -4,12 +4,15 @@ ghost use Rattle.rx_serve.specs.Status.{status_of};
 
 use block_book::Choices;
 use guest_space::AccessRule;
+use over_trunk::Replayed;
+use replay::Difference;
 use run_history::Answer;
 use rx_engine::Left;
 use std::alloc::Global;
 
 /// How a command ended: its answer, the status for the shell, and of a session's run how many answers of the allocator stand in
-/// the record, those behind them, its instructions, and the items that it took. Without a session these are 0 and empty.
+/// the record, those behind them, its instructions, and the items that it took. Without a session these are 0 and empty. Where a run
+/// that is done again isn't the recorded one, it has what differs.
 #[derive(Debug, Drop)]
 pub struct End {
     pub answer: Answer,
@@ -18,6 +21,7 @@ pub struct End {
     pub tail: Choices,
     pub steps: u64,
     pub taken: u64,
+    pub difference: Option<Difference>,
 }
 
 // The status of an answer.
@@ -53,6 +57,7 @@ impl End {
         ensures answer { result.answer ≡ answer }
         ensures status { result.status ≡ status_of answer }
         ensures nothing { HasNoSession result }
+        ensures differs { result.difference ≡ None }
     {
         End {
             answer,
@@ -61,7 +66,20 @@ impl End {
             tail: Choices::from_vec(Vec::new(alloc)),
             steps: 0,
             taken: 0,
+            difference: None,
         }
+    }
+
+    /// The end of a command that did a recorded run again.
+    pub(crate) fn of_replay(alloc: Global, replayed: Replayed) -> End
+        ensures answer { result.answer ≡ replayed.answer }
+        ensures status { result.status ≡ status_of replayed.answer }
+        ensures nothing { HasNoSession result }
+        ensures differs { result.difference ≡ replayed.difference }
+    {
+        let mut end = End::without_session(alloc, replayed.answer);
+        end.difference = replayed.difference;
+        end
     }
 
     /// The end of a session.
@@ -72,6 +90,7 @@ impl End {
         ensures tail { result.tail ≡ left.tail }
         ensures steps { result.steps ≡ left.steps }
         ensures taken { result.taken ≡ left.taken }
+        ensures differs { result.difference ≡ None }
     {
         End {
             answer,
@@ -80,6 +99,7 @@ impl End {
             tail: left.tail,
             steps: left.steps,
             taken: left.taken,
+            difference: None,
         }
     }
 }

@@ -94,6 +94,7 @@ fn serve_under<R: AccessRule + Drop, F: Files, N: Listener, T: Teller, L: Ledger
     ensures ends { (input : Option Stream) (output : Option (List ℕ)) → PortEnds (serve_shown serve.now) (N.told listener.old) (N.told listener.new) (outside (F.told files.old) (F.calls files.old) input output steps.old) (outside (F.told files.new) (F.calls files.new) input output steps.new) result }
     ensures faults { (output : ℕ) → HasFaults (faults (F.faults files.old) (N.faults listener.old) output) (faults (F.faults files.new) (N.faults listener.new) output) result.answer }
     ensures fixed { N.fixed listener.new ≡ N.fixed listener.old }
+    ensures differs { result.difference ≡ None }
     ensures status { result.status ≡ status_of result.answer }
     ensures counted_at_least { steps.old + result.steps ≤ steps.new }
 {
@@ -132,6 +133,7 @@ pub fn serve_program<F: Files, N: Listener, T: Teller, L: Ledger>(
     ensures ends { (input : Option Stream) (output : Option (List ℕ)) → PortEnds (serve_shown serve.now) (N.told listener.old) (N.told listener.new) (outside (F.told files.old) (F.calls files.old) input output steps.old) (outside (F.told files.new) (F.calls files.new) input output steps.new) result }
     ensures faults { (output : ℕ) → HasFaults (faults (F.faults files.old) (N.faults listener.old) output) (faults (F.faults files.new) (N.faults listener.new) output) result.answer }
     ensures fixed { N.fixed listener.new ≡ N.fixed listener.old }
+    ensures differs { result.difference ≡ None }
     ensures status { result.status ≡ status_of result.answer }
     ensures counted_at_least { steps.old + result.steps ≤ steps.new }
 {

@@ -5,12 +5,12 @@ ghost use Rattle.rx_io.specs.Faults.{Rose};
 ghost use Rattle.file_notes.specs.Calling.{CallsFront, CallsUpTo};
 ghost use Rattle.rx_serve.specs.Calling.{CallsLoad, replaying};
 ghost use Rattle.rx_serve.specs.Outside.{outside, faults, HasFaults};
-ghost use Rattle.rx_serve.specs.Replaying.{LoadsRecord, LoadsRecording, ReplaysFile};
+ghost use Rattle.rx_serve.specs.Replaying.{ComparesFile, LoadsRecord, LoadsRecording};
 
 use crate::loading::{MAX_PROGRAM, image_in, load_file};
 use command_line::ReplayCommand;
 use elf_image::Image;
-use over_trunk::replay_trunk;
+use over_trunk::{Replayed, replay_trunk};
 use run_history::Answer;
 use rx_io::{Files, Sink, Source, Steps};
 use schedule_file::{RecordRefusal, Recorded, read_record};
@@ -65,7 +65,7 @@ pub(crate) fn load_recording<F: Files>(
     }
 }
 
-/// Loads a program and its record, and replays it.
+/// Loads a program and its record, and replays it. At Mismatch it has what differs.
 pub(crate) fn replay_file<F: Files, S: Source, K: Sink, L: Ledger>(
     alloc: Global,
     replay: &ReplayCommand<'_>,
@@ -73,16 +73,21 @@ pub(crate) fn replay_file<F: Files, S: Source, K: Sink, L: Ledger>(
     input: &mut S,
     output: &mut K,
     steps: &mut Steps<L>,
-) -> Answer
-    ensures replays { ReplaysFile (replay_shown replay.now) (outside (F.told files.old) (F.calls files.old) (S.told input.old) (K.told output.old) steps.old) (outside (F.told files.new) (F.calls files.new) (S.told input.new) (K.told output.new) steps.new) result }
+) -> Replayed
+    ensures replays { ComparesFile (replay_shown replay.now) (outside (F.told files.old) (F.calls files.old) (S.told input.old) (K.told output.old) steps.old) (outside (F.told files.new) (F.calls files.new) (S.told input.new) (K.told output.new) steps.new) result.answer result.difference }
     ensures calls { CallsFront (F.calls files.old) (F.calls files.new) (replaying (replay_shown replay.now)) }
     ensures same { F.told files.new ≡ F.told files.old }
     ensures counted_more { steps.old ≤ steps.new }
-    ensures faults { HasFaults (faults (F.faults files.old) (S.faults input.old) (K.faults output.old)) (faults (F.faults files.new) (S.faults input.new) (K.faults output.new)) result }
+    ensures faults { HasFaults (faults (F.faults files.old) (S.faults input.old) (K.faults output.old)) (faults (F.faults files.new) (S.faults input.new) (K.faults output.new)) result.answer }
 {
     let (image, recorded) = match load_recording(alloc, files, replay) {
         Ok(both) => both,
-        Err(answer) => return answer,
+        Err(answer) => {
+            return Replayed {
+                answer,
+                difference: None,
+            };
+        }
     };
     replay_trunk(alloc, &image, &recorded, input, output, steps)
 }

@@ -2,7 +2,7 @@
 ghost use Rattle.std.specs.Prelude.{◌≡◌, ◌+◌, ◌≤◌};
 ghost use Rattle.command_line.specs.Parts.{texts_of};
 ghost use Rattle.command_line.specs.Commands.{command_of};
-ghost use Rattle.rx_serve.specs.Commands.{Ends, Gathers, Listens, heard_by};
+ghost use Rattle.rx_serve.specs.Commands.{Ends, Gathers, Listens, Replays, heard_by};
 ghost use Rattle.rx_serve.specs.Outside.{outside, faults, HasFaults};
 ghost use Rattle.rx_serve.specs.Serving.{heard};
 ghost use Rattle.rx_serve.specs.Status.{status_of};
@@ -66,6 +66,9 @@ pub fn run_rx<F: Files, S: Source, K: Sink, N: Listener, C: Crowd, L: Ledger, T:
     ensures listener { (Listens (command_of (texts_of words.now)) → ⊥) → listener.new ≡ listener.old }
     ensures crowd { (Gathers (command_of (texts_of words.now)) → ⊥) → crowd.new ≡ crowd.old }
     ensures fixed { (N.fixed listener.new ≡ N.fixed listener.old) × (C.fixed crowd.new ≡ C.fixed crowd.old) }
+
+    // What differs from a record stands beside the answer of a `replay` or a `convert` alone.
+    ensures differs { (Replays (command_of (texts_of words.now)) → ⊥) → result.difference ≡ None }
     ensures status { result.status ≡ status_of result.answer }
     ensures counted_at_least { steps.old + result.steps ≤ steps.new }
 {
@@ -78,12 +81,12 @@ pub fn run_rx<F: Files, S: Source, K: Sink, N: Listener, C: Crowd, L: Ledger, T:
             End::without_session(alloc, answer)
         }
         Ok(Some(Command::Replay(replay))) => {
-            let answer = replay_file(alloc, &replay, files, input, output, steps);
-            End::without_session(alloc, answer)
+            let replayed = replay_file(alloc, &replay, files, input, output, steps);
+            End::of_replay(alloc, replayed)
         }
         Ok(Some(Command::Convert(convert))) => {
-            let answer = convert_file(alloc, &convert, files, input, steps);
-            End::without_session(alloc, answer)
+            let replayed = convert_file(alloc, &convert, files, input, steps);
+            End::of_replay(alloc, replayed)
         }
         Ok(Some(Command::Serve(serve))) => serve_clients(
             alloc, &serve, files, listener, crowd, teller, steps,

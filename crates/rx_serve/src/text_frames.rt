@@ -52,6 +52,7 @@ fn turned_answer(ended: Ended) -> Answer
 pub(crate) fn frame_input<S: Source, K: Sink>(alloc: Global, input: &mut S, output: &mut K) -> End
     ensures turns { (files : Option Contents) (calls : Option (List FileCall)) (counter : ℕ) → TurnsInput framing (outside files calls (S.told input.old) (K.told output.old) counter) (outside files calls (S.told input.new) (K.told output.new) counter) result }
     ensures faults { (files : ℕ) → HasFaults (faults files (S.faults input.old) (K.faults output.old)) (faults files (S.faults input.new) (K.faults output.new)) result.answer }
+    ensures differs { result.difference ≡ None }
     ensures status { result.status ≡ status_of result.answer }
     ensures steps { result.steps ≡ 0 }
 {
@@ -63,6 +64,7 @@ pub(crate) fn frame_input<S: Source, K: Sink>(alloc: Global, input: &mut S, outp
 pub(crate) fn unframe_input<S: Source, K: Sink>(alloc: Global, input: &mut S, output: &mut K) -> End
     ensures turns { (files : Option Contents) (calls : Option (List FileCall)) (counter : ℕ) → TurnsInput unframing (outside files calls (S.told input.old) (K.told output.old) counter) (outside files calls (S.told input.new) (K.told output.new) counter) result }
     ensures faults { (files : ℕ) → HasFaults (faults files (S.faults input.old) (K.faults output.old)) (faults files (S.faults input.new) (K.faults output.new)) result.answer }
+    ensures differs { result.difference ≡ None }
     ensures status { result.status ≡ status_of result.answer }
     ensures steps { result.steps ≡ 0 }
 {

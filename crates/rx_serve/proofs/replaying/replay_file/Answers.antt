@@ -6,15 +6,19 @@ pub returns-clause-replays : goal.returns-clause-replays
 returns-clause-replays g c =
     let more = c.replay_trunk.ensures.counted_more in
     let counted : ℕ = c.replay_trunk.new.steps - c.args.steps.now in
-    inr (record {
-      image = c.in-Ok.both.0;
-      recorded = c.in-Ok.both.1;
-      loaded = c.in-Ok.ensures.loads;
-      called = c.in-Ok.ensures.calls;
-      counted = counted;
-      counts = omega (arith, more);
-      replays = c.replay_trunk.ensures.replayed counted (omega (arith, more));
-    })
+    let all = c.replay_trunk.ensures.replayed counted (omega (arith, more)) in
+    record {
+      replays = inr (record {
+        image = c.in-Ok.both.0;
+        recorded = c.in-Ok.both.1;
+        loaded = c.in-Ok.ensures.loads;
+        called = c.in-Ok.ensures.calls;
+        counted = counted;
+        counts = omega (arith, more);
+        replays = all.replays;
+      });
+      differs = all.differs;
+    }
 
 pub returns-clause-calls : goal.returns-clause-calls
 returns-clause-calls g c = front_all _ _ (replaying (replay_shown c.args.replay.now)) c.in-Ok.ensures.calls
@@ -23,7 +27,7 @@ pub returns-clause-faults : goal.returns-clause-faults
 returns-clause-faults g c =
     let more = c.replay_trunk.ensures.counted_more in
     record {
-      file_fault = λ is. absurd (no_file_fault (c.replay_trunk.ensures.replayed (c.replay_trunk.new.steps - c.args.steps.now) (omega (arith, more))) is);
+      file_fault = λ is. absurd (no_file_fault (c.replay_trunk.ensures.replayed (c.replay_trunk.new.steps - c.args.steps.now) (omega (arith, more))).replays is);
       read_fault = c.replay_trunk.ensures.cause.read_fault;
       write_fault = c.replay_trunk.ensures.cause.write_fault;
     }

@@ -41,4 +41,4 @@ returns-in-Ok-Some-Drill-clause-ends g c =
 
 pub returns-in-Err-clause-ends : Rattle.rx_serve.proofs.run.run_rx.Goals.returns-in-Err-clause-ends
 returns-in-Err-clause-ends g c =
-    memory_ends (command_of (texts_of c.args.words.now)) _ _ c.without_session-in-Err.result (λ none. let same = c.in-Err.ensures.refused none in search (rules, same, c.in-Err.is)) c.without_session-in-Err.ensures.answer c.without_session-in-Err.ensures.nothing
+    memory_ends (command_of (texts_of c.args.words.now)) _ _ c.without_session-in-Err.result (λ none. let same = c.in-Err.ensures.refused none in search (rules, same, c.in-Err.is)) c.without_session-in-Err.ensures.answer c.without_session-in-Err.ensures.nothing c.without_session-in-Err.ensures.differs
