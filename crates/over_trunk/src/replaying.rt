@@ -21,9 +21,10 @@ pub struct Replayed {
     pub difference: Option<Difference>,
 }
 
-/// Replays a record over a source and a sink, and answers how that ended, at Mismatch with what differs. The frames of events are taken from `input`, none before the
-/// run asks for an item, and no byte behind one; each send of the run goes to `output` as a frame. Behind a fault of writing or want of
-/// memory a first part of the frames of the sends so far was written. `alloc` is for the payloads and for the program's memory.
+/// Replays a record over a source and a sink, and answers how that ended, at Mismatch with what differs. The frames of events are taken
+/// from `input`, none before the run asks for an item, and no byte behind one; each send of the run goes to `output` as a frame. Behind a
+/// fault of writing or want of memory a first part of the frames of the sends so far was written. `alloc` is for the payloads and for the
+/// program's memory.
 pub fn replay_trunk<S: Source, K: Sink, L: Ledger>(
     alloc: Global,
     image: &Image,

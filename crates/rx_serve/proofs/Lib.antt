@@ -3,6 +3,7 @@ pub mod AssemblyLemmas
 pub mod SettingsLemmas
 pub mod FewSteps
 pub mod MemoryLemmas
+pub mod ComparingLemmas
 pub mod NamesLemmas
 pub mod NotingLemmas
 pub mod CallingLemmas

@@ -2,7 +2,7 @@
 use Rattle.run_history.specs.declared.answer.Answer.TheVariants as answer
 use Rattle.trunk_text.specs.declared.turning.Ended.TheVariants as ended
 use Rattle.trunk_text.specs.Turns.{Moved}
-use Rattle.rx_serve.proofs.Terms.{List, None, Option, Some, [], arith, inl, refl, rules, subst, sym, ◌++◌, ◌-◌, ◌≡◌, All, framing, Turned, Way, unframing, DrillEnds, CommandValue, asm, convert, diagnose, drill, frame, replay, run, serve, unframe, End, Outside, HasNoSession, Heard, TurnsInput}
+use Rattle.rx_serve.proofs.Terms.{Answer, CallsConvert, HasReplayCause, replayed, List, None, Option, Some, [], arith, inl, refl, rules, subst, sym, ◌++◌, ◌-◌, ◌≡◌, All, framing, Turned, Way, unframing, DrillEnds, CommandValue, asm, convert, diagnose, drill, frame, replay, run, serve, unframe, End, Outside, HasNoSession, Heard, TurnsInput}
 use Rattle.rx_serve.specs.Commands.{Ends}
 
 nothing_moved : (old : Outside) → Moved old.input old.input old.output old.output [] []
@@ -24,8 +24,20 @@ pub memory_ends : (asked : Option CommandValue) (before : Heard) (old : Outside)
 memory_ends None before old end some is nothing none = absurd (some refl)
 memory_ends (Some (run value)) before old end some is nothing none = search (rules, is, nothing)
 memory_ends (Some (asm value)) before old end some is nothing none = search (rules, is, nothing)
-memory_ends (Some (replay value)) before old end some is nothing none = search (rules, is, nothing, none)
-memory_ends (Some (convert value)) before old end some is nothing none = search (rules, is, nothing, none)
+memory_ends (Some (replay value)) before old end some is nothing none = record {
+  replays = inl (record { cause = subst (λ (a : Answer). HasReplayCause old.files value a) (sym is) tt; untouched = refl });
+  differs = none;
+  called = search rules;
+  same_files = refl;
+  nothing = nothing;
+}
+memory_ends (Some (convert value)) before old end some is nothing none = record {
+  converts = inl (record { cause = subst (λ (a : Answer). HasReplayCause old.files (replayed value) a) (sym is) tt; same_files = refl; untouched = refl });
+  differs = none;
+  called = subst (λ (a : Answer). CallsConvert value old.calls old.calls a) (sym is) (search rules);
+  same_output = refl;
+  nothing = nothing;
+}
 memory_ends (Some (serve value)) before old end some is nothing none = search (rules, is, nothing)
 memory_ends (Some (diagnose value)) before old end some is nothing none = search (rules, is, nothing)
 memory_ends (Some (drill value)) before old end some is nothing none = record {

@@ -1,6 +1,9 @@
 use Rattle.rx_serve.proofs.Lemmas.{no_file_fault}
-use Rattle.rx_serve.proofs.Terms.{arith, inr, ℕ, ◌-◌, front_all, replay_shown, replaying}
+use Rattle.rx_serve.proofs.Terms.{arith, inl, inr, refl, ℕ, ◌-◌, front_all, replay_shown, replaying}
 use Rattle.rx_serve.proofs.replaying.replay_file.Goals as goal
+
+pub returns-in-Err-clause-replays : goal.returns-in-Err-clause-replays
+returns-in-Err-clause-replays g c = record { replays = inl (record { cause = c.in-Err.ensures.loads; untouched = refl }); differs = refl }
 
 pub returns-clause-replays : goal.returns-clause-replays
 returns-clause-replays g c =

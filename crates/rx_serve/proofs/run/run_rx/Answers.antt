@@ -1,6 +1,7 @@
 use Rattle.command_line.proofs.Ranges.{session_in_range}
 use Rattle.rx_serve.proofs.Lemmas.{at_once_few, conns_few, port_few}
-use Rattle.rx_serve.proofs.Terms.{Some, rules, ◌≡◌, command_of, diagnose, diagnose_shown, drill, drill_shown, run, run_shown, serve, serve_shown, texts_of}
+use Rattle.rx_serve.proofs.Terms.{Some, refl, rules, ◌≡◌, command_of, convert, convert_shown, diagnose, diagnose_shown, drill, drill_shown, replay, replay_shown, run, run_shown, serve, serve_shown, texts_of}
+use Rattle.rx_serve.proofs.ComparingLemmas.{convert_ends, convert_replays, replay_ends, replay_replays}
 use Rattle.rx_serve.proofs.MemoryLemmas.{memory_ends}
 use Rattle.rx_serve.proofs.NamesLemmas.{names_differ, port_names_differ, diagnose_names_differ, diagnosis_differs}
 
@@ -33,6 +34,28 @@ pub diagnose_program-requires-clause-third : Rattle.rx_serve.proofs.run.run_rx.G
 diagnose_program-requires-clause-third g c =
     let asked : command_of (texts_of c.args.words.now) ≡ Some (diagnose (diagnose_shown c.in-Ok-Some-Diagnose.diagnose)) = search (rules, c.in-Ok-Some-Diagnose.ensures.read) in
     diagnosis_differs (texts_of c.args.words.now) (diagnose_shown c.in-Ok-Some-Diagnose.diagnose) asked
+
+pub returns-in-Ok-Some-Replay-clause-ends : Rattle.rx_serve.proofs.run.run_rx.Goals.returns-in-Ok-Some-Replay-clause-ends
+returns-in-Ok-Some-Replay-clause-ends g c =
+    let asked : command_of (texts_of c.args.words.now) ≡ Some (replay (replay_shown c.in-Ok-Some-Replay.replay)) = search (rules, c.in-Ok-Some-Replay.ensures.read) in
+    rw asked (replay_ends (replay_shown c.in-Ok-Some-Replay.replay) _ _ _ _ c.of_replay-in-Ok-Some-Replay.result c.replay_file-replayed.ensures.replays c.of_replay-in-Ok-Some-Replay.ensures.answer
+    c.of_replay-in-Ok-Some-Replay.ensures.differs c.replay_file-replayed.ensures.calls c.replay_file-replayed.ensures.same c.of_replay-in-Ok-Some-Replay.ensures.nothing)
+
+pub returns-in-Ok-Some-Replay-clause-differs : Rattle.rx_serve.proofs.run.run_rx.Goals.returns-in-Ok-Some-Replay-clause-differs
+returns-in-Ok-Some-Replay-clause-differs g c =
+    let asked : command_of (texts_of c.args.words.now) ≡ Some (replay (replay_shown c.in-Ok-Some-Replay.replay)) = search (rules, c.in-Ok-Some-Replay.ensures.read) in
+    λ other. absurd (other (replay_replays _ (replay_shown c.in-Ok-Some-Replay.replay) asked))
+
+pub returns-in-Ok-Some-Convert-clause-ends : Rattle.rx_serve.proofs.run.run_rx.Goals.returns-in-Ok-Some-Convert-clause-ends
+returns-in-Ok-Some-Convert-clause-ends g c =
+    let asked : command_of (texts_of c.args.words.now) ≡ Some (convert (convert_shown c.in-Ok-Some-Convert.convert)) = search (rules, c.in-Ok-Some-Convert.ensures.read) in
+    rw asked (convert_ends (convert_shown c.in-Ok-Some-Convert.convert) _ _ _ _ c.of_replay-in-Ok-Some-Convert.result (c.convert_file-replayed.ensures.converts _) c.of_replay-in-Ok-Some-Convert.ensures.answer
+    c.of_replay-in-Ok-Some-Convert.ensures.differs c.convert_file-replayed.ensures.calls refl c.of_replay-in-Ok-Some-Convert.ensures.nothing)
+
+pub returns-in-Ok-Some-Convert-clause-differs : Rattle.rx_serve.proofs.run.run_rx.Goals.returns-in-Ok-Some-Convert-clause-differs
+returns-in-Ok-Some-Convert-clause-differs g c =
+    let asked : command_of (texts_of c.args.words.now) ≡ Some (convert (convert_shown c.in-Ok-Some-Convert.convert)) = search (rules, c.in-Ok-Some-Convert.ensures.read) in
+    λ other. absurd (other (convert_replays _ (convert_shown c.in-Ok-Some-Convert.convert) asked))
 
 pub returns-in-Ok-Some-Drill-clause-ends : Rattle.rx_serve.proofs.run.run_rx.Goals.returns-in-Ok-Some-Drill-clause-ends
 returns-in-Ok-Some-Drill-clause-ends g c =
