@@ -2,7 +2,7 @@
 use Rattle.schedule_file.specs.declared.recorded.Line.{Line}
 use Rattle.replay.specs.Giving as giving
 use Rattle.run_history.specs.declared.answer.Answer.TheVariants as answer
-use Rattle.over_trunk.proofs.Terms.{All, List, None, Option, Some, [], ap, arith, inr, length, map, refl, subst, sym, ℕ, ◌++◌, ◌∙◌, ◌∷◌, ◌≡◌, All-head, All-tail, Err, IsErrOf, Ok, Result, Rose, Stream, Entry, pieces_in, Choice, Image, Answer, Recorded, Difference, VERSION, choice_line, choice_lines, end_line, head_line, line_of, lines_text, IsAnswer, IsAskOf, AreOfLines, HasAsk, IsOfLine, ConvertsToItself, ComparesTrunk, ReplaysTrunk, TakesReplay, ComparesConverted, Concludes, ConvertsTrunk, converted}
+use Rattle.over_trunk.proofs.Terms.{All, List, None, Option, Some, [], ap, arith, inr, length, map, refl, subst, sym, ℕ, ◌++◌, ◌∙◌, ◌∷◌, ◌≡◌, All-head, All-tail, Err, IsErrOf, Ok, Result, Rose, Stream, Entry, pieces_in, Choice, Image, Answer, Recorded, VERSION, choice_line, choice_lines, end_line, head_line, line_of, lines_text, IsAnswer, IsAskOf, Difference, AreOfLines, HasAsk, IsOfLine, ConvertsToItself, ComparesTrunk, ReplaysTrunk, TakesReplay, ComparesConverted, Concludes, converted}
 
 -- what was taken is less to say where memory ran out
 takes_memory : (source later : Option Stream) (entries : List Entry) → TakesReplay source later entries answer.Memory

@@ -133,9 +133,7 @@ pub fills : (image : Image) (recording : Recorded) (old new : Intake) (out later
     → (has : HasReplayedBy image recording (shown old out handed counts) (shown new later handed_later counts_later) (WritesFront out.told later.told) end before after)
     → TellsDifference recording has.replayed.entries has.replayed.replay end found → choices ≡ has.replayed.replay.choices → after ≡ before + counted
     → (is : ComparesTrunk image recording old.told new.told out.told later.told end found counted) × (choices ≡ is.replays.replay.choices)
-unfolding replays
-
-unfolding compares
+unfolding replays compares
 fills image recording old new out later handed handed_later counts counts_later end found choices before after counted is_fresh none nothing takes gives few short start taken_on given_on leaves has differs all count = (
   compares image recording old new out later handed handed_later counts counts_later end found before after counted is_fresh none nothing takes gives few short start taken_on given_on leaves has differs count,
   all,

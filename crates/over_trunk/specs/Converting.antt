@@ -1,7 +1,7 @@
 -- What a conversion over a source leaves: what a replay does that gives nothing, and the text of its run.
 use Rattle.std.specs.Prelude.{◌≡◌, ◌≤◌, ℕ, List, Option, None, Result, Ok, Err, IsErrOf}
 use Rattle.run_history.specs.declared.answer.Answer.TheVariants as answer
-use Rattle.over_trunk.specs.Terms.{Rose, Stream, Choice, Image, Answer, Recorded, Difference, HasDifference, record_of, text_of}
+use Rattle.over_trunk.specs.Terms.{Rose, Stream, Choice, Image, Answer, Recorded, record_of, text_of, Difference, HasDifference}
 use Rattle.over_trunk.specs.Replaying.{ReplaysTrunk}
 
 -- the text in version 2 of a record whose run used these answers of the allocator
