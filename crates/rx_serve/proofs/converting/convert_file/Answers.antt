@@ -42,7 +42,7 @@ returns-in-Ok-text-clause-converts g c =
             leaves_text (convert_shown c.args.convert.now)
             (outside (g.F.Files.told c.args.files.now) (g.F.Files.calls c.args.files.now) (g.S.Source.told c.args.input.now) output c.args.steps.now)
             (outside (g.F.Files.told c.write_file.new.files) (g.F.Files.calls c.write_file.new.files) (g.S.Source.told c.convert_trunk-converted.new.input) output c.convert_trunk-converted.new.steps) c.write_file.result
-            c.in-Ok.ensures.same c.as_slice.ensures c.write_file.ensures.writes;
+            c.in-Ok.ensures.same (rw c.in-Ok-text.is at c.as_slice.ensures) c.write_file.ensures.writes;
       });
       differs = all.differs;
     }
@@ -60,8 +60,8 @@ returns-in-Ok-text-clause-faults g c = λ output. record {
 
 -- ---- it has none
 
-pub returns-in-Err-text-clause-converts : goal.returns-in-Err-text-clause-converts
-returns-in-Err-text-clause-converts g c =
+pub returns-clause-converts : goal.returns-clause-converts
+returns-clause-converts g c =
     let more = c.convert_trunk-converted.ensures.counted_more in
     let counted : ℕ = c.convert_trunk-converted.new.steps - c.args.steps.now in
     let all : ComparesConverted c.in-Ok.both.0 c.in-Ok.both.1 (g.S.Source.told c.args.input.now) (g.S.Source.told c.convert_trunk-converted.new.input) (Err c.in-Err-text.answer) c.convert_trunk-converted.result.difference counted =
@@ -81,15 +81,15 @@ returns-in-Err-text-clause-converts g c =
       differs = all.differs;
     }
 
-pub returns-in-Err-text-clause-calls : goal.returns-in-Err-text-clause-calls
-returns-in-Err-text-clause-calls g c =
+pub returns-clause-calls : goal.returns-clause-calls
+returns-clause-calls g c =
     let more = c.convert_trunk-converted.ensures.counted_more in
     let converts = subst (λ (r : Result (List ℕ) Answer). ConvertsTrunk c.in-Ok.both.0 c.in-Ok.both.1 (g.S.Source.told c.args.input.now) (g.S.Source.told c.convert_trunk-converted.new.input) r (c.convert_trunk-converted.new.steps - c.args.steps.now)) c.in-Err-text.is
     (c.convert_trunk-converted.ensures.converted (c.convert_trunk-converted.new.steps - c.args.steps.now) (omega (arith, more))).converts in
     convert_broken (convert_shown c.args.convert.now) _ _ c.in-Err-text.answer (as_replay _ _ _ _ _ c.in-Err-text.answer converts).0 c.in-Ok.ensures.calls
 
-pub returns-in-Err-text-clause-faults : goal.returns-in-Err-text-clause-faults
-returns-in-Err-text-clause-faults g c =
+pub returns-clause-faults : goal.returns-clause-faults
+returns-clause-faults g c =
     let more = c.convert_trunk-converted.ensures.counted_more in
     let converts = subst (λ (r : Result (List ℕ) Answer). ConvertsTrunk c.in-Ok.both.0 c.in-Ok.both.1 (g.S.Source.told c.args.input.now) (g.S.Source.told c.convert_trunk-converted.new.input) r (c.convert_trunk-converted.new.steps - c.args.steps.now)) c.in-Err-text.is
     (c.convert_trunk-converted.ensures.converted (c.convert_trunk-converted.new.steps - c.args.steps.now) (omega (arith, more))).converts in
