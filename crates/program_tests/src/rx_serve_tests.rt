@@ -285,15 +285,15 @@ fn a_record_is_replayed_as_its_row_says(rt: HostRuntime) -> Result<(), Fail> {
         rt.alloc(),
         r#"
         overflow
-        words=replay p r; in=0100000000 0200002800 78*39 0a; before=rx record 1 window 4 frame line/m 00012100 -/m 00012310 -/end 303 2/; end=Finished 0 0 [] 0 0; out=0200002800 78*39 0a; left=
-        words=replay p r; in=0100000000 0200002800 78*39 0a; before=rx record 1 window 4 frame line/m 00012100 -/m 00012100 -/end 303 2/; end=Mismatch { step: 30 } 3 0 [] 0 0; out=; left=
+        words=replay p r; in=0100000000 0200002800 78*39 0a; before=rx record 1 window 4 frame line/m 00012100 -/m 00012310 -/end 303 2/; end=Finished 0 0 [] 0 0; differs=None; out=0200002800 78*39 0a; left=
+        words=replay p r; in=0100000000 0200002800 78*39 0a; before=rx record 1 window 4 frame line/m 00012100 -/m 00012100 -/end 303 2/; end=Mismatch { step: 30 } 3 0 [] 0 0; differs=Some(Unusable { number: 1, asked: Malloc { size: 16 }, at: 73984, zeroed: false }); out=; left=
         words=replay p r; in=0100000000 0200002800 78*39 0a; before=rx record 1 window 4 frame line/m 0001210A -/m 00012310 -/end 303 2/; end=RecordRefused { line: 2 } 3 0 [] 0 0; out=; left=0100000000 0200002800 78*39 0a
         # The same in version 2; with another size in the first line or in the second one; with a calloc there; and with a line of version 1. The first
         # call of malloc comes behind 26 instructions.
         words=replay p r; in=0100000000 0200002800 78*39 0a; before=rx record 2 window 4 frame line/m 00012100 - 00000010/m 00012310 - 00000010/end 303 2/; end=Finished 0 0 [] 0 0; out=0200002800 78*39 0a; left=
-        words=replay p r; in=0100000000 0200002800 78*39 0a; before=rx record 2 window 4 frame line/m 00012100 - 0000000f/m 00012310 - 00000010/end 303 2/; end=Mismatch { step: 26 } 3 0 [] 0 0; out=; left=
+        words=replay p r; in=0100000000 0200002800 78*39 0a; before=rx record 2 window 4 frame line/m 00012100 - 0000000f/m 00012310 - 00000010/end 303 2/; end=Mismatch { step: 26 } 3 0 [] 0 0; differs=Some(OtherAsk { number: 0, asked: Malloc { size: 16 }, told: Malloc { size: 15 } }); out=; left=
         words=replay p r; in=0100000000 0200002800 78*39 0a; before=rx record 2 window 4 frame line/m 00012100 - 00000010/m 00012310 - 00000011/end 303 2/; end=Mismatch { step: 30 } 3 0 [] 0 0; out=; left=
-        words=replay p r; in=0100000000 0200002800 78*39 0a; before=rx record 2 window 4 frame line/m 00012100 - 00000010/c 00012310 z 00000001 00000010/end 303 2/; end=Mismatch { step: 30 } 3 0 [] 0 0; out=; left=
+        words=replay p r; in=0100000000 0200002800 78*39 0a; before=rx record 2 window 4 frame line/m 00012100 - 00000010/c 00012310 z 00000001 00000010/end 303 2/; end=Mismatch { step: 30 } 3 0 [] 0 0; differs=Some(OtherAsk { number: 1, asked: Malloc { size: 16 }, told: Calloc { count: 1, size: 16 } }); out=; left=
         words=replay p r; in=0100000000 0200002800 78*39 0a; before=rx record 2 window 4 frame line/m 00012100 - 00000010/m 00012310 -/end 303 2/; end=RecordRefused { line: 3 } 3 0 [] 0 0; out=; left=0100000000 0200002800 78*39 0a
 
         echo
@@ -301,8 +301,8 @@ fn a_record_is_replayed_as_its_row_says(rt: HostRuntime) -> Result<(), Fail> {
         # would have to take a third item; and one with an item less.
         words=replay p r; in=0100000000 0200000300 68690a; before=rx record 1 window 4 frame line/end 34 2/; end=Finished 0 0 [] 0 0; out=0200000300 68690a; left=
         words=replay p r; in=0100000000 0200000300 68690a 0200000300 68690a; before=rx record 1 window 4 frame line/end 28 2/; end=Finished 0 0 [] 0 0; out=0200000300 68690a; left=0200000300 68690a
-        words=replay p r; in=0100000000 0200000300 68690a; before=rx record 1 window 4 frame line/end 35 3/; end=Mismatch { step: 34 } 3 0 [] 0 0; out=0200000300 68690a; left=
-        words=replay p r; in=0100000000 0200000300 68690a; before=rx record 1 window 4 frame line/end 34 1/; end=Mismatch { step: 34 } 3 0 [] 0 0; out=0200000300 68690a; left=
+        words=replay p r; in=0100000000 0200000300 68690a; before=rx record 1 window 4 frame line/end 35 3/; end=Mismatch { step: 34 } 3 0 [] 0 0; differs=Some(InputEnded); out=0200000300 68690a; left=
+        words=replay p r; in=0100000000 0200000300 68690a; before=rx record 1 window 4 frame line/end 34 1/; end=Mismatch { step: 34 } 3 0 [] 0 0; differs=Some(ItemsApart { taken: 2, told: 1 }); out=0200000300 68690a; left=
         # The source fails at its second call, the sink, which takes three bytes a call, at its second, and the files as the record is loaded.
         words=replay p r; in=0100000000 0200000300 68690a; before=rx record 1 window 4 frame line/end 34 2/; source=2; end=ReadFault 7 0 [] 0 0; out=; left=0200000300 68690a
         words=replay p r; in=0100000000 0200000300 68690a; before=rx record 1 window 4 frame line/end 34 2/; sink=2; gives=3; end=WriteFault 8 0 [] 0 0; out=020000; left=
@@ -339,7 +339,7 @@ fn a_record_is_converted_as_its_row_says(rt: HostRuntime) -> Result<(), Fail> {
         overflow
         words=convert p r o; in=0100000000 0200002800 78*39 0a; before=rx record 1 window 4 frame line/m 00012100 -/m 00012310 -/end 303 2/; end=Finished 0 0 [] 0 0; out=; left=; o=rx record 2 window 4 frame line/m 00012100 - 00000010/m 00012310 - 00000010/end 303 2/
         words=convert p r o; in=0100000000 0200002800 78*39 0a; before=rx record 2 window 4 frame line/m 00012100 - 00000010/m 00012310 - 00000010/end 303 2/; end=Finished 0 0 [] 0 0; out=; left=; o=rx record 2 window 4 frame line/m 00012100 - 00000010/m 00012310 - 00000010/end 303 2/
-        words=convert p r o; in=0100000000 0200002800 78*39 0a; before=rx record 1 window 4 frame line/m 00012100 -/m 00012100 -/end 303 2/; end=Mismatch { step: 30 } 3 0 [] 0 0; out=; left=; o=none
+        words=convert p r o; in=0100000000 0200002800 78*39 0a; before=rx record 1 window 4 frame line/m 00012100 -/m 00012100 -/end 303 2/; end=Mismatch { step: 30 } 3 0 [] 0 0; differs=Some(Unusable { number: 1, asked: Malloc { size: 16 }, at: 73984, zeroed: false }); out=; left=; o=none
         words=convert p r o; in=0100000000 0200002800 78*39 0a; before=rx record 1 window 4 frame line/m 00012100 -/m 00012310 - 00000010/end 303 2/; end=RecordRefused { line: 3 } 3 0 [] 0 0; out=; left=0100000000 0200002800 78*39 0a; o=none
 
         echo

@@ -79,12 +79,14 @@ fn expect_crowd(alloc: Global, row: &str, calls: &[CrowdEntry]) -> Result<(), Fa
     expect_text(alloc, row, "given", given.as_str())
 }
 
-// Compares an answer and its counts with a row.
+// Compares an answer, its counts and what differs with a row.
 pub(crate) fn expect_end(alloc: Global, row: &str, end: &End) -> Result<(), Fail> {
     let text = shown(alloc, end)?;
     expect_text(alloc, row, "end", text.as_str())?;
     let answer = format!(in alloc; "{:?}", end.answer)?;
-    expect_text(alloc, row, "answer", answer.as_str())
+    expect_text(alloc, row, "answer", answer.as_str())?;
+    let differs = format!(in alloc; "{:?}", end.difference)?;
+    expect_text(alloc, row, "differs", differs.as_str())
 }
 
 // Compares what a command was run over with a row.

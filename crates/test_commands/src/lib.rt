@@ -17,12 +17,12 @@
 //! the crowd answer one after another: `client`, or a connection's number. `each`, a first and a last number: the row is played for each from the one to the
 //! other, which stands in it for `@`.
 //!
-//! What is expected, where it stands: `end`, the answer, the status, how many choices are recorded, those behind them, the instructions and the items taken,
-//! or `answer` alone; `out`, all that stands in the sink, or `wrote`, of which a byte stands there for each call on it before the one that fails; `left`,
-//! what the source gives in one call more; `record` and `report`, the texts of `r` and `t`, `none` where they aren't there; `written`, the bytes of `o`, and
-//! `o`, its text; `calls`, those on the listener, each behind a blank; `replies`, what each client was given, a `|` behind each. `crowd`, the calls on the
-//! crowd: a wait for any or for an open one, with what was ready, and at the others their connection; `given`, what each of its connections was given, a `|`
-//! behind each.
+//! What is expected, where it stands: `end`, the answer, the status, how many choices are recorded, those behind them, the instructions and the items
+//! taken, or `answer` alone; `differs`, what differs from a record; `out`, all that stands in the sink, or `wrote`, of which a byte stands there for each
+//! call on it before the one that fails; `left`, what the source gives in one call more; `record` and `report`, the texts of `r` and `t`, `none` where
+//! they aren't there; `written`, the bytes of `o`, and `o`, its text; `calls`, those on the listener, each behind a blank; `replies`, what each client was
+//! given, a `|` behind each. `crowd`, the calls on the crowd: a wait for any or for an open one, with what was ready, and at the others their connection;
+//! `given`, what each of its connections was given, a `|` behind each.
 #![tactic(auto)]
 
 mod cells;

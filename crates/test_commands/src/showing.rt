@@ -4,7 +4,7 @@ use rx_io::ListenEntry;
 use rx_serve::End;
 use std::alloc::{AllocError, Global};
 
-/// All fields of an end.
+/// All fields of an end but what differs.
 pub fn shown(alloc: Global, end: &End) -> Result<String, AllocError> {
     format!(in alloc;
         "{:?} {} {} {:?} {} {}",
