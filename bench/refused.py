@@ -54,8 +54,9 @@ CALLS = {"Malloc": MALLOC, "Calloc": CALLOC, "Realloc": REALLOC}
 # also the frames of its events, and what is passed to each connection.
 Row = collections.namedtuple("Row", "name words files stream output wrote end events passed")
 
-# How a command ended: its output, the line of its end, the answers behind those of the record, what was given to each client, and its files.
-Told = collections.namedtuple("Told", "output end tail given files")
+# How a command ended: its output, the line of its end, what it told to differ from a record, the answers behind those of the record, what was given to
+# each client, and its files.
+Told = collections.namedtuple("Told", "output end differs tail given files")
 
 
 # ---- rows
@@ -183,8 +184,9 @@ class Program:
         end, *lines = lines.decode().splitlines() or [""]
         if not found or ", status %d, " % status not in end:
             raise AssertionError("it ended with status %d, %r" % (status, said))
+        differs = [line for line in lines if line.startswith("differs ")]
         tail = [choice_of(line) for line in lines if line.startswith("tail ")]
-        return Told(output, end, tail, given_in(lines), left), int(said)
+        return Told(output, end, differs, tail, given_in(lines), left), int(said)
 
 
 # ---- what is wrong of a run
@@ -226,9 +228,9 @@ class Replays:
 
 
 def check_whole(row, told):
-    """That a command ended as its row says."""
-    if told.end != row.end:
-        raise AssertionError("it ended with %s, not with %s" % (told.end, row.end))
+    """That a command ended as its row says. In no row a replay isn't the recorded run."""
+    if told.end != row.end or told.differs:
+        raise AssertionError("it ended with %s, %s, not with %s" % (told.end, told.differs, row.end))
     if told.output != row.output or told.files != row.wrote or told.tail:
         raise AssertionError("it wrote %r, %r, %r" % (told.output, told.files, told.tail))
     if told.given and told.given != row.passed:
@@ -236,7 +238,9 @@ def check_whole(row, told):
 
 
 def check_broken_off(row, told, replays):
-    """That a command that answered Memory left what it may."""
+    """That a command that answered Memory left what it may. Nothing differs there."""
+    if told.differs:
+        raise AssertionError("it told %s" % told.differs)
     if not row.output.startswith(told.output) or not told.files.keys() <= row.wrote.keys() or not are_beginnings(told.files, row.wrote):
         raise AssertionError("it wrote %r, %r, which isn't a beginning of what its row writes" % (told.output, told.files))
     if row.events is None:

@@ -57,6 +57,9 @@ fn tell_end(rt: &HostRuntime, end: &End) {
         "end {:?}, status {}, recorded {}, steps {}, taken {}",
         end.answer, end.status, end.recorded, end.steps, end.taken
     );
+    if let Some(difference) = end.difference {
+        let _ = println!(rt; "differs {difference:?}");
+    }
     for choice in end.tail.as_slice() {
         let _ = println!(rt; "tail {choice:?}");
     }
