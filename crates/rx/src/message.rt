@@ -1,7 +1,7 @@
 // What the sentences of several commands share: what was wrong, where, and what would be right.
 use elf_image::{ElfRefusal, RefusedField};
 use msg_frame::MAX_MESSAGE;
-use run_history::Answer;
+use run_history::{Answer, Cause};
 use rx_serve::{MAX_EVENTS, MAX_ITEMS};
 use std::fmt;
 
@@ -60,6 +60,22 @@ fn hint(offset: u64) -> &'static str {
         return ". Standard input has to be frames: docs/USING.md says how they are written";
     }
     ""
+}
+
+/// Why a program failed.
+pub fn write_cause<W: fmt::Write>(f: &mut fmt::Formatter<W>, cause: Cause) -> fmt::Result {
+    match cause {
+        Cause::BadAccess => write!(f, "it touched memory that it may not touch so"),
+        Cause::BadJump => write!(f, "it jumped to an address that is no multiple of 4"),
+        Cause::BadInstruction => write!(f, "it came to a word that is no instruction"),
+        Cause::AssertFailed(code) => write!(f, "its assertion {code} failed"),
+        Cause::Hang => write!(f, "it took no item for too many instructions"),
+        Cause::BadFree => write!(
+            f,
+            "it freed what wasn't its own, or had realloc put another block in its place"
+        ),
+        Cause::BadCall => write!(f, "it made a call with a number in a7 that isn't 1 to 8"),
+    }
 }
 
 /// What ended a session or a replay from without.

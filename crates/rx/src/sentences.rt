@@ -6,7 +6,7 @@ ghost use Rattle.command_line.specs.Ranges.{AreInRange, HasRanges};
 
 use crate::blame::{Blame, find_blame};
 use crate::differing::write_difference;
-use crate::message::{write_outside, write_refused};
+use crate::message::{write_cause, write_outside, write_refused};
 use crate::outputs::Objection;
 use crate::readings::tell_readings;
 use crate::text_sentences::{tell_drill, tell_frame, tell_unframe};
@@ -124,19 +124,11 @@ impl RunMessage<'_> {
     fn cause<W: fmt::Write>(&self, f: &mut fmt::Formatter<W>, cause: Cause) -> fmt::Result {
         let budget = self.budget;
         match cause {
-            Cause::BadAccess => write!(f, "it touched memory that it may not touch so"),
-            Cause::BadJump => write!(f, "it jumped to an address that is no multiple of 4"),
-            Cause::BadInstruction => write!(f, "it came to a word that is no instruction"),
-            Cause::AssertFailed(code) => write!(f, "its assertion {code} failed"),
             Cause::Hang => write!(
                 f,
                 "{budget} instructions came since the last item or the start, which is the limit that --budget sets"
             ),
-            Cause::BadFree => write!(
-                f,
-                "it freed what wasn't its own, or had realloc put another block in its place"
-            ),
-            Cause::BadCall => write!(f, "it made a call with a number in a7 that isn't 1 to 8"),
+            _ => write_cause(f, cause),
         }
     }
 
