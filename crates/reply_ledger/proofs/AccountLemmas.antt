@@ -6,7 +6,7 @@ use Rattle.std.specs.Option.{IfSome}
 use Rattle.std.proofs.lemmas.Map.Steps.{set_value_same}
 use Rattle.std.proofs.lemmas.Map.Views.{All-values_from_lookup}
 use Rattle.std.proofs.lemmas.List.Sums.{list_all-from_AllPass}
-use Rattle.reply_ledger.proofs.Terms.{Bool, List, None, Option, Some, [], add-one, ap, arith, cond, drop, false, if◌then◌else◌, is_some, length, length-append, refl, subst, suc, sym, take, true, zero, ℕ, ◌++◌, ◌+◌, ◌<◌, ◌∙◌, ◌∷◌, ◌≡◌, and_parts, eq-eqb, eqb-true, true≢false, length-map, map-append, take-append-drop, IsDistinct, IsSome, list_all, keys_of, lookup, nat_eq, set_value, slice_get, unwrap_or, values_of, ◌==◌, ◌||◌, Kept, account_at, no_account, restarted, is_known}
+use Rattle.reply_ledger.proofs.Terms.{Bool, List, None, Option, Some, [], add-one, ap, arith, cond, drop, false, if◌then◌else◌, is_some, length, length-append, refl, subst, suc, sym, take, true, zero, ℕ, ◌++◌, ◌+◌, ◌<◌, ◌∙◌, ◌∷◌, ◌≡◌, and_parts, eq-eqb, eqb-true, true≢false, length-map, map-append, take-append-drop, IsDistinct, list_all, keys_of, lookup, nat_eq, set_value, slice_get, unwrap_or, values_of, ◌==◌, ◌||◌, Kept, account_at, no_account, restarted, is_known}
 use Rattle.reply_ledger.proofs.PositionLemmas.{tested}
 
 pub account_at-some : (T : List (ℕ × Kept)) (conn : ℕ) (v : Kept) → Some v ≡ lookup (nat_eq conn) T → account_at T conn ≡ v

@@ -1,5 +1,5 @@
 -- Connections as contracts see them, beside what is kept of them.
-use Rattle.reply_ledger.proofs.Terms.{Bool, List, None, Option, Some, [], ap, arith, cond, drop, false, if◌then◌else◌, is_some, length, map, not, refl, sym, true, ℕ, ◌&&◌, ◌++◌, ◌+◌, ◌∙◌, ◌∷◌, ◌≡◌, and_parts, eq-eqb, eqb-true, true≢false, drop_all, map-append, option_map, option_map_or, IsSome, find, list_any, nat_eq, ◌==◌, ◌||◌, Send, sent_to, Connection, Passed, changed, closed_connection, connection_of, gone_connection, is_open, new_connection, passed_connection, stamped_to, trimmed_connection, trimmed_connections, Kept, is_open_account, new_account, no_account, passed_of, connections_of, earlier_at, is_known, seen}
+use Rattle.reply_ledger.proofs.Terms.{Bool, List, None, Option, Some, [], ap, arith, cond, drop, false, if◌then◌else◌, is_some, length, map, not, refl, sym, true, ℕ, ◌&&◌, ◌++◌, ◌+◌, ◌∙◌, ◌∷◌, ◌≡◌, eq-eqb, eqb-true, true≢false, drop_all, option_map, option_map_or, IsSome, nat_eq, ◌==◌, ◌||◌, Send, sent_to, Connection, Passed, changed, closed_connection, connection_of, is_open, new_connection, passed_connection, stamped_to, trimmed_connection, trimmed_connections, Kept, is_open_account, new_account, no_account, passed_of, connections_of, earlier_at, is_known, seen}
 use Rattle.reply_ledger.proofs.AccountLemmas.{put, put-here}
 
 -- a connection of the ledger is the account of that number
@@ -142,9 +142,6 @@ is_open-marked conn change keeps falls connections q h =
 pub closed-falls : (c : Connection) → (not (closed_connection c).closed && not (closed_connection c).gone) ≡ true → (not c.closed && not c.gone) ≡ true
 closed-falls c h = absurd (true≢false (sym h))
 
-pub gone-falls : (c : Connection) → (not (gone_connection c).closed && not (gone_connection c).gone) ≡ true → (not c.closed && not c.gone) ≡ true
-gone-falls c h = absurd (true≢false (sym (and_parts (not c.closed) false h).1))
-
 -- more was passed to a connection
 pub stamped_to-passed : (conn : ℕ) (more : List Passed) (connections : List Connection) (q : ℕ) → IsSome (connection_of connections conn)
     → stamped_to (changed conn (passed_connection more) connections) q ≡ (if conn == q then stamped_to connections q ++ more else stamped_to connections q)
@@ -244,4 +241,3 @@ is_open-trimmed sends connections q =
     by : (o : Option Connection) → option_map_or (λ (c : Connection). not c.closed && not c.gone) (option_map (trimmed_connection sends) o) false ≡ option_map_or (λ (c : Connection). not c.closed && not c.gone) o false
     by None = refl
     by (Some c) = refl
-

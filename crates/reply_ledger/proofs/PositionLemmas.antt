@@ -42,14 +42,6 @@ pub position-same : {X : Type 0} (p q : X → Bool) (xs : List X) → ((k : ℕ)
 position-same p q [] same = refl
 position-same p q (x ∷ xs) same = (λ i. cond (not (same 0 x (omega arith) i)) (1 + position-same p q xs (λ k d lt. same (suc k) d (omega arith)) i) 0)
 
-pub position-append : {X : Type 0} (p : X → Bool) (xs ys : List X) → position_or_len p xs ≤ position_or_len p (xs ++ ys)
-position-append p [] ys = omega arith
-position-append p (x ∷ xs) ys = by (p x) (position-append p xs ys)
-  where
-    by : (b : Bool) → position_or_len p xs ≤ position_or_len p (xs ++ ys) → cond (not b) (1 + position_or_len p xs) 0 ≤ cond (not b) (1 + position_or_len p (xs ++ ys)) 0
-    by true ih = omega arith
-    by false ih = omega (arith, ih)
-
 pub position-stays : {X : Type 0} (p : X → Bool) (xs ys : List X) → position_or_len p xs < length xs → position_or_len p (xs ++ ys) ≡ position_or_len p xs
 position-stays p [] ys lt = absurd (omega (arith, lt))
 position-stays p (x ∷ xs) ys lt = by (p x) lt (λ k. position-stays p xs ys k)

@@ -1,6 +1,6 @@
 -- Passed bytes beside their stamps, and stamps by runs.
 use Rattle.std.specs.List.Sorted.{IsPartitionedBy}
-use Rattle.reply_ledger.proofs.Terms.{Bool, List, [], ap, append-nil, append_assoc, arith, cond, drop, false, get_or, inl, inr, length, length-append, refl, replicate, subst, suc, sym, take, true, zero, ℕ, ◌++◌, ◌+◌, ◌-◌, ◌<◌, ◌∙◌, ◌∷◌, ◌≡◌, ◌≤◌, length-set, set, drop-append-add, drop-replicate, length-replicate, replicate-append-replicate, take-suc, take-suc-set, le-leb, leb-false, leb-true, lt-leb, true≢false, drop-append-le, drop-drop, drop_all, get_or_default, length-map, length-take-le, map-append, take-append-drop, take_all, All-from_recursion, All-get_or, filter, filter-append, if◌then◌else◌, AllByRecursion, nat_le, Prefix, Run, IsInOrder, Passed, bytes_of, stamped, stamps_of, until, Notes, NotesInLast, RunsRise, passed_of, runs_past, stamps_in}
+use Rattle.reply_ledger.proofs.Terms.{Bool, List, [], ap, append-nil, append_assoc, arith, cond, drop, false, get_or, inl, inr, length, length-append, refl, replicate, subst, suc, sym, take, true, zero, ℕ, ◌++◌, ◌+◌, ◌-◌, ◌<◌, ◌∙◌, ◌∷◌, ◌≡◌, ◌≤◌, length-set, set, drop-append-add, drop-replicate, length-replicate, replicate-append-replicate, take-suc, take-suc-set, le-leb, leb-false, leb-true, lt-leb, true≢false, drop-append-le, drop_all, get_or_default, length-map, length-take-le, map-append, take-append-drop, take_all, All-from_recursion, All-get_or, filter, filter-append, if◌then◌else◌, AllByRecursion, nat_le, Prefix, Run, IsInOrder, Passed, bytes_of, stamped, stamps_of, until, Notes, NotesInLast, RunsRise, passed_of, runs_past, stamps_in}
 
 pub bytes_of-append : (xs ys : List Passed) → bytes_of (xs ++ ys) ≡ bytes_of xs ++ bytes_of ys
 unfolding bytes_of
@@ -134,7 +134,7 @@ stamps_in-push (run ∷ runs) at end stamp h lt =
 -- the last run goes on
 stamps_in-grow : (front : List Run) (last : Run) (at end : ℕ) → RunsRise at (front ++ last ∷ []) → end_at at (front ++ last ∷ []) (length (front ++ last ∷ [])) < end
     → (stamps_in at (front ++ record { end = end; stamp = last.stamp } ∷ []) ≡ stamps_in at (front ++ last ∷ []) ++ replicate (end - end_at at (front ++ last ∷ []) (length (front ++ last ∷ []))) last.stamp)
-        × RunsRise at (front ++ record { end = end; stamp = last.stamp } ∷ [])
+    × RunsRise at (front ++ record { end = end; stamp = last.stamp } ∷ [])
 unfolding RunsRise stamps_in end_at
 stamps_in-grow [] last at end h lt =
     let sum : end - at ≡ (last.end - at) + (end - last.end) = omega (arith, h.0, lt) in (
@@ -205,9 +205,11 @@ stamps_in-past (run ∷ runs) at n h = by (nat_le run.end (at + n)) refl (stamps
         (moved.0 ∙ sym (ap (λ (j : ℕ). drop j (replicate (run.end - at) run.stamp ++ stamps_in run.end runs)) sum ∙ drop-append-add (replicate (run.end - at) run.stamp) (stamps_in run.end runs) (n - (run.end - at))), moved.1)
     by false f ih =
         let gt : at + n < run.end = leb-false run.end (at + n) f in
-        let left : run.end - (at + n) ≡ (run.end - at) - n = omega (arith, gt) in
-        (ap (λ (j : ℕ). replicate j run.stamp ++ stamps_in run.end runs) left ∙ ap (λ (l : List ℕ). l ++ stamps_in run.end runs) (sym (drop-replicate n (run.end - at) run.stamp))
-            ∙ sym (drop-append-le n (replicate (run.end - at) run.stamp) (stamps_in run.end runs) (omega (arith, gt, length-replicate (run.end - at) run.stamp))), (gt, h.1))
+        let left : run.end - (at + n) ≡ (run.end - at) - n = omega (arith, gt) in (
+          ap (λ (j : ℕ). replicate j run.stamp ++ stamps_in run.end runs) left ∙ ap (λ (l : List ℕ). l ++ stamps_in run.end runs) (sym (drop-replicate n (run.end - at) run.stamp))
+              ∙ sym (drop-append-le n (replicate (run.end - at) run.stamp) (stamps_in run.end runs) (omega (arith, gt, length-replicate (run.end - at) run.stamp))),
+          (gt, h.1),
+        )
 
 -- the runs' stamps don't fall, where those of the bytes don't
 AreInOrder : List Run → Type 0
@@ -293,6 +295,7 @@ pub runs_past-none : (at : ℕ) (runs : List Run) → length runs ≡ 0 → runs
 unfolding runs_past
 runs_past-none at [] e = refl
 runs_past-none at (run ∷ runs) e = absurd (omega (arith, e))
+
 -- a write to the last run
 pub NotesInLast-set : (end stamp : ℕ) (runs : List Run) (last : Run) → 0 < length runs → last ≡ get_or runs (length runs - 1) last → last.stamp ≡ stamp
     → NotesInLast end stamp runs (set runs (length runs - 1) (record { end = end; stamp = last.stamp }))

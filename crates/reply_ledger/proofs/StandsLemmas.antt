@@ -3,12 +3,12 @@ use Rattle.std.specs.Prelude.{min}
 use Rattle.std.specs.Cmp.{nat_eq_equiv}
 use Rattle.std.specs.Option.{IfSome}
 use Rattle.std.proofs.lemmas.Map.Views.{All-values_from_lookup}
-use Rattle.reply_ledger.proofs.Terms.{Bool, List, None, Option, Some, [], ap, append-nil, append_assoc, arith, cond, drop, false, get_or, if◌then◌else◌, inl, inr, length, length-append, length-drop, length-take, not, refl, replicate, subst, suc, sym, take, true, zero, ℕ, ◌&&◌, ◌++◌, ◌+◌, ◌-◌, ◌<◌, ◌∙◌, ◌∷◌, ◌≡◌, ◌≤◌, map, and_from, and_left, All, and_parts, and_right, cases_lt, eq-eqb, eqb-true, leb-false, leb-true, le-leb, length-replicate, length-take-le, lt-leb, lt-ltb, ltb-true, true≢false, drop_all, get_or_default, take-append-drop, fails_before_first, AllByRecursion, IsDistinct, keys_of, list_all, lookup, position_or_len, values_of, option_map, IsSome, filter, find, nat_eq, nat_le, nat_lt, unwrap_or, ◌==◌, ◌||◌, ◌⊎◌, Prefix, Send, sent_to, Entry, Connection, IsInOrder, Ledger, NotBefore, Passed, bytes_of, changed, connection_of, is_open, passed_connection, stamped, stamped_to, stamps_of, times_of, parts_behind, waits, agree, until, IsLawful, trimmed_connection, trimmed_connections, HasRoom, Holds, Kept, Laid, Stands, Writes, account_at, connections_of, ending, given_up, is_known, is_open_account, ledger_of, new_account, no_account, passed_end, passed_of, rest_of, seen, send_of, sends_of, start_of, trial_of, waits_in, written}
-use Rattle.reply_ledger.proofs.AccountLemmas.{account_at-some, all_pass, none_kept, pass_all, put, put-here, put-same}
+use Rattle.reply_ledger.proofs.Terms.{Bool, List, None, Option, Some, [], ap, append-nil, append_assoc, arith, cond, drop, false, get_or, if◌then◌else◌, inl, inr, length, length-append, length-drop, not, refl, replicate, subst, suc, sym, take, true, zero, ℕ, ◌&&◌, ◌++◌, ◌+◌, ◌-◌, ◌<◌, ◌∙◌, ◌∷◌, ◌≡◌, ◌≤◌, map, and_from, and_left, All, and_parts, and_right, cases_lt, eq-eqb, eqb-true, leb-false, leb-true, le-leb, length-replicate, lt-leb, lt-ltb, ltb-true, true≢false, drop_all, get_or_default, take-append-drop, fails_before_first, AllByRecursion, IsDistinct, keys_of, list_all, lookup, position_or_len, values_of, option_map, IsSome, find, nat_eq, nat_le, nat_lt, unwrap_or, ◌==◌, ◌||◌, ◌⊎◌, Prefix, Send, sent_to, Entry, IsInOrder, NotBefore, Passed, bytes_of, changed, passed_connection, stamped, stamped_to, stamps_of, times_of, parts_behind, waits, agree, until, IsLawful, trimmed_connections, HasRoom, Holds, Kept, Laid, Stands, Writes, account_at, connections_of, ending, given_up, is_known, is_open_account, ledger_of, new_account, no_account, passed_end, passed_of, rest_of, seen, send_of, sends_of, start_of, trial_of, waits_in, written}
+use Rattle.reply_ledger.proofs.AccountLemmas.{account_at-some, all_pass, pass_all, put, put-same}
 use Rattle.reply_ledger.proofs.ConnectionLemmas.{connections-changed, connections-same, connections-trimmed, is_open-of, stamped_to-of}
 use Rattle.reply_ledger.proofs.PositionLemmas.{tested, not-empty, position-map, position-at, find-none, find-at, find-map, position-le, position-same, position-later, position-push, position-drop}
-use Rattle.reply_ledger.proofs.EntryLemmas.{behind_front, laid-drop, laid-none, laid-push, laid-same, laid-take, later-at, length_one, length_parts, lengths_at, of_parts, parts_at, one_more, order-behind, parts-laid, sends_of-append, sends_of-one, sends_of-take, sent_to-append, writes-push}
-use Rattle.reply_ledger.proofs.RunLemmas.{bytes_of-passed_of, length-bytes_of, length-passed_of, passed_of-drop, passed_of-front, passed_of-more, passed_of-same, stamps_of-passed_of, until-passed_of}
+use Rattle.reply_ledger.proofs.EntryLemmas.{behind_front, laid-drop, laid-none, laid-push, laid-same, laid-take, later-at, length_parts, lengths_at, of_parts, parts_at, one_more, order-behind, parts-laid, sends_of-append, sends_of-one, sends_of-take, sent_to-append, writes-push}
+use Rattle.reply_ledger.proofs.RunLemmas.{bytes_of-passed_of, length-bytes_of, length-passed_of, passed_of-drop, passed_of-front, passed_of-more, passed_of-same, stamps_of-passed_of}
 
 -- which sends wait, by readings of their connections
 pub waits-less : (A A' : ℕ → Kept) (e : Entry) → (is_open_account (A' e.conn) ≡ true → is_open_account (A e.conn) ≡ true) → passed_end (A e.conn) ≤ passed_end (A' e.conn) → waits_in A' e ≡ true → waits_in A e ≡ true
@@ -31,6 +31,16 @@ waits-not A e o h = by (length (rest_of (passed_end (A e.conn)) e)) refl
     by : (n : ℕ) → length (rest_of (passed_end (A e.conn)) e) ≡ n → n ≡ 0
     by zero k = refl
     by (suc n) k = absurd (true≢false (sym (and_from (is_open_account (A e.conn)) (nat_lt 0 (length (rest_of (passed_end (A e.conn)) e))) o (lt-ltb 0 _ (omega (arith, k)))) ∙ h))
+
+-- the end of a stream that is being written doesn't matter to the survivor's sends
+stands-ends : (A B : ℕ → Kept) {K : List ℕ} {E : List Entry} {n : ℕ} → ((q : ℕ) → record (B q) { end = 0 } ≡ record (A q) { end = 0 }) → Stands A K E n → Stands B K E n
+stands-ends A B {E = E} same h = record {
+  distinct = h.distinct;
+  laid = laid-same (λ q. ap (λ (k : Kept). k.earlier) (same q)) (λ q x. x) h.laid;
+  fits = λ q. subst (λ (k : Kept). length k.stamps ≤ length (sent_to q (sends_of E))) (sym (same q)) (h.fits q);
+  stamps = λ q. subst (λ (k : Kept). IsInOrder k.stamps) (sym (same q)) (h.stamps q);
+  cursor = h.cursor ∙ (λ i. position_or_len (λ (e : Entry). is_open_account (sym (same e.conn) i) && nat_lt 0 (length (rest_of (passed_end (sym (same e.conn) i)) e))) E);
+}
 
 -- accounts that read alike, beside as much room
 pub holds-same : {A A' : ℕ → Kept} {K K' : List ℕ} {E own : List Entry} {room room' : ℕ} {shared : Option ℕ} {n n' : ℕ}
@@ -121,25 +131,19 @@ pub holds-sent : {A : ℕ → Kept} {K : List ℕ} {E E' own : List Entry} {room
 holds-sent (Some k) e opened none known end some later is items long place h = absurd (let no : ⊥ = cc (none) in no)
 holds-sent {A = A} {K = K} {E = E} {own = own} {room' = room'} {n = n} {n' = n'} {count = count} None e opened none known end some later is items long place h =
     subst (λ (l : List Entry). Holds (put A e.conn (record (A e.conn) { end = e.end })) K l own room' None n') (sym items) (record {
-      stands = record {
+      stands = stands-ends A (put A e.conn (record (A e.conn) { end = e.end })) (put-same (λ (k : Kept). record k { end = 0 }) A e.conn (record (A e.conn) { end = e.end }) refl) (record {
         distinct = h.stands.distinct;
-        laid = laid-same (put-same (λ (k : Kept). k.earlier) A e.conn (record (A e.conn) { end = e.end }) refl) (λ q x. x) (laid-push e h.stands.laid known there later);
-        fits = λ q. omega (arith, h.stands.fits q, ap length (put-same (λ (k : Kept). k.stamps) A e.conn (record (A e.conn) { end = e.end }) refl q), length_parts q E (e ∷ []));
-        stamps = λ q. subst IsInOrder (sym (put-same (λ (k : Kept). k.stamps) A e.conn (record (A e.conn) { end = e.end }) refl q)) (h.stands.stamps q);
-        cursor = place ∙ ap (λ (b : Bool). if b then n else if nat_lt (n + 1) count then n else n + 1) (is ∙ sym (waits-new e h.stands there some)) ∙ sym (position-push (waits_in A) E e n count h.stands.cursor long)
-            ∙ ap (λ (p : Entry → Bool). position_or_len p (E ++ e ∷ [])) waits;
-      };
+        laid = laid-push e h.stands.laid known there later;
+        fits = λ q. omega (arith, h.stands.fits q, length_parts q E (e ∷ []));
+        stamps = h.stands.stamps;
+        cursor = place ∙ ap (λ (b : Bool). if b then n else if nat_lt (n + 1) count then n else n + 1) (is ∙ sym (waits-new e h.stands there some)) ∙ sym (position-push (waits_in A) E e n count h.stands.cursor long);
+      });
       writes = writes-push e h.writes known end later;
       room = tt;
     })
   where
     there : e.end ≡ (A e.conn).earlier + length (sent_to e.conn (sends_of E)) + length e.bytes
     there = omega (arith, end, h.writes.ends e.conn)
-
-    waits : waits_in A ≡ waits_in (put A e.conn (record (A e.conn) { end = e.end }))
-    waits = λ i x.
-        is_open_account (sym (put-same (λ (k : Kept). record k { end = 0 }) A e.conn (record (A e.conn) { end = e.end }) refl x.conn) i)
-        && nat_lt 0 (length (rest_of (passed_end (sym (put-same (λ (k : Kept). record k { end = 0 }) A e.conn (record (A e.conn) { end = e.end }) refl x.conn) i)) x))
 
 -- the connections are seen as before
 pub seen-sent : {A : ℕ → Kept} {K : List ℕ} {E E' : List Entry} {n : ℕ} (conn end : ℕ) (more : List Entry) → E' ≡ E ++ more → Stands A K E n → connections_of (sends_of E') (put A conn (record (A conn) { end = end })) K ≡ connections_of (sends_of E) A K
@@ -152,13 +156,7 @@ seen-sent {A = A} {K = K} {E = E} {E' = E'} conn end more items h = connections-
 pub holds-recounted : {A B : ℕ → Kept} {K K' : List ℕ} {E own own' : List Entry} {room room' : ℕ} {shared shared' : Option ℕ} {n : ℕ} (count : ℕ) → K' ≡ K → ((q : ℕ) → B q ≡ ending A (take count E) q) → written E own' shared' ≡ take count E
     → HasRoom E own' room' shared' → Holds A K E own room shared n → Holds B K' E own' room' shared' n
 holds-recounted {A = A} {B = B} {K = K} {E = E} {own' = own'} {room' = room'} {shared' = shared'} {n = n} count keys at is room h = subst (λ (l : List ℕ). Holds B l E own' room' shared' n) (sym keys) (record {
-  stands = record {
-    distinct = h.stands.distinct;
-    laid = laid-same earlier (λ q x. x) h.stands.laid;
-    fits = λ q. omega (arith, h.stands.fits q, ap (λ (k : Kept). length k.stamps) (at q));
-    stamps = λ q. subst (λ (k : Kept). IsInOrder k.stamps) (sym (at q)) (h.stands.stamps q);
-    cursor = h.stands.cursor ∙ (λ i. position_or_len (λ (e : Entry). is_open_account (sym (at e.conn) i) && nat_lt 0 (length (rest_of (passed_end (sym (at e.conn) i)) e))) E);
-  };
+  stands = stands-ends A B (λ q. ap (λ (k : Kept). record k { end = 0 }) (at q)) h.stands;
   writes = subst (Writes B K) (sym is) (record {
     laid = laid-same earlier (λ q x. x) (laid-take E count h.stands.laid);
     ends = λ q. ap (λ (k : Kept). k.end) (at q) ∙ ap (λ (m : ℕ). m + length (sent_to q (sends_of (take count E)))) (sym (earlier q));
@@ -199,7 +197,6 @@ prefix-agree (x ∷ xs) (y ∷ ys) (f ∷ front) p q =
     let two : front ++ q.0 ≡ ys = (cc (q.1)) in
     and_from (f == x) (agree front xs) (eq-eqb f x heads) (prefix-agree xs ys front (p.0, one) (q.0, two))
 
-
 pub begun-agrees : (A : ℕ → Kept) (K : List ℕ) (E own : List Entry) (k q : ℕ) → own ≡ [] → (is_known K q ≡ false → A q ≡ no_account) → agree (sent_to q (sends_of (take k E ++ own))) (bytes_of (stamped_to (connections_of (sends_of E) A K) q)) ≡ true
 begun-agrees A K E own k q empty none =
     ap (λ (l : List Entry). agree (sent_to q (sends_of l)) (bytes_of (stamped_to (connections_of (sends_of E) A K) q))) (ap (λ (l : List Entry). take k E ++ l) empty ∙ append-nil (take k E))
@@ -237,7 +234,6 @@ agree-prefix (x ∷ xs) (y ∷ ys) h le =
 pub prefix-le : (xs ys : List ℕ) → Prefix xs ys → length xs ≤ length ys
 prefix-le xs ys p = let l = ap length p.1 in omega (arith, l, length-append xs p.0)
 
-
 -- a front of what agrees agrees
 pub agree-front : (xs ys zs : List ℕ) → agree xs (ys ++ zs) ≡ true → agree xs ys ≡ true
 unfolding agree
@@ -259,7 +255,6 @@ until-front item (x ∷ xs) h = tested (nat_le x.stamp item)
     none [] h lt = refl
     none (y ∷ ys) h lt = ap (λ (b : Bool). cond b (y ∷ until item ys) (until item ys)) (lt-leb y.stamp item (omega (arith, h.0, lt))) ∙ none ys h.1 lt
 
-
 -- a trial's sends are those that are written
 pub written-is : (E own : List Entry) (shared : Option ℕ) → IsSome (trial_of E own shared) → sends_of (written E own shared) ≡ unwrap_or (trial_of E own shared) []
 written-is E own None some = absurd (true≢false (sym some))
@@ -271,15 +266,7 @@ holds-tried None e some known end later same items fits h = absurd (true≢false
 holds-tried {A = A} {K = K} {E = E} {own = own} {own' = own'} {room' = room'} {n = n} (Some k) e some known end later same items fits h =
     subst (λ (l : List Entry). Holds (put A e.conn (record (A e.conn) { end = e.end })) K l own' room' (Some k) n) (sym same)
     (subst (λ (l : List Entry). Holds (put A e.conn (record (A e.conn) { end = e.end })) K E l room' (Some k) n) (sym items) (record {
-      stands = record {
-        distinct = h.stands.distinct;
-        laid = laid-same (put-same (λ (x : Kept). x.earlier) A e.conn (record (A e.conn) { end = e.end }) refl) (λ q x. x) h.stands.laid;
-        fits = λ q. omega (arith, h.stands.fits q, ap length (put-same (λ (x : Kept). x.stamps) A e.conn (record (A e.conn) { end = e.end }) refl q));
-        stamps = λ q. subst IsInOrder (sym (put-same (λ (x : Kept). x.stamps) A e.conn (record (A e.conn) { end = e.end }) refl q)) (h.stands.stamps q);
-        cursor = h.stands.cursor ∙ (λ i. position_or_len (λ (x : Entry).
-            is_open_account (sym (put-same (λ (k : Kept). record k { end = 0 }) A e.conn (record (A e.conn) { end = e.end }) refl x.conn) i)
-            && nat_lt 0 (length (rest_of (passed_end (sym (put-same (λ (k : Kept). record k { end = 0 }) A e.conn (record (A e.conn) { end = e.end }) refl x.conn) i)) x))) E);
-      };
+      stands = stands-ends A (put A e.conn (record (A e.conn) { end = e.end })) (put-same (λ (k : Kept). record k { end = 0 }) A e.conn (record (A e.conn) { end = e.end }) refl) h.stands;
       writes = subst (Writes (put A e.conn (record (A e.conn) { end = e.end })) K) (append_assoc (take k E) own (e ∷ [])) (writes-push e h.writes known end later);
       room = (h.room.0, omega (arith, h.room.0, fits, length-append own (e ∷ [])));
     }))
@@ -461,7 +448,6 @@ unfolding bytes_of
 bytes_of-drop zero xs = refl
 bytes_of-drop (suc n) [] = refl
 bytes_of-drop (suc n) (x ∷ xs) = bytes_of-drop n xs
-
 
 order-drop : (n : ℕ) (xs : List ℕ) → IsInOrder xs → IsInOrder (drop n xs)
 order-drop n xs h = order-behind (take n xs) (drop n xs) (subst IsInOrder (sym (take-append-drop n xs)) h)

@@ -133,12 +133,7 @@ pub fn set_end(accounts: &mut Accounts, conn: u16, end: u64)
 }
 
 /// The next so many bytes of a connection's stream were passed at a stamp.
-pub fn pass(
-    accounts: &mut Accounts,
-    conn: u16,
-    count: usize,
-    stamp: u64,
-) -> Result<(), AllocError>
+pub fn pass(accounts: &mut Accounts, conn: u16, count: usize, stamp: u64) -> Result<(), AllocError>
     requires { passed_end (account_at accounts.old.entries conn) + count ≤ (account_at accounts.old.entries conn).end }
     ensures ok { OnOk result (accounts.new.entries ≡ set_value (nat_eq conn) accounts.old.entries (record (account_at accounts.old.entries conn) { stamps = (account_at accounts.old.entries conn).stamps ++ replicate count stamp })) }
     ensures err { OnErr result (accounts.new.entries ≡ accounts.old.entries) }

@@ -1,5 +1,5 @@
 use Rattle.reply_ledger.proofs.Lemmas.{account_at-some, rewritten, unwritten}
-use Rattle.reply_ledger.proofs.Terms.{ap, drop, subst, sym, ◌+◌, ◌≤◌, Kept}
+use Rattle.reply_ledger.proofs.Terms.{ap, drop, subst, ◌+◌, ◌≤◌, Kept}
 use Rattle.reply_ledger.proofs.accounts.give_up.Goals as goal
 
 pub give_up-requires : goal.give_up-requires

@@ -1,5 +1,5 @@
 use Rattle.reply_ledger.proofs.Lemmas.{agree-done, agree-end, agree-other, agree-turn}
-use Rattle.reply_ledger.proofs.Terms.{Bool, List, [], ap, arith, drop, eqb-true, length, sym, ℕ, ◌&&◌, ◌+◌, ◌-◌, ◌<◌, ◌∙◌, ◌≡◌, ◌≤◌, nil_from_length, sent_to, agree, sends_of}
+use Rattle.reply_ledger.proofs.Terms.{Bool, ap, arith, drop, eqb-true, length, sym, ◌&&◌, ◌+◌, ◌-◌, ◌<◌, ◌∙◌, ◌≡◌, ◌≤◌, sent_to, agree, sends_of}
 use Rattle.reply_ledger.proofs.comparing.agree_behind.Goals as goal
 
 pub returns-then-is_empty : goal.returns-then-is_empty

@@ -1,5 +1,5 @@
 use Rattle.reply_ledger.proofs.EntryLemmas.{one_more}
-use Rattle.reply_ledger.proofs.Terms.{List, ap, arith, eq-eqb, if◌then◌else◌, length, subst, suc, sym, take, Bool, ℕ, ◌+◌, ◌-◌, ◌<◌, ◌∙◌, ◌≡◌, ◌==◌, sent_to, Entry, sends_of}
+use Rattle.reply_ledger.proofs.Terms.{ap, arith, eq-eqb, if◌then◌else◌, length, subst, suc, sym, take, Bool, ◌+◌, ◌-◌, ◌<◌, ◌∙◌, ◌≡◌, ◌==◌, sent_to, Entry, sends_of}
 use Rattle.reply_ledger.proofs.comparing.place_before.Goals as goal
 
 pub returns-then-start-at : goal.returns-then-start-at

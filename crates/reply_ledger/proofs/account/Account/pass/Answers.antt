@@ -1,4 +1,4 @@
-use Rattle.reply_ledger.proofs.Lemmas.{length-stamps_in, noted}
+use Rattle.reply_ledger.proofs.Lemmas.{noted}
 use Rattle.reply_ledger.proofs.Terms.{refl}
 use Rattle.reply_ledger.proofs.account.Account.pass.Goals as goal
 

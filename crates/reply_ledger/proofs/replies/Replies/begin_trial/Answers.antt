@@ -1,5 +1,5 @@
 use Rattle.reply_ledger.proofs.Lemmas.{begun-agrees, holds-recounted, length-sends_of, none_kept, seen-recounted, sends_of-take}
-use Rattle.reply_ledger.proofs.Terms.{List, Some, ap, append-nil, arith, length, take, ℕ, ◌++◌, ◌-◌, ◌∙◌, ◌≡◌, ◌≤◌, keys_of, sent_to, Entry, Connection, bytes_of, stamped_to, agree, account_at, connections_of, ledger_of, sends_of}
+use Rattle.reply_ledger.proofs.Terms.{List, Some, ap, append-nil, arith, length, take, ◌++◌, ◌-◌, ◌∙◌, ◌≡◌, ◌≤◌, keys_of, sent_to, Entry, Connection, bytes_of, stamped_to, agree, account_at, sends_of}
 use Rattle.reply_ledger.proofs.replies.Replies.begin_trial.Goals as goal
 
 pub recount-requires-clause-within : goal.recount-requires-clause-within

@@ -1,5 +1,5 @@
 use Rattle.reply_ledger.proofs.Lemmas.{covers-says, length-bytes_of, none_kept, passed-length, written-is}
-use Rattle.reply_ledger.proofs.Terms.{List, [], ap, arith, length, refl, sym, ◌∙◌, ◌≡◌, keys_of, IsSome, unwrap_or, sent_to, Send, bytes_of, stamped_to, Kept, account_at, connections_of, ledger_of, sends_of, trial_of, written}
+use Rattle.reply_ledger.proofs.Terms.{List, [], ap, arith, length, refl, sym, ◌∙◌, keys_of, IsSome, unwrap_or, sent_to, Send, bytes_of, stamped_to, account_at, connections_of, sends_of, trial_of}
 use Rattle.reply_ledger.proofs.replies.Replies.covers.Goals as goal
 
 pub returns : goal.returns

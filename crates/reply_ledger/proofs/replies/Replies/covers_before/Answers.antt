@@ -1,5 +1,5 @@
 use Rattle.reply_ledger.proofs.Lemmas.{agree-front, all-kept, covers-says, length-bytes_of, none_kept, passed-stamps, stamped_to-of, until-front, until-passed_of, written-is}
-use Rattle.reply_ledger.proofs.Terms.{List, [], ap, arith, filter, length, nat_le, refl, subst, sym, true, ℕ, ◌∙◌, ◌≡◌, keys_of, IsSome, unwrap_or, sent_to, IsInOrder, Passed, Send, bytes_of, stamped_to, stamps_of, agree, until, Kept, account_at, connections_of, ledger_of, sends_of, trial_of, written}
+use Rattle.reply_ledger.proofs.Terms.{List, [], ap, arith, filter, length, nat_le, refl, subst, sym, true, ℕ, ◌∙◌, ◌≡◌, keys_of, IsSome, unwrap_or, sent_to, IsInOrder, Passed, Send, bytes_of, stamped_to, agree, until, Kept, account_at, connections_of, sends_of, trial_of}
 use Rattle.reply_ledger.proofs.replies.Replies.covers_before.Goals as goal
 
 pub covers_until-requires : goal.covers_until-requires

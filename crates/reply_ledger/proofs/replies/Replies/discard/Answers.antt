@@ -1,5 +1,5 @@
 use Rattle.reply_ledger.proofs.Lemmas.{holds-recounted, seen-recounted}
-use Rattle.reply_ledger.proofs.Terms.{List, None, Option, ap, arith, length, sym, take, ℕ, ◌≡◌, keys_of, take_all, Send, Connection, account_at, connections_of, ledger_of, sends_of, trial_of}
+use Rattle.reply_ledger.proofs.Terms.{List, None, Option, ap, arith, sym, take, keys_of, take_all, Send, Connection, account_at, connections_of, sends_of, trial_of}
 use Rattle.reply_ledger.proofs.replies.Replies.discard.Goals as goal
 
 pub invariant_of-self : goal.invariant_of-self

@@ -1,5 +1,5 @@
 use Rattle.reply_ledger.proofs.Lemmas.{connections-changed, cursor-marked, holds-marked, known-of, of_written}
-use Rattle.reply_ledger.proofs.Terms.{ap, and_right, false, not, refl, true, ◌∙◌, ◌≡◌, ◌≤◌, keys_of, position_or_len, changed, gone_connection, Holds, account_at, connections_of, is_known, ledger_of, sends_of, waits_in}
+use Rattle.reply_ledger.proofs.Terms.{ap, and_right, false, not, refl, true, ◌≡◌, ◌≤◌, keys_of, position_or_len, changed, gone_connection, Holds, account_at, connections_of, is_known, ledger_of, sends_of, waits_in}
 use Rattle.reply_ledger.proofs.replies.Replies.gone.Goals as goal
 
 pub first_waiting-self-inside-requires : goal.first_waiting-self-inside-requires

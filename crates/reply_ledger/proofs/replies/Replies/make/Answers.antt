@@ -1,5 +1,5 @@
 use Rattle.reply_ledger.proofs.Lemmas.{holds-none}
-use Rattle.reply_ledger.proofs.Terms.{refl, connections_of, account_at, keys_of, sends_of}
+use Rattle.reply_ledger.proofs.Terms.{refl, connections_of, sends_of}
 use Rattle.reply_ledger.proofs.replies.Replies.make.Goals as goal
 
 pub invariant_of-result : goal.invariant_of-result

@@ -1,5 +1,5 @@
 use Rattle.reply_ledger.proofs.Lemmas.{next-found, next-none, none_kept}
-use Rattle.reply_ledger.proofs.Terms.{List, Some, ap, arith, get_or, get_or_default, length, sym, ℕ, ◌<◌, ◌∙◌, ◌≡◌, option_map, keys_of, next_part, shown_part, Entry, account_at, passed_end, rest_of}
+use Rattle.reply_ledger.proofs.Terms.{List, Some, ap, arith, get_or_default, sym, ℕ, ◌∙◌, ◌≡◌, option_map, next_part, shown_part, Entry, account_at, passed_end, rest_of}
 use Rattle.reply_ledger.proofs.replies.Replies.next_piece.Goals as goal
 
 pub returns-then-self-len : goal.returns-then-self-len

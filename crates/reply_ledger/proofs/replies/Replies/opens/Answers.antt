@@ -1,5 +1,5 @@
 use Rattle.reply_ledger.proofs.Lemmas.{connections-push, holds-opened, keys-push, lookup-unknown, none_kept, of_opened, unknown-of}
-use Rattle.reply_ledger.proofs.Terms.{List, None, [], ap, false, subst, ℕ, ◌++◌, ◌∙◌, ◌∷◌, ◌≡◌, IsDistinct, nat_eq, keys_of, Connection, Ledger, connection_of, new_connection, Holds, account_at, connections_of, is_known, ledger_of, new_account, sends_of}
+use Rattle.reply_ledger.proofs.Terms.{[], ap, false, subst, ◌++◌, ◌∙◌, ◌∷◌, ◌≡◌, IsDistinct, nat_eq, keys_of, Ledger, connection_of, new_connection, Holds, account_at, connections_of, is_known, ledger_of, new_account, sends_of}
 use Rattle.reply_ledger.proofs.replies.Replies.opens.Goals as goal
 
 pub open-requires : goal.open-requires

@@ -1,5 +1,5 @@
 use Rattle.reply_ledger.proofs.Lemmas.{cursor-passed, holds-passed, known-of, length-bytes_of, none_kept, of_written, passed-length, passed-stamps, seen-passed, sent-ends, shared-none}
-use Rattle.reply_ledger.proofs.Terms.{List, ap, arith, drop, length, subst, sym, take, true, ℕ, ◌+◌, ◌∙◌, ◌≡◌, ◌≤◌, keys_of, position_or_len, sent_to, Ledger, NotBefore, bytes_of, changed, passed_connection, stamped, stamped_to, stamps_of, Holds, Writes, account_at, connections_of, is_known, ledger_of, passed_end, sends_of, waits_in}
+use Rattle.reply_ledger.proofs.Terms.{ap, arith, drop, length, subst, take, true, ◌+◌, ◌∙◌, ◌≡◌, ◌≤◌, keys_of, position_or_len, sent_to, Ledger, NotBefore, bytes_of, changed, passed_connection, stamped, stamped_to, Holds, Writes, account_at, connections_of, is_known, ledger_of, sends_of, waits_in}
 use Rattle.reply_ledger.proofs.replies.Replies.passed.Goals as goal
 
 pub pass-requires : goal.pass-requires

@@ -1,5 +1,5 @@
 use Rattle.reply_ledger.proofs.Lemmas.{find-at, find-none, none_kept, rest-of, rests, rests-before, rests-bytes, rests-more, rests-part}
-use Rattle.reply_ledger.proofs.Terms.{None, Some, ap, arith, false, get_or, length, not, sym, true, ◌<◌, ◌∙◌, ◌≡◌, option_map, keys_of, Send, rest_part, account_at}
+use Rattle.reply_ledger.proofs.Terms.{None, Some, ap, arith, false, length, not, sym, true, ◌<◌, ◌∙◌, ◌≡◌, option_map, Send, rest_part, account_at}
 use Rattle.reply_ledger.proofs.replies.Replies.rest_of.Goals as goal
 
 pub loop-i-init : goal.loop-i-init

@@ -1,5 +1,5 @@
-use Rattle.reply_ledger.proofs.Lemmas.{holds-room, holds-sent, known-of, none_kept, of_written, position-le, seen-sent, sends_of-append, sends_of-one, shared-none, trial-same}
-use Rattle.reply_ledger.proofs.Terms.{List, [], ap, arith, length, refl, subst, sym, true, ℕ, ◌++◌, ◌+◌, ◌∙◌, ◌∷◌, ◌≡◌, keys_of, nat_eq, set_value, Entry, Ledger, Send, Holds, Kept, account_at, connections_of, is_known, ledger_of, sends_of, waits_in}
+use Rattle.reply_ledger.proofs.Lemmas.{holds-room, holds-sent, known-of, of_written, position-le, seen-sent, sends_of-append, sends_of-one, shared-none, trial-same}
+use Rattle.reply_ledger.proofs.Terms.{List, [], ap, arith, length, sym, true, ℕ, ◌++◌, ◌+◌, ◌∙◌, ◌∷◌, ◌≡◌, keys_of, nat_eq, set_value, Entry, Ledger, Send, Holds, account_at, connections_of, is_known, sends_of, waits_in}
 use Rattle.reply_ledger.proofs.replies.Replies.sent.Goals as goal
 
 pub first_of_more-self-inside-requires : goal.first_of_more-self-inside-requires

@@ -1,5 +1,5 @@
 use Rattle.reply_ledger.proofs.Lemmas.{agrees-sent, compared-with, holds-room, holds-tried, known-of, none_kept, of_written, seen-sent, trial-sent, written-is}
-use Rattle.reply_ledger.proofs.Terms.{List, Some, [], ap, append-nil, arith, drop, length, refl, subst, sym, true, ℕ, ◌++◌, ◌+◌, ◌∙◌, ◌∷◌, ◌≡◌, ◌≤◌, keys_of, IsSome, unwrap_or, sent_to, Entry, bytes_of, stamped_to, agree, Holds, account_at, connections_of, is_known, ledger_of, sends_of, trial_of}
+use Rattle.reply_ledger.proofs.Terms.{[], append-nil, arith, length, sym, true, ◌++◌, ◌+◌, ◌∙◌, ◌∷◌, ◌≡◌, ◌≤◌, keys_of, IsSome, unwrap_or, sent_to, bytes_of, stamped_to, agree, Holds, account_at, connections_of, is_known, sends_of, trial_of}
 use Rattle.reply_ledger.proofs.replies.Replies.trial_sent.Goals as goal
 
 pub compare-same-requires-clause-written : goal.compare-same-requires-clause-written
