@@ -38,8 +38,8 @@ diagnose_program-requires-clause-third g c =
 pub returns-in-Ok-Some-Replay-clause-ends : Rattle.rx_serve.proofs.run.run_rx.Goals.returns-in-Ok-Some-Replay-clause-ends
 returns-in-Ok-Some-Replay-clause-ends g c =
     let asked : command_of (texts_of c.args.words.now) ≡ Some (replay (replay_shown c.in-Ok-Some-Replay.replay)) = search (rules, c.in-Ok-Some-Replay.ensures.read) in
-    rw asked (replay_ends (replay_shown c.in-Ok-Some-Replay.replay) _ _ _ _ c.of_replay-in-Ok-Some-Replay.result c.replay_file-replayed.ensures.replays c.of_replay-in-Ok-Some-Replay.ensures.answer
-    c.of_replay-in-Ok-Some-Replay.ensures.differs c.replay_file-replayed.ensures.calls c.replay_file-replayed.ensures.same c.of_replay-in-Ok-Some-Replay.ensures.nothing)
+    rw asked (replay_ends (replay_shown c.in-Ok-Some-Replay.replay) _ _ _ _ c.of_replay.result c.replay_file-replayed.ensures.replays c.of_replay.ensures.answer
+    c.of_replay.ensures.differs c.replay_file-replayed.ensures.calls c.replay_file-replayed.ensures.same c.of_replay.ensures.nothing)
 
 pub returns-in-Ok-Some-Replay-clause-differs : Rattle.rx_serve.proofs.run.run_rx.Goals.returns-in-Ok-Some-Replay-clause-differs
 returns-in-Ok-Some-Replay-clause-differs g c =
