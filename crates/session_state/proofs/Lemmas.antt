@@ -1,6 +1,6 @@
 -- The lemmas that the proofs of this crate's functions cite.
 pub use Rattle.session_state.proofs.standing.CheckpointLemmas.{in_force_by}
-pub use Rattle.session_state.proofs.standing.HeldLemmas.{handled_by, held_as, held_by, held_more, held_of, note_at_none, requests_saved, rings_kept, unless_gave_up, waits_handled}
+pub use Rattle.session_state.proofs.standing.HeldLemmas.{handled_by, held_as, held_by, held_more, held_of, note_at_none, oldest_then, requests_saved, rings_kept, trimmed_still, unless_gave_up, waits_handled}
 pub use Rattle.session_state.proofs.standing.StoryLemmas.{account_of, owes_nothing, still_takes}
 pub use Rattle.session_state.proofs.guest.GuestLemmas.{answers_as, broken_noting, broken_off, broken_running, broken_with, none_lost, none_noted, notes_unhanded, received_is}
 pub use Rattle.session_state.proofs.guest.NoteLemmas.{notes_end, taken_all}

@@ -1,11 +1,11 @@
 -- What a session leaves: the checkpoints of the run that it answers for, and what a trial from them would need.
-use Rattle.std.specs.Prelude.{◌≡◌, ◌⊎◌, false, [], ℕ, ◌+◌, ◌-◌, ◌<◌, ◌≤◌, List, length, None, Some, IfSome, option_map, slice_get}
+use Rattle.std.specs.Prelude.{◌≡◌, ◌⊎◌, false, [], ℕ, ◌+◌, ◌-◌, ◌<◌, ◌≤◌, List, length, Option, None, Some, IfSome, option_map, slice_get}
 use Rattle.session_history.specs.declared.ends.SessionBreak.TheVariants as session_break
 use Rattle.session_history.specs.declared.ends.SessionEnd.TheVariants as session_end
 use Rattle.session_history.specs.declared.ends.Stop.TheVariants as stop
-use Rattle.session_state.specs.Terms.{Entry, from_newest, Image, AsksFor, Path, standing_of, SessionBreak, SessionEnd, Stop, AtBreak, AtEnd, before_end, items_in, Chapter, Rules, Survivor, AreChained, AreCheckpoints, Recovery, HasHandled, Keeping, Stand, is_far, keeping_by, stands_of}
+use Rattle.session_state.specs.Terms.{Entry, from_newest, Image, AsksFor, Path, standing_of, SessionBreak, SessionEnd, Stop, AtBreak, AtEnd, before_end, items_in, Chapter, Rules, Survivor, Unnoted, AreChained, AreCheckpoints, Recovery, HasHandled, Keeping, Stand, is_far, keeping_by, stands_of}
 use Rattle.session_state.specs.Sessions.{SessionState}
-use Rattle.session_state.specs.Recovered.{Telling}
+use Rattle.session_state.specs.Recovered.{Telling, FailsUpTo}
 
 -- an end but that at which no trial survived
 abbrev pub UnlessGaveUp : SessionEnd → Type 0 → Type 0
@@ -74,6 +74,13 @@ module _ {R : Type 0} where
     pub recorded : IsRecorded session
     pub sends : IfSome (slice_get session.cpu.slots.saved 0) (λ oldest. session.replies.first ≤ oldest.state.sends)
 
+  -- Noting failed before all that was given up and recorded: a call of notes failed that was handed those answers of the allocator that the oldest checkpoint
+  -- had used and that aren't recorded. No item is given up that it hadn't taken, and no send that came later.
+  pub record IsCutShort (before now : Option Unnoted) (session : SessionState R) : Type 0 where
+    pub items : IfSome (slice_get session.cpu.slots.saved 0) (λ oldest. session.log.first ≤ oldest.state.guest.machine.taken)
+    pub recorded : IfSome (slice_get session.cpu.slots.saved 0) (λ oldest. FailsUpTo before now oldest.state.guest.machine.allocations session.recorded session.choices)
+    pub sends : IfSome (slice_get session.cpu.slots.saved 0) (λ oldest. session.replies.first ≤ oldest.state.sends)
+
   -- what is asked for before sends are given up: there is an oldest checkpoint, no trial is under way, and what it had sent was sent
   pub record CanForgetSends (session : SessionState R) : Type 0 where
     pub some : 0 < length session.cpu.slots.saved
@@ -100,3 +107,21 @@ module _ {R : Type 0} where
     pub stands : AtEnd why (λ end. UnlessGaveUp end (session.cpu.slots.live ≡ standing_of telling.account.survivor.now))
     pub recorded : AtBreak why (λ fault. session.recorded ≡ length oldest.choices)
     pub requests : HandledAt why rules image (keeping_of session) telling.account.earlier (before_end telling.account) telling.recoveries telling.account.survivor (stands_of session.cpu.slots.saved)
+
+  -- What a session leaves at a fault of its notes and where memory ran out, by its telling: the checkpoints of the survivor's run, those that its requests left.
+  -- No item is given up that the oldest one hadn't taken, no send that came later, and no more answers of the allocator are recorded than it had used. And the
+  -- items from before it are given up, and all those answers recorded; or a call of its notes failed that was handed just the answers that aren't.
+  pub record HasKept (rules : Rules) (image : Image) (before now : Option Unnoted) (telling : Telling) (session : SessionState R) : Type 0 where
+    pub holds : HoldsCheckpoints rules image telling.account.earlier (before_end telling.account) telling.recoveries telling.account.survivor session
+    pub oldest : Path
+    pub oldest_is : slice_get holds.paths (length holds.paths - 1) ≡ Some oldest
+    pub items : session.log.first ≤ oldest.state.machine.taken
+    pub sends : session.replies.first ≤ length oldest.state.sends
+    pub recorded : session.recorded ≤ length oldest.choices
+    pub up_to : ((session.log.first ≡ oldest.state.machine.taken) × (session.recorded ≡ length oldest.choices)) ⊎ FailsUpTo before now (length oldest.choices) session.recorded session.choices
+
+  -- What a session leaves, by why it stopped. What the first failed call of its notes was handed was the first of these when it began, and is the second now.
+  abbrev pub LeavesBy : Rules → Image → Option Unnoted → Option Unnoted → Telling → SessionState R → Stop → Type 0
+  LeavesBy rules image before now telling session (stop.Breaks session_break.FileFault) = HasKept rules image before now telling session
+  LeavesBy rules image before now telling session (stop.Breaks session_break.Memory) = HasKept rules image before now telling session
+  LeavesBy rules image before now telling session why = HasLeft rules image telling session why

@@ -140,6 +140,12 @@ pub record FailsAtChoices (old new : Option Unnoted) (choices : List Choice) : T
   pub some : 0 < length list
   pub handed : new ≡ failed_with old (SomeChoices list)
 
+-- A call of notes failed that was handed just those of these answers of the allocator that are safe, at least one. Of the run's answers so many are safe,
+-- and so many are recorded, behind which these stand.
+pub record FailsUpTo (old new : Option Unnoted) (safe recorded : ℕ) (choices : List Choice) : Type 0 where
+  pub more : recorded < safe
+  pub handed : new ≡ failed_with old (SomeChoices (take (safe - recorded) choices))
+
 -- a call of notes failed that was handed an episode, the only one that is missing
 pub record FailsAtEpisode (old new : Option Unnoted) (missing : List Episode) : Type 0 where
   pub episode : Episode

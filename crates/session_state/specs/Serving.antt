@@ -10,10 +10,10 @@ use Rattle.guest_cpu.specs.declared.event.Event.TheVariants as step
 pub use Rattle.session_history.specs.Ends.{TakesAtEnd, StaysKnown}
 use Rattle.link_gate.specs.declared.pass_fault.PassFault.TheVariants as fault
 use Rattle.link_gate.specs.declared.heard.HearFault.TheVariants as hear
-use Rattle.session_state.specs.Terms.{AllocError, IoFault, Rose, Send, Entry, Coming, Counts, Grew, Seen, but_given, Heap, IsOpened, Ledger, next_part, Image, Answer, Cause, Event, live_of, with_live, RunsWriting, SessionBreak, SessionEnd, Stop, HasAnswerCause, AtBreak, AtEnd, WasAsked, answer_of, AreGiven, IsClosing, Bounds, items_in, received, KeepsReplies, Rules, AreInOrder, passed_in, HearFault, PassFault, CanGive, Try, Noted, Shown, Recovered, Adopted}
+use Rattle.session_state.specs.Terms.{AllocError, IoFault, Rose, Send, Entry, Coming, Counts, Grew, Seen, but_given, Heap, IsOpened, Ledger, next_part, Image, Answer, Cause, Event, live_of, with_live, RunsWriting, SessionBreak, SessionEnd, Stop, HasAnswerCause, AtBreak, AtEnd, WasAsked, answer_of, AreGiven, IsClosing, Bounds, items_in, received, KeepsReplies, Rules, AreInOrder, passed_in, HearFault, PassFault, CanGive, Try, Noted, Shown, Unnoted, Recovered, Adopted}
 use Rattle.session_state.specs.Sessions.{SessionState, IsBegun}
 use Rattle.session_state.specs.Recovered.{Outcome, IsNoteFault, HasWatched, FailsAtChoices}
-use Rattle.session_state.specs.Leaving.{keeping_of, IsHandled, IsRecorded, IsTrimmed, KeepsOldest, HoldsCheckpoints, HasLeft}
+use Rattle.session_state.specs.Leaving.{keeping_of, IsHandled, IsRecorded, IsTrimmed, IsCutShort, KeepsOldest, HoldsCheckpoints, LeavesBy}
 use Rattle.session_state.specs.Options.{rules_of, keeping_for}
 use Rattle.session_state.specs.Standing.{Since, Story, entries, moment, sends, then_story, IsTold, AnswersFor, HasPassed, HasPassedDue, IsGoing, IsBetween, IsAsking, IsWaitingFor, IsFailing, IsEnding, IsBrokenOff, HasNotedMore, HasMissed}
 
@@ -102,16 +102,6 @@ abbrev pub BreaksNoting : Result (Unit {0}) Stop → Type 0
 BreaksNoting (Ok done) = Unit {0}
 BreaksNoting (Err (stop.Ends end)) = ⊥
 BreaksNoting (Err (stop.Breaks why)) = IsNoteFault why
-
--- what holds unless noting failed
-abbrev pub UnlessNoteFault : Stop → Type 0 → Type 0
-UnlessNoteFault (stop.Breaks session_break.FileFault) P = Unit {0}
-UnlessNoteFault (stop.Breaks session_break.Memory) P = Unit {0}
-UnlessNoteFault why P = P
-
-abbrev pub UnlessNoteStop : Result (Unit {0}) Stop → Type 0 → Type 0
-UnlessNoteStop (Ok done) P = P
-UnlessNoteStop (Err why) P = UnlessNoteFault why P
 
 -- no fault of the notes stopped it
 abbrev pub IsUnnoted : Result (Unit {0}) Stop → Type 0
@@ -210,6 +200,21 @@ module _ {R : Type 0} where
     pub answers : AnswersFor began story session
     pub holds : HoldsCheckpoints rules image story.earlier (entries story) story.recoveries story.survivor session
     pub received_are : logs.received session.log ≡ received rules.bounds (entries story)
+
+  -- All is given up and recorded that no trial needs, whether a session stopped or not; or noting failed before that.
+  abbrev pub TrimsAt : Option Unnoted → Option Unnoted → SessionState R → Stop → Type 0
+  TrimsAt before now session (stop.Breaks session_break.FileFault) = IsTrimmed session ⊎ IsCutShort before now session
+  TrimsAt before now session (stop.Breaks session_break.Memory) = IsTrimmed session ⊎ IsCutShort before now session
+  TrimsAt before now session why = IsTrimmed session
+
+  abbrev pub TrimsBy : Shown → Shown → SessionState R → Result (Unit {0}) Stop → Type 0
+  TrimsBy shown now session (Ok done) = IsTrimmed session
+  TrimsBy shown now session (Err why) = TrimsAt shown.told.unnoted now.told.unnoted session why
+
+  -- answers of the allocator are recorded up to the oldest checkpoint, or noting them failed
+  abbrev pub RecordsBy : Shown → Shown → SessionState R → Result (Unit {0}) Stop → Type 0
+  RecordsBy shown now session (Ok done) = IsRecorded session
+  RecordsBy shown now session (Err why) = IsCutShort shown.told.unnoted now.told.unnoted session
 
   -- the outcome of a session that stopped so
   abbrev pub outcome_of : Stop → SessionState R → Outcome
@@ -408,7 +413,7 @@ module _ {R : Type 0} where
     pub until : new.until ≡ old.until
     pub frame : HasSameFrame old new
     pub keeping : keeping_of new ≡ keeping_of old
-    pub trimmed : UnlessNoteStop result (IsTrimmed new)
+    pub trimmed : TrimsBy shown now new result
     pub marked : IsCounted new
     pub later : IfOk result (λ _. old.cpu.slots.live.steps < new.cpu.slots.live.steps)
 
@@ -427,7 +432,7 @@ module _ {R : Type 0} where
     pub until : new.until ≡ old.until
     pub options : new.options ≡ old.options
     pub cpu : new.cpu ≡ old.cpu
-    pub oldest : UnlessNoteStop result (KeepsOldest old new)
+    pub oldest : KeepsOldest old new
     pub keeping : keeping_of new ≡ keeping_of old
     pub marked : UnlessMemory result (IsCounted new)
     pub low : old.steps ≤ old.cpu.slots.live.steps → new.steps ≤ new.cpu.slots.live.steps
@@ -446,7 +451,7 @@ module _ {R : Type 0} where
   -- what an adoption makes of it, before its episode is noted; or memory ran out
   pub record KeepsAdopting (cause : Cause) (old new : SessionState R) (result : Result Recovered AllocError) : Type 0 where
     pub frame : HasSameFrame old new
-    pub oldest : IfOk result (λ _. KeepsOldest old new)
+    pub oldest : KeepsOldest old new
     pub keeping : keeping_of new ≡ keeping_of old
     pub opened : IfOk result (λ _. HasSameOpen old.replies new.replies)
     pub marked : IfOk result (λ recovered. end_of old.taken cause recovered.adopted ≡ None → IsCounted new)
@@ -457,7 +462,7 @@ module _ {R : Type 0} where
     pub link : LinkServes before seen new.replies result
     pub notes : NotesServe shown now result
     pub frame : HasSameFrame old new
-    pub oldest : UnlessNoteStop result (KeepsOldest old new)
+    pub oldest : KeepsOldest old new
     pub keeping : keeping_of new ≡ keeping_of old
     pub marked : IfOk result (λ _. IsCounted new)
     pub later : IfOk result (λ _. IsAdoptedLater old new)
@@ -468,7 +473,7 @@ module _ {R : Type 0} where
     pub notes : NotesServe shown now result
     pub frame : HasSameFrame old new
     pub keeping : keeping_of new ≡ keeping_of old
-    pub trimmed : IsTrimmed old → UnlessNoteStop result (IsTrimmed new)
+    pub trimmed : IsTrimmed old → TrimsBy shown now new result
     pub marked : IfOk result (λ _. IsCounted new)
     pub later : IfOk result (λ _. GoesFurther old new)
 
@@ -513,7 +518,7 @@ module _ {R : Type 0} where
   pub record KeepsNoting (shown now : Shown) (old new : SessionState R) (result : Result (Unit {0}) Stop) : Type 0 where
     pub notes : NotesServe shown now result
     pub same : new ≡ record old { recorded = new.recorded; choices = new.choices }
-    pub recorded : IfOk result (λ _. IsRecorded new)
+    pub recorded : RecordsBy shown now new result
     pub broken : BreaksNoting result
 
   -- items and replies are given up that no trial needs
@@ -528,7 +533,7 @@ module _ {R : Type 0} where
     pub why : Stop
     pub is : answered ≡ answer_of why
     pub served : (image : Image) → IsBegun image old.options old.cpu.rule old
-        → (watched : HasWatched rules image (keeping_for old.options) before seen (outcome_of why new) shown.told now.told counted tables_before tables) × UnlessNoteFault why (HasLeft rules image watched.recovered.telling new why)
+        → (watched : HasWatched rules image (keeping_for old.options) before seen (outcome_of why new) shown.told now.told counted tables_before tables) × LeavesBy rules image shown.told.unnoted now.told.unnoted watched.recovered.telling new why
     pub keeping : keeping_of new ≡ keeping_for old.options
     pub link : LinkAnswers before seen why
     pub notes : NotesAnswer shown now why

@@ -4,7 +4,7 @@
 //! That crate has no definitions of its own.
 //! A change of its code proves none of these lemmas again.
 //! While a session serves, only answers of the allocator from before its oldest checkpoint are recorded.
-//! No recovery can change these. At an end all are recorded.
+//! No recovery can change these. At an end all are recorded; where it is broken off, no others than those.
 #![tactic(auto)]
 
 mod options;

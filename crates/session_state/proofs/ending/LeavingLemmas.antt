@@ -12,7 +12,7 @@ use Rattle.recovery.proofs.Starting.{kept_at}
 use Rattle.recovery.proofs.Survived.{behind_at}
 use Rattle.link_gate.specs.declared.pass_fault.PassFault.TheVariants as pass_fault
 use Rattle.session_state.proofs.Lemmas.{held_by, between_at, asks_or_fails}
-use Rattle.session_state.proofs.Terms.{Bool, List, None, Option, Some, [], ap, append-nil, append_assoc, arith, cond, drop, false, inl, inr, length, length-drop, max, min, not, refl, subst, suc, sym, true, ℕ, ◌++◌, ◌+◌, ◌-◌, ◌∙◌, ◌∷◌, ◌≡◌, ◌≤◌, none-some, same_Some, IfSome, slice_get, ◌&&◌, Item, Send, Entry, Coming, Checkpoints, Saved, Log, Connection, Ledger, is_left, next_part, parts_behind, settled, unpassed, waits, Image, Override, Path, CpuState, standing_of, Standing, marks_of, SessionBreak, SessionEnd, StandsAt, before_end, items_in, Chapter, Rules, Survivor, AreBetween, PassFault, Recovery, HasOldest, after_oldest, has_oldest, oldest_of, oldest_used, between_behind, HasHandled, Keeping, Stand, stands_of, AreBehind, KeepsRing, SessionState, IsNoteFault, Telling, CanForgetSends, HandledAt, HandlesRequests, HasLeft, HoldsCheckpoints, IsAtRequest, IsReadFault, IsRecorded, IsTrimmed, UnlessGaveUp, keeping_of, IsAnswerTo, UnlessNoteFault}
+use Rattle.session_state.proofs.Terms.{Bool, List, None, Option, Some, [], ap, append-nil, append_assoc, arith, cond, drop, false, inl, inr, length, length-drop, max, min, not, refl, subst, suc, sym, true, ℕ, ◌++◌, ◌+◌, ◌-◌, ◌∙◌, ◌∷◌, ◌≡◌, ◌≤◌, ◌⊎◌, none-some, same_Some, IfSome, slice_get, ◌&&◌, Item, Send, Entry, Coming, Choice, Checkpoints, Saved, Log, Connection, Ledger, is_left, next_part, parts_behind, settled, unpassed, waits, Image, Override, Path, CpuState, standing_of, Standing, marks_of, SessionBreak, SessionEnd, StandsAt, before_end, items_in, Chapter, Rules, Survivor, AreBetween, PassFault, Unnoted, Recovery, HasOldest, after_oldest, has_oldest, oldest_of, oldest_used, between_behind, HasHandled, Keeping, Stand, stands_of, AreBehind, KeepsRing, SessionState, FailsUpTo, IsNoteFault, Telling, CanForgetSends, HandledAt, HandlesRequests, HasKept, HasLeft, HoldsCheckpoints, IsAtRequest, IsCutShort, IsReadFault, IsRecorded, IsTrimmed, LeavesBy, UnlessGaveUp, keeping_of, IsAnswerTo, TrimsAt}
 
 -- where each send fails a test of its part, none is the first that passes it
 none_passes : (p : Send → Bool) (C : List Connection) (front sends : List Send) → ((x : List Send) (y : Send) (z : List Send) → sends ≡ x ++ y ∷ z → p (unpassed C (front ++ x) y) ≡ false)
@@ -39,38 +39,6 @@ all_settled ledger sends {until = until} {taken = taken} none kept timed low = n
         by true opened =
             ap (λ b. b && is_left (unpassed ledger.connections x y)) opened ∙ next_none ledger until none x y z split opened (omega (arith, between_at 0 x z y (subst (AreBetween 0 taken) split between), low))
         by false shut = ap (λ b. b && is_left (unpassed ledger.connections x y)) shut
-
--- what holds where no fault of the notes broke it off
-pub unless_note : (why : SessionBreak) (P : Type 0) → ((IsNoteFault why → ⊥) → P) → UnlessNoteFault (stop.Breaks why) P
-unless_note session_break.FileFault P holds = tt
-unless_note session_break.Memory P holds = tt
-unless_note _ P holds = holds (λ is. is)
-
-pub trimmed_unless : (why : SessionBreak) (P : Type 0) → (IsNoteFault why → ⊥) → UnlessNoteFault (stop.Breaks why) P → P
-trimmed_unless session_break.FileFault P never holds = absurd (never tt)
-trimmed_unless session_break.Memory P never holds = absurd (never tt)
-trimmed_unless _ P never holds = holds
-
-pub note_unless : (why : SessionBreak) (P : Type 0) → IsNoteFault why → UnlessNoteFault (stop.Breaks why) P
-note_unless session_break.FileFault P is = tt
-note_unless session_break.Memory P is = tt
-note_unless _ P is = absurd is
-
--- what stands at a fault of the link
-pub off_requests : {rules : Rules} {image : Image} {keeping : Keeping} {chapters : List Chapter} {entries : List Entry} {recoveries : List Recovery} {survivor : Survivor} {stands : List Stand} (why : SessionBreak) → HandlesRequests rules image keeping chapters entries recoveries survivor stands
-    → (IsReadFault why → HasHandled rules image keeping chapters entries recoveries survivor (survivor.now.state.machine.taken + 1) stands) → (IsNoteFault why → ⊥)
-    → HandledAt (stop.Breaks why) rules image keeping chapters entries recoveries survivor stands
-off_requests session_break.ReadFault h handled never = handled tt
-off_requests session_break.WriteFault h handled never = h
-off_requests session_break.FileFault h handled never = absurd (never tt)
-off_requests session_break.Memory h handled never = absurd (never tt)
-
--- at a fault of passing at an end
-pub passing_requests : {rules : Rules} {image : Image} {keeping : Keeping} {chapters : List Chapter} {entries : List Entry} {recoveries : List Recovery} {survivor : Survivor} {stands : List Stand} (why : PassFault) (broken : SessionBreak) → IsAnswerTo why broken → (IsNoteFault broken → ⊥) → HandlesRequests rules image keeping chapters entries recoveries survivor stands
-    → HandledAt (stop.Breaks broken) rules image keeping chapters entries recoveries survivor stands
-passing_requests {rules = rules} {image = image} {keeping = keeping} {chapters = chapters} {entries = entries} {recoveries = recoveries} {survivor = survivor} {stands = stands} pass_fault.WriteFault broken is never h =
-    subst (λ (b : SessionBreak). HandledAt (stop.Breaks b) rules image keeping chapters entries recoveries survivor stands) (sym is) h
-passing_requests pass_fault.Memory broken is never h = absurd (never (subst IsNoteFault (sym is) tt))
 
 -- what stands at an end
 pub end_requests : {rules : Rules} {image : Image} (coming : Option Coming) {keeping : Keeping} {chapters : List Chapter} {entries : List Entry} {recoveries : List Recovery} {survivor : Survivor} {stands : List Stand} (end : SessionEnd) → StandsAt rules entries coming survivor end
@@ -123,6 +91,31 @@ module _ {R : Type 0} where
       let marked : marks.choices ≡ o.slot.state.guest.machine.allocations = ap (λ (m : Marks). m.choices) here in
       omega (arith, behind_at recorded ring (length ring - 1) o.oldest early o.last, oldest_used rules.limits (items_in rules.bounds entries) plan image now ring o.oldest k.chained o.last, stands, marked)
 
+  -- a session whose notes failed at those answers of the allocator
+  pub cut_short : {rules : Rules} {image : Image} {entries : List Entry} {plan : List Override} {now : Path} {ring : List Path} {session : SessionState R} {before after : Option Unnoted} (marks : Marks)
+      → IfSome (slice_get session.cpu.slots.saved 0) (λ one. marks ≡ marks_of one.state) → KeepsRing rules image entries plan now ring session.cpu session.ring session.log session.replies
+      → FailsUpTo before after marks.choices session.recorded session.choices → IsCutShort before after session
+  cut_short {rules = rules} {image = image} {entries = entries} {plan = plan} {now = now} {ring = ring} {session = session} {before = before} {after = after} marks is k fails =
+      let o = oldest_of rules image entries plan now ring session.cpu session.ring session.log session.replies k in
+      let kept = kept_at rules entries session.log session.replies ring (length ring - 1) o.oldest k.kept o.last in
+      let here : marks ≡ marks_of o.slot.state = subst (λ (s : Option (Saved Standing)). IfSome s (λ one. marks ≡ marks_of one.state)) o.first is in
+      let taken : o.slot.state.guest.machine.taken ≡ o.oldest.state.machine.taken = ap (λ (s : Standing). s.guest.machine.taken) o.stands in
+      let sent : o.slot.state.sends ≡ length o.oldest.state.sends = ap (λ (s : Standing). s.sends) o.stands in
+      record {
+        items = subst (λ (s : Option (Saved Standing)). IfSome s (λ oldest. session.log.first ≤ oldest.state.guest.machine.taken)) (sym o.first) (omega (arith, taken, kept.items));
+        recorded =
+            subst (λ (s : Option (Saved Standing)). IfSome s (λ oldest. FailsUpTo before after oldest.state.guest.machine.allocations session.recorded session.choices)) (sym o.first)
+            (subst (λ n. FailsUpTo before after n session.recorded session.choices) (ap (λ (m : Marks). m.choices) here) fails);
+        sends = subst (λ (s : Option (Saved Standing)). IfSome s (λ oldest. session.replies.first ≤ oldest.state.sends)) (sym o.first) (omega (arith, sent, kept.sends));
+      }
+
+  -- it has recorded as many, and has the same others
+  pub cut_as : {before after : Option Unnoted} (session : SessionState R) {recorded : ℕ} {choices : List Choice} → recorded ≡ session.recorded → choices ≡ session.choices → IsCutShort before after session
+      → IsCutShort before after (record session { recorded = recorded; choices = choices })
+  cut_as {before = before} {after = after} session {recorded = recorded} {choices = choices} same alike cut =
+      subst (λ n. IsCutShort before after (record session { recorded = n; choices = choices })) (sym same)
+      (subst (λ (cs : List Choice). IsCutShort before after (record session { choices = cs })) (sym alike) cut)
+
   -- a session that gave up what lies before its oldest checkpoint
   pub forgot_up : {rules : Rules} {image : Image} {entries : List Entry} {plan : List Override} {now : Path} {ring : List Path} {old : SessionState R} {log : Log} {ledger : Ledger}
       → KeepsRing rules image entries plan now ring old.cpu old.ring old.log old.replies
@@ -173,6 +166,80 @@ module _ {R : Type 0} where
         recorded = recorded ∙ (ap (λ (s : Standing). s.guest.machine.allocations) o.stands ∙ used);
         requests = requests;
       }
+
+  -- so it is at a fault of its notes and at want of memory, where all was given up and recorded
+  kept_whole : {rules : Rules} {image : Image} {before now : Option Unnoted} {telling : Telling} {session : SessionState R} → IsTrimmed session → HoldsCheckpoints rules image telling.account.earlier (before_end telling.account) telling.recoveries telling.account.survivor session
+      → HasKept rules image before now telling session
+  kept_whole {rules = rules} {image = image} {telling = telling} {session = session} trimmed h =
+      let o = oldest_held h in
+      let used : o.oldest.state.machine.allocations ≡ length o.oldest.choices = oldest_used rules.limits (items_in rules.bounds (before_end telling.account)) telling.account.survivor.plan image telling.account.survivor.now h.paths o.oldest h.chained o.last in
+      let items : session.log.first ≡ o.slot.state.guest.machine.taken = subst (λ (s : Option (Saved Standing)). IfSome s (λ oldest. session.log.first ≡ oldest.state.guest.machine.taken)) o.first trimmed.items in
+      let recorded : session.recorded ≡ o.slot.state.guest.machine.allocations = subst (λ (s : Option (Saved Standing)). IfSome s (λ oldest. session.recorded ≡ oldest.state.guest.machine.allocations)) o.first trimmed.recorded in
+      let sends : session.replies.first ≤ o.slot.state.sends = subst (λ (s : Option (Saved Standing)). IfSome s (λ oldest. session.replies.first ≤ oldest.state.sends)) o.first trimmed.sends in
+      let all_items : session.log.first ≡ o.oldest.state.machine.taken = items ∙ ap (λ (s : Standing). s.guest.machine.taken) o.stands in
+      let all_recorded : session.recorded ≡ length o.oldest.choices = recorded ∙ (ap (λ (s : Standing). s.guest.machine.allocations) o.stands ∙ used) in
+      record {
+        holds = h;
+        oldest = o.oldest;
+        oldest_is = o.last;
+        items = omega (arith, all_items);
+        sends = omega (arith, sends, ap (λ (s : Standing). s.sends) o.stands);
+        recorded = omega (arith, all_recorded);
+        up_to = inl (all_items, all_recorded);
+      }
+
+  -- and where noting failed before that
+  kept_short : {rules : Rules} {image : Image} {before now : Option Unnoted} {telling : Telling} {session : SessionState R} → IsCutShort before now session → HoldsCheckpoints rules image telling.account.earlier (before_end telling.account) telling.recoveries telling.account.survivor session
+      → HasKept rules image before now telling session
+  kept_short {rules = rules} {image = image} {before = before} {now = now} {telling = telling} {session = session} cut h =
+      let o = oldest_held h in
+      let used : o.oldest.state.machine.allocations ≡ length o.oldest.choices = oldest_used rules.limits (items_in rules.bounds (before_end telling.account)) telling.account.survivor.plan image telling.account.survivor.now h.paths o.oldest h.chained o.last in
+      let items : session.log.first ≤ o.slot.state.guest.machine.taken = subst (λ (s : Option (Saved Standing)). IfSome s (λ oldest. session.log.first ≤ oldest.state.guest.machine.taken)) o.first cut.items in
+      let sends : session.replies.first ≤ o.slot.state.sends = subst (λ (s : Option (Saved Standing)). IfSome s (λ oldest. session.replies.first ≤ oldest.state.sends)) o.first cut.sends in
+      let fails : FailsUpTo before now o.slot.state.guest.machine.allocations session.recorded session.choices =
+      subst (λ (s : Option (Saved Standing)). IfSome s (λ oldest. FailsUpTo before now oldest.state.guest.machine.allocations session.recorded session.choices)) o.first cut.recorded in
+      let up_to : FailsUpTo before now (length o.oldest.choices) session.recorded session.choices =
+      subst (λ n. FailsUpTo before now n session.recorded session.choices) (ap (λ (s : Standing). s.guest.machine.allocations) o.stands ∙ used) fails in
+      record {
+        holds = h;
+        oldest = o.oldest;
+        oldest_is = o.last;
+        items = omega (arith, items, ap (λ (s : Standing). s.guest.machine.taken) o.stands);
+        sends = omega (arith, sends, ap (λ (s : Standing). s.sends) o.stands);
+        recorded = let more = up_to.more in omega (arith, more);
+        up_to = inr up_to;
+      }
+
+  kept_by : {rules : Rules} {image : Image} {before now : Option Unnoted} {telling : Telling} {session : SessionState R} → IsTrimmed session ⊎ IsCutShort before now session → HoldsCheckpoints rules image telling.account.earlier (before_end telling.account) telling.recoveries telling.account.survivor session
+      → HasKept rules image before now telling session
+  kept_by (inl trimmed) h = kept_whole trimmed h
+  kept_by (inr cut) h = kept_short cut h
+
+  -- what a session that was broken off leaves, by what broke it off
+  pub left_by : {rules : Rules} {image : Image} (before now : Option Unnoted) (telling : Telling) {session : SessionState R} (why : SessionBreak) → TrimsAt before now session (stop.Breaks why)
+      → HoldsCheckpoints rules image telling.account.earlier (before_end telling.account) telling.recoveries telling.account.survivor session
+      → (IsReadFault why → HasHandled rules image (keeping_of session) telling.account.earlier (before_end telling.account) telling.recoveries telling.account.survivor (telling.account.survivor.now.state.machine.taken + 1) (stands_of session.cpu.slots.saved))
+      → LeavesBy rules image before now telling session (stop.Breaks why)
+  left_by before now telling session_break.ReadFault trimmed h handled = left_off trimmed h (handled tt)
+  left_by before now telling session_break.WriteFault trimmed h handled = left_off trimmed h h.requests
+  left_by before now telling session_break.FileFault trimmed h handled = kept_by trimmed h
+  left_by before now telling session_break.Memory trimmed h handled = kept_by trimmed h
+
+  -- where a fault of passing broke it off at an end
+  pub left_passing : {rules : Rules} {image : Image} (before now : Option Unnoted) (telling : Telling) {session : SessionState R} (why : PassFault) (broken : SessionBreak) → IsAnswerTo why broken → IsTrimmed session
+      → HoldsCheckpoints rules image telling.account.earlier (before_end telling.account) telling.recoveries telling.account.survivor session → LeavesBy rules image before now telling session (stop.Breaks broken)
+  left_passing {rules = rules} {image = image} before now telling {session = session} pass_fault.WriteFault broken is trimmed h =
+      subst (λ (b : SessionBreak). LeavesBy rules image before now telling session (stop.Breaks b)) (sym is) (left_off trimmed h h.requests)
+  left_passing {rules = rules} {image = image} before now telling {session = session} pass_fault.Memory broken is trimmed h =
+      subst (λ (b : SessionBreak). LeavesBy rules image before now telling session (stop.Breaks b)) (sym is) (kept_whole trimmed h)
+
+  -- and where noting the rest failed there
+  pub left_noting : {rules : Rules} {image : Image} (before now : Option Unnoted) (telling : Telling) {session : SessionState R} (why : SessionBreak) → IsNoteFault why → IsTrimmed session
+      → HoldsCheckpoints rules image telling.account.earlier (before_end telling.account) telling.recoveries telling.account.survivor session → LeavesBy rules image before now telling session (stop.Breaks why)
+  left_noting before now telling session_break.ReadFault is trimmed h = absurd is
+  left_noting before now telling session_break.WriteFault is trimmed h = absurd is
+  left_noting before now telling session_break.FileFault is trimmed h = kept_whole trimmed h
+  left_noting before now telling session_break.Memory is trimmed h = kept_whole trimmed h
 
   -- and one that came to its end, where nothing that was sent waits
   pub left_end : {rules : Rules} {image : Image} {telling : Telling} {old new : SessionState R} (ledger : Ledger) {end : SessionEnd} {until : ℕ} → IsTrimmed old → HoldsCheckpoints rules image telling.account.earlier (before_end telling.account) telling.recoveries telling.account.survivor old

@@ -6,7 +6,8 @@ use Rattle.session_history.specs.declared.ends.SessionBreak.TheVariants as sessi
 use Rattle.session_history.specs.declared.ends.SessionEnd.TheVariants as session_end
 use Rattle.link_gate.specs.declared.heard.HearFault.TheVariants as hear
 use Rattle.rx_io.specs.declared.fault.IoFault.TheVariants as note
-use Rattle.session_state.proofs.Terms.{Bool, Err, Ok, Option, Result, Some, ap, arith, inr, refl, subst, sym, true, ℕ, ◌∙◌, ◌≡◌, ◌≤◌, IfOk, IsErrOf, IoFault, rose_later, Rose, Coming, Counts, Seen, Ledger, Cause, SessionBreak, SessionEnd, Stop, HasAnswerCause, AtBreak, AtEnd, IsEnd, break_answer, HearFault, Heard, PassFault, HearShows, CanGive, HasPassCause, KeepsPassing, Episode, EpisodeShows, Shown, Adopted, IsNoteFault, BreaksAt, BreaksNoting, BreaksPassing, HasNoteRest, HasStopCause, IsAnswerTo, IsNoteAnswer, IsOkOrMemory, IsStopAt, IsUnnoted, LinkAnswers, LinkFinishes, LinkPasses, LinkServes, MayServe, NotesAnswer, NotesServe, StaysKnown, TakesAtEnd, UnlessBroken, UnlessNoteFault, UnlessNoteStop, end_of, KeepsNotes}
+use Rattle.session_state.proofs.Lemmas.{oldest_then, trimmed_still}
+use Rattle.session_state.proofs.Terms.{Bool, Err, Ok, Option, Result, Some, ap, arith, inl, inr, refl, subst, sym, true, ℕ, ◌∙◌, ◌≡◌, ◌≤◌, IfOk, IsErrOf, IoFault, rose_later, Rose, Coming, Counts, Seen, Ledger, Cause, SessionBreak, SessionEnd, Stop, HasAnswerCause, AtBreak, AtEnd, IsEnd, break_answer, HearFault, Heard, PassFault, HearShows, CanGive, HasPassCause, KeepsPassing, Episode, EpisodeShows, Shown, Unnoted, Adopted, SessionState, IsNoteFault, IsCutShort, IsTrimmed, KeepsOldest, BreaksAt, BreaksNoting, BreaksPassing, HasNoteRest, HasStopCause, IsAnswerTo, IsNoteAnswer, IsOkOrMemory, IsStopAt, IsUnnoted, LinkAnswers, LinkFinishes, LinkPasses, LinkServes, MayServe, NotesAnswer, NotesServe, StaysKnown, TakesAtEnd, TrimsAt, TrimsBy, UnlessBroken, end_of, KeepsNotes}
 use Rattle.session_state.proofs.recovering.RecoverLemmas.{adopted_takes}
 use Rattle.session_history.specs.declared.ends.Stop.TheVariants as stop
 use Rattle.session_state.proofs.events.HearingLemmas.{cause_then, no_cause}
@@ -105,15 +106,27 @@ passing_serves {old = old} {new = new} {ledger = ledger} result still passes = r
   cause = passes.cause;
 }
 
--- what holds anyhow, holds unless noting failed
-pub unless_note_fault : (why : Stop) (P : Type 0) → P → UnlessNoteFault why P
-unless_note_fault (stop.Breaks session_break.FileFault) P holds = tt
-unless_note_fault (stop.Breaks session_break.Memory) P holds = tt
-unless_note_fault _ P holds = holds
+module _ {R : Type 0} where
+  -- all is given up and recorded
+  trims_at : (before now : Option Unnoted) {session : SessionState R} (why : Stop) → IsTrimmed session → TrimsAt before now session why
+  trims_at before now (stop.Breaks session_break.FileFault) trimmed = inl trimmed
+  trims_at before now (stop.Breaks session_break.Memory) trimmed = inl trimmed
+  trims_at before now _ trimmed = trimmed
 
-pub unless_note_stop : (result : Result (Unit {0}) Stop) (P : Type 0) → P → UnlessNoteStop result P
-unless_note_stop (Ok done) P holds = holds
-unless_note_stop (Err why) P holds = unless_note_fault why P holds
+  pub trims_any : (shown now : Shown) {session : SessionState R} (result : Result (Unit {0}) Stop) → IsTrimmed session → TrimsBy shown now session result
+  trims_any shown now (Ok done) trimmed = trimmed
+  trims_any shown now (Err why) trimmed = trims_at shown.told.unnoted now.told.unnoted why trimmed
+
+  -- the oldest checkpoint stands, and nothing more was given up or recorded
+  pub trims_on : (shown now : Shown) {old mid new : SessionState R} (result : Result (Unit {0}) Stop) → KeepsOldest old mid → KeepsOldest mid new → IsTrimmed old → TrimsBy shown now new result
+  trims_on shown now result first second trimmed = trims_any shown now result (trimmed_still (oldest_then first second) trimmed)
+
+  -- noting failed
+  pub trims_cut : (shown now : Shown) {session : SessionState R} (why : Stop) → BreaksNoting (Err why) → IsCutShort shown.told.unnoted now.told.unnoted session → TrimsBy shown now session (Err why)
+  trims_cut shown now (stop.Ends end) noting cut = absurd noting
+  trims_cut shown now (stop.Breaks session_break.FileFault) noting cut = inr cut
+  trims_cut shown now (stop.Breaks session_break.Memory) noting cut = inr cut
+  trims_cut shown now (stop.Breaks _) noting cut = absurd noting
 
 -- nothing was noted
 pub unnoted_serves : {shown : Shown} (result : Result (Unit {0}) Stop) → IsUnnoted result → NotesServe shown shown result
@@ -144,12 +157,6 @@ noted_cause _ note = absurd note
 pub noting_serves : {seen : Seen} {ledger : Ledger} (why : Stop) → MayServe seen ledger → BreaksNoting (Err why) → LinkServes {X = Unit {0}} seen seen ledger (Err why)
 noting_serves (stop.Ends end) may noting = absurd noting
 noting_serves {seen = seen} (stop.Breaks end) may noting = record { takes = tt; gives = tt; known = tt; once = once_noted seen.coming end may.gives.gives_still noting; cause = noted_cause end noting }
-
-pub unless_noting : (why : Stop) (P : Type 0) → BreaksNoting (Err why) → UnlessNoteStop (Err why) P
-unless_noting (stop.Ends end) P noting = absurd noting
-unless_noting (stop.Breaks session_break.FileFault) P noting = tt
-unless_noting (stop.Breaks session_break.Memory) P noting = tt
-unless_noting (stop.Breaks _) P noting = absurd noting
 
 -- notes that were called first, and not any more
 pub asking_notes : {before now : Shown} (result : Result (Unit {0}) Stop) → NotesServe before now (Ok tt) → IsUnnoted result → NotesServe before now result

@@ -4,7 +4,7 @@ use Rattle.session_history.specs.declared.ends.SessionEnd.TheVariants as session
 use Rattle.guest_cpu.specs.declared.event.Event.TheVariants as step
 use Rattle.guest_cpu.specs.Running.{RunsBy}
 use Rattle.session_state.proofs.Lemmas.{held_by, held_of, answers_as, broken_running, run_asks, run_exits, run_fails}
-use Rattle.session_state.proofs.Terms.{AllocError, Bool, Err, List, Ok, Result, ap, arith, cond, inl, inr, ltb, refl, subst, sym, ℕ, ◌+◌, ◌<◌, ◌∙◌, ◌≡◌, ◌≤◌, IfOk, Seen, Choice, Heap, Env, Plain, Image, Cause, Path, env_at, limits_of, Event, CpuState, live_of, with_live, Standing, turn, runs_serve, runs_write, RunsWriting, Stop, items_in, Rules, rules_of, SessionState, env_of, keeping_of, IsBetween, IsBrokenOff, IsEnding, IsFailing, IsWaitingFor, Since, entries, ComesBetween, GoesFurther, HasRun, HasSameFrame, IsAdoptedLater}
+use Rattle.session_state.proofs.Terms.{AllocError, Bool, Err, List, Ok, Result, ap, arith, cond, inl, inr, ltb, refl, subst, sym, ℕ, ◌+◌, ◌<◌, ◌∙◌, ◌≡◌, ◌≤◌, IfOk, slice_get, Seen, Choice, Heap, Env, Plain, Saved, Image, Cause, Path, env_at, limits_of, Event, CpuState, live_of, with_live, Standing, turn, runs_serve, runs_write, RunsWriting, Stop, items_in, Rules, rules_of, SessionState, env_of, KeepsOldest, keeping_of, IsBetween, IsBrokenOff, IsEnding, IsFailing, IsWaitingFor, Since, entries, ComesBetween, GoesFurther, HasRun, HasSameFrame, IsAdoptedLater}
 
 module _ {R : Type 0} where
   -- how a guest runs in an environment, by the session that it is of
@@ -110,6 +110,18 @@ module _ {R : Type 0} where
   -- and the saved slots
   pub ran_saved : {old inside : SessionState R} {cpu : CpuState R} → inside ≡ old → cpu ≡ with_live (live_of cpu) inside.cpu → cpu.slots.saved ≡ old.cpu.slots.saved
   ran_saved same kept = ap (λ (one : CpuState R). one.slots.saved) kept ∙ ap (λ (s : SessionState R). s.cpu.slots.saved) same
+
+  -- and the oldest one, up to which all is given up that was
+  pub ran_oldest : {old inside after : SessionState R} {cpu : CpuState R} {taken steps : ℕ} → inside ≡ old → cpu ≡ with_live (live_of cpu) inside.cpu → after ≡ record inside { cpu = cpu; taken = taken; steps = steps } → KeepsOldest old after
+  ran_oldest {old = old} {inside = inside} {cpu = cpu} {taken = taken} {steps = steps} same kept is =
+      subst (λ (s : SessionState R). KeepsOldest old s) (sym is)
+      (record {
+        oldest = ap (λ (saved : List (Saved Standing)). slice_get saved 0) (ran_saved same kept);
+        first = ap (λ (s : SessionState R). s.log.first) same;
+        recorded = ap (λ (s : SessionState R). s.recorded) same;
+        sends = ap (λ (s : SessionState R). s.replies.first) same;
+        keeping = ran_keeping same kept;
+      })
 
   -- memory ran out within the run: the session answers for the run before it
   pub breaks_now : (permits : R → Heap → ℕ → ℕ → Bool) {env : Env} {image : Image} {began : Since} {seen : Seen} {old inside : SessionState R} {cpu : CpuState R} (result : Result Event AllocError) {lost : ℕ} → env ≡ env_of old → inside ≡ old

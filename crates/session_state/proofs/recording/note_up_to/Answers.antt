@@ -14,4 +14,5 @@ returns-in-Err-clause-noted g c =
         some = let count_is = length-take-le count all c.requires in let more = c.if-safe-recorded.false in omega (arith, count_is, more);
         handed = search rules;
       },
+      record { more = let more = c.if-safe-recorded.false in omega (arith, more); handed = search rules },
     )
