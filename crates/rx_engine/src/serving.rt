@@ -6,8 +6,8 @@ ghost use Rattle.guest_cpu.specs.declared.event.Event.TheVariants as event;
 ghost use Rattle.session_history.specs.Answering.{MayBegin};
 ghost use Rattle.session_state.specs.Standing.{Since, IsGoing, IsBetween, IsWaitingFor, IsEnding};
 ghost use Rattle.session_state.specs.Recovered.{HasWatched};
-ghost use Rattle.session_state.specs.Leaving.{keeping_of, IsTrimmed, HasLeft};
-ghost use Rattle.session_state.specs.Serving.{HasServedLink, Finishes, UnlessNoteFault, HasRun, StandsBetween, StandsAsking, StandsHearing, StandsTaking, StandsEmitting, StandsEnding, IsFinishing, ComesBetween, IsReadyToServe, outcome_of, KeepsTurning, KeepsAsking, KeepsReceiving, KeepsItem, KeepsSending, KeepsChoosing, rules_by};
+ghost use Rattle.session_state.specs.Leaving.{keeping_of, IsTrimmed, LeavesBy};
+ghost use Rattle.session_state.specs.Serving.{HasServedLink, Finishes, HasRun, StandsBetween, StandsAsking, StandsHearing, StandsTaking, StandsEmitting, StandsEnding, IsFinishing, ComesBetween, IsReadyToServe, outcome_of, KeepsTurning, KeepsAsking, KeepsReceiving, KeepsItem, KeepsSending, KeepsChoosing, rules_by};
 
 use crate::Session;
 use crate::giving::answer_to;
@@ -78,7 +78,7 @@ impl<R: AccessRule> Session<R> {
         ensures served { (image : Image) (began : Since) (first : Seen) (ending : IsEnding (rules_by R.rule self.old) image (record began { told = first.told; noted = (N.shown notes.old).told }) (K.seen link.old) self.old end)
             → IsFinishing (rules_by R.rule self.old) first (K.seen link.old) ending.story end → IsTrimmed self.old
             → (watched : HasWatched (rules_by R.rule self.old) image (keeping_of self.new) first (K.seen link.new) (outcome_of result self.new) began.noted_before (N.shown notes.new).told (began.lost + self.old.steps) began.tables_before began.tables)
-            × UnlessNoteFault result (HasLeft (rules_by R.rule self.old) image watched.recovered.telling self.new result) }
+            × LeavesBy (rules_by R.rule self.old) image began.noted_before.unnoted (N.shown notes.new).told.unnoted watched.recovered.telling self.new result }
         ensures same { self.new ≡ record self.old { replies = self.new.replies; recorded = self.new.recorded; choices = self.new.choices } }
         ensures shows { Finishes (K.seen link.old) (K.seen link.new) (N.shown notes.old) (N.shown notes.new) end result }
         ensures outside { K.Went link.old link.new × (N.fixed notes.new ≡ N.fixed notes.old) }

@@ -113,7 +113,13 @@ returns-in-None-clause-keeps g c = record {
 pub returns-in-Err-clause-keeps : goal.returns-in-Err-clause-keeps
 returns-in-Err-clause-keeps g c = record {
   frame = search rules;
-  oldest = search rules;
+  oldest = record {
+    oldest = ap (λ saved. slice_get saved 0) c.in-Err.ensures.rest.2.saved ∙ ap (λ (s : SessionState _). slice_get s.cpu.slots.saved 0) c.self.view_is;
+    first = ap (λ (s : SessionState _). s.log.first) c.self.view_is;
+    recorded = ap (λ (s : SessionState _). s.recorded) c.self.view_is;
+    sends = c.in-Err.ensures.rest.3.first ∙ ap (λ (s : SessionState _). s.replies.first) c.self.view_is;
+    keeping = c.in-Err.ensures.keeping c.self.inside.options.every ∙ ap (λ (s : SessionState _). keeping_of s) c.self.view_is;
+  };
   keeping = c.in-Err.ensures.keeping c.self.inside.options.every ∙ ap (λ (s : SessionState _). keeping_of s) c.self.view_is;
   opened = search rules;
   marked = search rules;

@@ -1,4 +1,4 @@
-use Rattle.rx_engine.proofs.Terms.{None, ap, rules, subst, sym, ◌∙◌, Ledger, is_open, asking_notes, noting_serves, unless_note_stop, unless_noting, comes_under, stops_under, waits_under, waits_untold, gives_same, forgot_frame, noted_frame, same_rules, saved_frame, trimmed_still, IsHandled, keeping_of, MayServe, SessionState, Since}
+use Rattle.rx_engine.proofs.Terms.{None, ap, rules, subst, sym, ◌∙◌, Ledger, is_open, asking_notes, noting_serves, trims_any, trims_cut, comes_under, stops_under, waits_under, waits_untold, gives_same, forgot_frame, noted_frame, same_rules, saved_frame, trimmed_still, IsHandled, keeping_of, MayServe, SessionState, Since}
 use Rattle.rx_engine.proofs.session.Session.ask.Goals as goal
 
 pub save-requires : goal.save-requires
@@ -26,7 +26,7 @@ returns-in-Err-clause-keeps g c = record {
   until = search rules;
   frame = search rules;
   keeping = ap (λ (s : SessionState _). keeping_of s) c.note_choices.ensures.keeps.same ∙ c.save.ensures.keeps.keeping;
-  trimmed = unless_noting c.in-Err.stop _ c.in-Err.ensures.keeps.broken;
+  trimmed = trims_cut (g.N.Notes.shown c.args.notes.now) (g.N.Notes.shown c.note_choices.new.notes) c.in-Err.stop c.in-Err.ensures.keeps.broken c.in-Err.ensures.keeps.recorded;
   marked = search rules;
   later = search rules;
 }
@@ -81,7 +81,7 @@ returns-clause-keeps g c = record {
   until = search rules;
   frame = search rules;
   keeping = c.receive.ensures.keeps.oldest.keeping ∙ (ap (λ (s : SessionState _). keeping_of s) c.forget.ensures.keeps.same ∙ (ap (λ (s : SessionState _). keeping_of s) c.note_choices.ensures.keeps.same ∙ c.save.ensures.keeps.keeping));
-  trimmed = unless_note_stop c.receive.result _ (trimmed_still c.receive.ensures.keeps.oldest (c.forget.ensures.keeps.trimmed c.in_default.ensures.keeps.recorded));
+  trimmed = trims_any (g.N.Notes.shown c.args.notes.now) (g.N.Notes.shown c.note_choices.new.notes) c.receive.result (trimmed_still c.receive.ensures.keeps.oldest (c.forget.ensures.keeps.trimmed c.in_default.ensures.keeps.recorded));
   marked = c.receive.ensures.keeps.marked;
   later = search rules;
 }

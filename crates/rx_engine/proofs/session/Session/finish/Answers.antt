@@ -1,6 +1,6 @@
 use Rattle.session_history.specs.declared.ends.Stop.TheVariants as stop
 use Rattle.reply_ledger.specs.Trimming as ledgers
-use Rattle.rx_engine.proofs.Terms.{ap, arith, length, refl, subst, sym, ◌+◌, ◌∙◌, ◌≡◌, ◌≤◌, IfSome, slice_get, stands_of, end_of, ending_moved, can_forget_sends, end_requests, left_end, left_off, note_unless, passing_requests, unless_note, finish_broken, finish_unnoted_link, finish_well, notes_passing, notes_rest_done, notes_rest_failed, ending_few, may_pass, ending_can, ending_ready, finish_fault, finish_ok, finish_unnoted, held_by, trimmed_still, CanForgetSends, HandledAt, HasLeft, IsTrimmed, keeping_of, HasWatched, StandsEnding, UnlessNoteFault, outcome_of, rules_by, SessionState, IsEnding, entries, sends}
+use Rattle.rx_engine.proofs.Terms.{ap, arith, length, refl, subst, sym, ◌+◌, ◌∙◌, ◌≡◌, ◌≤◌, IfSome, slice_get, stands_of, end_of, ending_moved, can_forget_sends, end_requests, left_end, left_noting, left_passing, finish_broken, finish_unnoted_link, finish_well, notes_passing, notes_rest_done, notes_rest_failed, ending_few, may_pass, ending_can, ending_ready, finish_fault, finish_ok, finish_unnoted, held_by, trimmed_still, CanForgetSends, HandledAt, HasLeft, IsTrimmed, LeavesBy, keeping_of, HasWatched, StandsEnding, outcome_of, rules_by, SessionState, IsEnding, entries, sends}
 use Rattle.rx_engine.proofs.session.Session.finish.Goals as goal
 
 pub pass_until-requires : goal.pass_until-requires
@@ -15,12 +15,11 @@ returns-in-Err-clause-served g c image since first ends finishing trimmed =
     let both = ending_moved (sym c.self.view_is) ends finishing in
     let e = both.0 in
     let counts : since.lost + c.args.self.now.steps ≡ since.lost + c.self.inside.steps = ap (λ (s : SessionState _). since.lost + s.steps) (sym c.self.view_is) in
-    finish_fault (λ telling. UnlessNoteFault (stop.Breaks c.answer_to.result) (HasLeft the_rules image telling _ (stop.Breaks c.answer_to.result))) (record since { noted = here }) 18446744073709551615 c.pass_until.new.replies c.in-Err.fault e c.in-Err.ensures.keeps.shows.rest c.answer_to.ensures c.in-Err.ensures.keeps.shows.stops
+    finish_fault (λ telling. LeavesBy the_rules image since.noted_before.unnoted here.unnoted telling _ (stop.Breaks c.answer_to.result)) (record since { noted = here }) 18446744073709551615 c.pass_until.new.replies c.in-Err.fault e c.in-Err.ensures.keeps.shows.rest c.answer_to.ensures c.in-Err.ensures.keeps.shows.stops
     (c.in-Err.ensures.passes the_rules (sends e.story) (end_of e.story) (sym e.received_are ∙ sym c.received-stamp.ensures.count) (ending_ready e)) both.1 here refl refl refl counts
-    (λ more broken. unless_note c.answer_to.result _ (λ never. left_off
+    (λ more broken. left_passing since.noted_before.unnoted here.unnoted _ c.in-Err.fault c.answer_to.result c.answer_to.ensures
     (trimmed_still (record { oldest = ap (λ (t : SessionState _). slice_get t.cpu.slots.saved 0) c.self.view_is; first = ap (λ (t : SessionState _). t.log.first) c.self.view_is; recorded = ap (λ (t : SessionState _). t.recorded) c.self.view_is; sends = c.in-Err.ensures.keeps.sends.first ∙ ap (λ (t : SessionState _). t.replies.first) c.self.view_is; keeping = ap (λ (t : SessionState _). keeping_of t) c.self.view_is }) trimmed)
-    (held_by the_rules image e.story.earlier (entries e.story) e.story.recoveries e.story.survivor _ _ refl refl e.holds)
-    (passing_requests c.in-Err.fault c.answer_to.result c.answer_to.ensures never e.holds.requests)))
+    (held_by the_rules image e.story.earlier (entries e.story) e.story.recoveries e.story.survivor _ _ refl refl e.holds))
 
 pub note_rest-requires : goal.note_rest-requires
 note_rest-requires g c =
@@ -36,9 +35,11 @@ returns-in-Err-note_rest-clause-served g c image since first ends finishing trim
     let counts : since.lost + c.args.self.now.steps ≡ since.lost + c.self.inside.steps = ap (λ (s : SessionState _). since.lost + s.steps) (sym c.self.view_is) in
     let passes = c.in_default.ensures.passes the_rules (sends e.story) (end_of e.story) (sym e.received_are ∙ sym c.received-stamp.ensures.count) (ending_ready e) in
     subst (λ (s : SessionState _). (watched : HasWatched the_rules image (keeping_of s) first (g.K.Link.seen c.pass_until.new.link) (outcome_of (stop.Breaks c.in-Err-note_rest.fault) s) since.noted_before told (since.lost + c.args.self.now.steps) since.tables_before since.tables)
-    × UnlessNoteFault (stop.Breaks c.in-Err-note_rest.fault) (HasLeft the_rules image watched.recovered.telling c.note_rest.new.self (stop.Breaks c.in-Err-note_rest.fault))) (sym c.in-Err-note_rest.ensures.noted.1)
-    (finish_unnoted (λ telling. UnlessNoteFault (stop.Breaks c.in-Err-note_rest.fault) (HasLeft the_rules image telling c.note_rest.new.self (stop.Breaks c.in-Err-note_rest.fault))) (record since { noted = here }) 18446744073709551615 e c.in_default.ensures.keeps.shows.rest
-    passes both.1 c.in-Err-note_rest.ensures.noted.2 told c.in-Err-note_rest.ensures.noted.0 c.in-Err-note_rest.ensures.shows.episodes c.in-Err-note_rest.ensures.noted.3 counts (λ more broken. note_unless c.in-Err-note_rest.fault _ c.in-Err-note_rest.ensures.noted.2))
+    × LeavesBy the_rules image since.noted_before.unnoted told.unnoted watched.recovered.telling s (stop.Breaks c.in-Err-note_rest.fault)) (sym c.in-Err-note_rest.ensures.noted.1)
+    (finish_unnoted (λ telling. LeavesBy the_rules image since.noted_before.unnoted told.unnoted telling _ (stop.Breaks c.in-Err-note_rest.fault)) (record since { noted = here }) 18446744073709551615 e c.in_default.ensures.keeps.shows.rest
+    passes both.1 c.in-Err-note_rest.ensures.noted.2 told c.in-Err-note_rest.ensures.noted.0 c.in-Err-note_rest.ensures.shows.episodes c.in-Err-note_rest.ensures.noted.3 counts (λ more broken. left_noting since.noted_before.unnoted told.unnoted _ c.in-Err-note_rest.fault c.in-Err-note_rest.ensures.noted.2
+    (trimmed_still (record { oldest = ap (λ (t : SessionState _). slice_get t.cpu.slots.saved 0) c.self.view_is; first = ap (λ (t : SessionState _). t.log.first) c.self.view_is; recorded = ap (λ (t : SessionState _). t.recorded) c.self.view_is; sends = c.in_default.ensures.keeps.sends.first ∙ ap (λ (t : SessionState _). t.replies.first) c.self.view_is; keeping = ap (λ (t : SessionState _). keeping_of t) c.self.view_is }) trimmed)
+    (held_by the_rules image e.story.earlier (entries e.story) e.story.recoveries e.story.survivor _ _ refl refl e.holds)))
 
 pub returns-clause-served : goal.returns-clause-served
 returns-clause-served g c image since first ends finishing trimmed =

@@ -1,7 +1,7 @@
 use Rattle.recovery.proofs.ForgetLemmas.{behind_marks}
 use Rattle.session_history.specs.declared.ends.Stop.TheVariants as stop
 use Rattle.session_state.proofs.guest.RecordingLemmas.{up_to_safe, waits_up_to, waits_same}
-use Rattle.rx_engine.proofs.Terms.{Err, rules, subst, sym, ◌≡◌, IfSome, slice_get, note_answered, noted_low, noted_up, notes_noted, notes_stopped, moved, waits_left, waits_unnoted, rules_by, Since, entries}
+use Rattle.rx_engine.proofs.Terms.{Err, rules, subst, sym, ◌≡◌, IfSome, slice_get, note_answered, cut_as, cut_short, noted_low, noted_up, notes_noted, notes_stopped, moved, waits_left, waits_unnoted, rules_by, SessionState, Since, entries}
 use Rattle.rx_engine.proofs.session.Session.note_choices.Goals as goal
 
 pub note_up_to-requires : goal.note_up_to-requires
@@ -39,4 +39,14 @@ returns-clause-keeps g c =
     }
 
 pub returns-in-Err-clause-keeps : goal.returns-in-Err-clause-keeps
-returns-in-Err-clause-keeps g c = record { notes = notes_stopped c.in-Err.fault c.note_answer.result c.in-Err.ensures.keeps c.note_answer.ensures; same = search rules; recorded = search rules; broken = note_answered c.in-Err.fault c.note_answer.result c.note_answer.ensures }
+returns-in-Err-clause-keeps g c =
+    let w = moved (sym c.self.view_is) c.requires.waits.is in
+    let h = w.hearing in
+    let old : SessionState _ = record c.args.self.now { cpu = c.self.inside.cpu; ring = c.self.inside.ring; log = c.self.inside.log; replies = c.self.inside.replies; recorded = c.self.inside.recorded; choices = c.self.inside.choices.items } in
+    let cut = cut_as old c.in-Err.ensures.noted.1 c.in-Err.ensures.noted.2 (cut_short {session = old} c.oldest_marks-safe.result c.oldest_marks-safe.ensures h.saved.ring c.in-Err.ensures.noted.4) in
+    record {
+      notes = notes_stopped c.in-Err.fault c.note_answer.result c.in-Err.ensures.keeps c.note_answer.ensures;
+      same = search rules;
+      recorded = record { items = cut.items; recorded = cut.recorded; sends = cut.sends };
+      broken = note_answered c.in-Err.fault c.note_answer.result c.note_answer.ensures;
+    }

@@ -1,7 +1,7 @@
 use Rattle.session_history.specs.declared.ends.SessionBreak.TheVariants as session_break
 use Rattle.session_history.specs.declared.ends.Stop.TheVariants as stop
 use Rattle.session_state.specs.Serving.{end_of}
-use Rattle.rx_engine.proofs.Terms.{Err, None, Some, ap, refl, rules, sym, ℕ, ◌+◌, ◌∙◌, ◌≡◌, Seen, Options, note_answered, unnoted_passing, adopted_serves, asking_notes, episode_stopped, memory_serves, noting_serves, passing_serves, unless_note_stop, unless_noting, unnoted_serves, lost_counts, lost_then, if_ok, comes_between, comes_lost, ends_adopted, failing_told, gives_same, goes_adopted, lost_behind, missed_episode, noted_episode, one_more, passed_adopted, passed_counted, passed_frame, oldest_then, passed_oldest, going_can, going_told, still_takes, keeping_of, rules_by, SessionState, Since}
+use Rattle.rx_engine.proofs.Terms.{Err, None, Some, ap, refl, rules, sym, ℕ, ◌+◌, ◌∙◌, ◌≡◌, Seen, Options, note_answered, unnoted_passing, adopted_serves, asking_notes, episode_stopped, memory_serves, noting_serves, passing_serves, unnoted_serves, lost_counts, lost_then, if_ok, comes_between, comes_lost, ends_adopted, failing_told, gives_same, goes_adopted, lost_behind, missed_episode, noted_episode, one_more, passed_adopted, passed_counted, passed_frame, oldest_then, passed_oldest, going_can, going_told, still_takes, keeping_of, rules_by, SessionState, Since}
 use Rattle.rx_engine.proofs.session.Session.recover.Goals as goal
 
 pub returns-in-Err-clause-turns : goal.returns-in-Err-clause-turns
@@ -75,7 +75,7 @@ returns-in-Err-clause-keeps g c = record {
   link = memory_serves c.requires.may.gives.gives_still;
   notes = unnoted_serves (Err (stop.Breaks session_break.Memory)) tt;
   frame = c.in-Err.ensures.keeps.frame;
-  oldest = tt;
+  oldest = c.in-Err.ensures.keeps.oldest;
   keeping = c.in-Err.ensures.keeps.keeping;
   marked = search rules;
   later = search rules;
@@ -88,7 +88,7 @@ returns-in-Err-episode-clause-keeps g c =
       link = noting_serves (stop.Breaks c.note_answer.result) (record { takes = c.requires.may.takes; gives = gives_same c.in-Ok.ensures.keeps.opened c.requires.may.gives }) note;
       notes = episode_stopped c.in-Err-episode.fault c.note_answer.result c.in-Err-episode.ensures.shows c.note_answer.ensures;
       frame = c.in-Ok.ensures.keeps.frame;
-      oldest = unless_noting (stop.Breaks c.note_answer.result) _ note;
+      oldest = c.in-Ok.ensures.keeps.oldest;
       keeping = c.in-Ok.ensures.keeps.keeping;
       marked = search rules;
       later = search rules;
@@ -114,7 +114,7 @@ returns-clause-keeps g c =
       link = passing_serves c.pass_due.result c.requires.may.takes c.pass_due.ensures.keeps.link;
       notes = asking_notes c.pass_due.result (record { cause = record { later = c.in_default.ensures.shows.cause.later; file_fault = λ is. absurd (let never : ⊥ = cc in never) } }) (unnoted_passing c.pass_due.result c.pass_due.ensures.keeps.link.broken);
       frame = passed_frame c.pass_due.ensures.keeps.only.same c.in-Ok.ensures.keeps.frame;
-      oldest = unless_note_stop c.pass_due.result _ (oldest_then c.in-Ok.ensures.keeps.oldest (passed_oldest c.pass_due.ensures.keeps.only.same c.pass_due.ensures.keeps.only.first));
+      oldest = oldest_then c.in-Ok.ensures.keeps.oldest (passed_oldest c.pass_due.ensures.keeps.only.same c.pass_due.ensures.keeps.only.first);
       keeping = ap (λ (s : SessionState _). keeping_of s) c.pass_due.ensures.keeps.only.same ∙ c.in-Ok.ensures.keeps.keeping;
       marked = if_ok _ c.pass_due.result (passed_counted c.pass_due.ensures.keeps.only.same (c.in-Ok.ensures.keeps.marked none));
       later = if_ok _ c.pass_due.result (passed_adopted c.pass_due.ensures.keeps.only.same (c.in-Ok.ensures.keeps.later none));

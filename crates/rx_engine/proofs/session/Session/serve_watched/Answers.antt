@@ -1,7 +1,7 @@
 use Rattle.session_history.specs.declared.ends.Stop.TheVariants.{Breaks, Ends}
 use Rattle.session_history.specs.declared.ends.Stop.{Stop}
 use Rattle.session_history.specs.Ends.{StaysKnown}
-use Rattle.rx_engine.proofs.Terms.{Err, ap, arith, refl, subst, sym, ◌+◌, ◌-◌, ◌∙◌, ◌≡◌, Ledger, Rules, CanGive, served_off, known_same, known_then, left_off, off_requests, trimmed_unless, unless_note, answers_broken, answers_finished, notes_broken, notes_finished, begun_keeping, between_under, frame_then, lost_all, lost_counts, lost_then, starts_between, starts_counted, starts_giving, starts_trimmed, cause_then, stops_under, watched_kept, same_rules, HasLeft, IsTrimmed, keeping_of, keeping_for, HasWatched, IsCounted, IsFinishing, StopsBy, TakesBy, UnlessBroken, UnlessNoteFault, UnlessNoteStop, outcome_of, rules_by, IsBegun, SessionState, Since, told_since}
+use Rattle.rx_engine.proofs.Terms.{Err, ap, arith, refl, subst, sym, ◌+◌, ◌-◌, ◌∙◌, ◌≡◌, Ledger, Rules, CanGive, served_off, known_same, known_then, left_by, answers_broken, answers_finished, notes_broken, notes_finished, begun_keeping, between_under, frame_then, lost_all, lost_counts, lost_then, starts_between, starts_counted, starts_giving, starts_trimmed, cause_then, stops_under, watched_kept, same_rules, LeavesBy, keeping_of, keeping_for, HasWatched, IsCounted, IsFinishing, StopsBy, TakesBy, TrimsAt, TrimsBy, UnlessBroken, outcome_of, rules_by, IsBegun, SessionState, Since, told_since}
 use Rattle.rx_engine.proofs.session.Session.serve_watched.Goals as goal
 
 pub turns-init : goal.turns-init
@@ -72,7 +72,7 @@ returns-in-Err-Breaks-clause-served g c = record {
   where
     by : (image : _) (is : IsBegun image c.args.self.now.options c.args.self.now.cpu.rule c.args.self.now)
         → (watched : HasWatched (rules_by g.R.AccessRule.rule c.args.self.now) image (keeping_for c.args.self.now.options) (g.K.Link.seen c.args.link.now) (g.K.Link.seen c.turn.new.link) (outcome_of (Breaks c.in-Err-Breaks.why) c.turn.new.self) (g.N.Notes.shown c.args.notes.now).told (g.N.Notes.shown c.turn.new.notes).told ((g.W.Watch.ran c.args.watch.now + c.turn.new.steps) - (g.W.Watch.ran c.turn.new.watch + c.args.steps.now)) (g.W.Watch.tables c.args.watch.now) (g.W.Watch.tables c.turn.new.watch))
-        × UnlessNoteFault (Breaks c.in-Err-Breaks.why) (HasLeft (rules_by g.R.AccessRule.rule c.args.self.now) image watched.recovered.telling c.turn.new.self (Breaks c.in-Err-Breaks.why))
+        × LeavesBy (rules_by g.R.AccessRule.rule c.args.self.now) image (g.N.Notes.shown c.args.notes.now).told.unnoted (g.N.Notes.shown c.turn.new.notes).told.unnoted watched.recovered.telling c.turn.new.self (Breaks c.in-Err-Breaks.why)
     by image is =
         let the_rules : Rules = rules_by g.R.AccessRule.rule c.args.self.now in
         let here : Rules = rules_by g.R.AccessRule.rule c.turns.self in
@@ -81,12 +81,11 @@ returns-in-Err-Breaks-clause-served g c = record {
         (subst (λ why. StopsBy here image (told_since (g.K.Link.seen c.args.link.now).told (g.N.Notes.shown c.args.notes.now).told (g.N.Notes.shown c.turn.new.notes).told (g.W.Watch.tables c.args.watch.now) (g.W.Watch.tables c.turn.new.watch) (lost_then c.turns.invariant.lost c.turns.self.cpu.slots.live.steps c.turn.new.self.steps (g.W.Watch.ran c.turn.new.watch + c.turns.steps) (g.W.Watch.ran c.turns.watch + c.turn.new.steps))) (g.K.Link.seen c.turn.new.link) c.turn.new.self why) c.in-Err-Breaks.field-0-is
         (c.in-Err-Breaks.ensures.turns image (told_since (g.K.Link.seen c.args.link.now).told (g.N.Notes.shown c.args.notes.now).told (g.N.Notes.shown c.turns.notes).told (g.W.Watch.tables c.args.watch.now) (g.W.Watch.tables c.turns.watch) c.turns.invariant.lost) (lost_then c.turns.invariant.lost c.turns.self.cpu.slots.live.steps c.turn.new.self.steps (g.W.Watch.ran c.turn.new.watch + c.turns.steps) (g.W.Watch.ran c.turns.watch + c.turn.new.steps)) (between_under (sym same) (c.turns.invariant.stands image is)) (lost_counts c.turns.invariant.lost c.turns.self.cpu.slots.live.steps c.turn.new.self.steps (g.W.Watch.ran c.turn.new.watch + c.turns.steps) (g.W.Watch.ran c.turns.watch + c.turn.new.steps) c.in-Err-Breaks.ensures.least))) in
         let all = lost_all c.args.steps.now c.turns.invariant.lost c.turns.self.cpu.slots.live.steps c.turn.new.self.steps c.turns.steps c.turn.new.steps (g.W.Watch.ran c.args.watch.now) (g.W.Watch.ran c.turns.watch) (g.W.Watch.ran c.turn.new.watch) c.turns.invariant.counted c.in-Err-Breaks.ensures.least in
-        watched_kept (λ telling. UnlessNoteFault (Breaks c.in-Err-Breaks.why) (HasLeft the_rules image telling c.turn.new.self (Breaks c.in-Err-Breaks.why))) (c.in-Err-Breaks.ensures.keeps.keeping ∙ (c.turns.invariant.keeping ∙ begun_keeping is))
-        (served_off (λ telling. UnlessNoteFault (Breaks c.in-Err-Breaks.why) (HasLeft the_rules image telling c.turn.new.self (Breaks c.in-Err-Breaks.why))) (told_since (g.K.Link.seen c.args.link.now).told (g.N.Notes.shown c.args.notes.now).told (g.N.Notes.shown c.turn.new.notes).told (g.W.Watch.tables c.args.watch.now) (g.W.Watch.tables c.turn.new.watch) (lost_then c.turns.invariant.lost c.turns.self.cpu.slots.live.steps c.turn.new.self.steps (g.W.Watch.ran c.turn.new.watch + c.turns.steps) (g.W.Watch.ran c.turns.watch + c.turn.new.steps))) {first = g.K.Link.seen c.args.link.now} off.0 off.1 (omega (arith, all))
-        (unless_note c.in-Err-Breaks.why _ (λ never.
-        left_off
-        (trimmed_unless c.in-Err-Breaks.why (IsTrimmed c.turn.new.self) never (subst (λ (why : Stop). UnlessNoteStop (Err why) (IsTrimmed c.turn.new.self)) c.in-Err-Breaks.field-0-is (c.in-Err-Breaks.ensures.keeps.trimmed c.turns.invariant.trimmed))) off.0.holds
-        (off_requests c.in-Err-Breaks.why off.0.holds.requests off.0.handled never))))
+        watched_kept (λ telling. LeavesBy the_rules image (g.N.Notes.shown c.args.notes.now).told.unnoted (g.N.Notes.shown c.turn.new.notes).told.unnoted telling c.turn.new.self (Breaks c.in-Err-Breaks.why)) (c.in-Err-Breaks.ensures.keeps.keeping ∙ (c.turns.invariant.keeping ∙ begun_keeping is))
+        (served_off (λ telling. LeavesBy the_rules image (g.N.Notes.shown c.args.notes.now).told.unnoted (g.N.Notes.shown c.turn.new.notes).told.unnoted telling c.turn.new.self (Breaks c.in-Err-Breaks.why)) (told_since (g.K.Link.seen c.args.link.now).told (g.N.Notes.shown c.args.notes.now).told (g.N.Notes.shown c.turn.new.notes).told (g.W.Watch.tables c.args.watch.now) (g.W.Watch.tables c.turn.new.watch) (lost_then c.turns.invariant.lost c.turns.self.cpu.slots.live.steps c.turn.new.self.steps (g.W.Watch.ran c.turn.new.watch + c.turns.steps) (g.W.Watch.ran c.turns.watch + c.turn.new.steps))) {first = g.K.Link.seen c.args.link.now} off.0 off.1 (omega (arith, all))
+        (left_by (g.N.Notes.shown c.args.notes.now).told.unnoted (g.N.Notes.shown c.turn.new.notes).told.unnoted off.0.telling c.in-Err-Breaks.why
+        (subst (λ u. TrimsAt u (g.N.Notes.shown c.turn.new.notes).told.unnoted c.turn.new.self (Breaks c.in-Err-Breaks.why)) (c.turns.invariant.stands image is).going.answers.unnoted
+        (subst (λ (why : Stop). TrimsBy (g.N.Notes.shown c.turns.notes) (g.N.Notes.shown c.turn.new.notes) c.turn.new.self (Err why)) c.in-Err-Breaks.field-0-is (c.in-Err-Breaks.ensures.keeps.trimmed c.turns.invariant.trimmed))) off.0.holds off.0.handled))
 
 pub finish-requires : goal.finish-requires
 finish-requires g c =
@@ -118,7 +117,7 @@ returns-in-Err-Ends-clause-served g c = record {
   where
     by : (image : _) (is : IsBegun image c.args.self.now.options c.args.self.now.cpu.rule c.args.self.now)
         → (watched : HasWatched (rules_by g.R.AccessRule.rule c.args.self.now) image (keeping_for c.args.self.now.options) (g.K.Link.seen c.args.link.now) (g.K.Link.seen c.finish.new.link) (outcome_of c.finish.result c.finish.new.self) (g.N.Notes.shown c.args.notes.now).told (g.N.Notes.shown c.finish.new.notes).told ((g.W.Watch.ran c.args.watch.now + c.turn.new.steps) - (g.W.Watch.ran c.turn.new.watch + c.args.steps.now)) (g.W.Watch.tables c.args.watch.now) (g.W.Watch.tables c.turn.new.watch))
-        × UnlessNoteFault c.finish.result (HasLeft (rules_by g.R.AccessRule.rule c.args.self.now) image watched.recovered.telling c.finish.new.self c.finish.result)
+        × LeavesBy (rules_by g.R.AccessRule.rule c.args.self.now) image (g.N.Notes.shown c.args.notes.now).told.unnoted (g.N.Notes.shown c.finish.new.notes).told.unnoted watched.recovered.telling c.finish.new.self c.finish.result
     by image is =
         let the_rules : Rules = rules_by g.R.AccessRule.rule c.args.self.now in
         let here : Rules = rules_by g.R.AccessRule.rule c.turns.self in
@@ -137,16 +136,16 @@ returns-in-Err-Ends-clause-served g c = record {
         } in
         let all = lost_all c.args.steps.now c.turns.invariant.lost c.turns.self.cpu.slots.live.steps c.turn.new.self.steps c.turns.steps c.turn.new.steps (g.W.Watch.ran c.args.watch.now) (g.W.Watch.ran c.turns.watch) (g.W.Watch.ran c.turn.new.watch) c.turns.invariant.counted c.in-Err-Ends.ensures.least in
         let counts : began.lost + c.turn.new.self.steps ≡ (g.W.Watch.ran c.args.watch.now + c.turn.new.steps) - (g.W.Watch.ran c.turn.new.watch + c.args.steps.now) = omega (arith, all) in
-        watched_kept (λ telling. UnlessNoteFault c.finish.result (HasLeft the_rules image telling c.finish.new.self c.finish.result))
+        watched_kept (λ telling. LeavesBy the_rules image (g.N.Notes.shown c.args.notes.now).told.unnoted (g.N.Notes.shown c.finish.new.notes).told.unnoted telling c.finish.new.self c.finish.result)
         (ap (λ (s : SessionState _). keeping_of s) c.finish.ensures.same ∙ (c.in-Err-Ends.ensures.keeps.keeping ∙ (c.turns.invariant.keeping ∙ begun_keeping is)))
         (subst
         (λ (r : Rules). (watched : HasWatched r image (keeping_of c.finish.new.self) first (g.K.Link.seen c.finish.new.link) (outcome_of c.finish.result c.finish.new.self) (g.N.Notes.shown c.args.notes.now).told (g.N.Notes.shown c.finish.new.notes).told ((g.W.Watch.ran c.args.watch.now + c.turn.new.steps) - (g.W.Watch.ran c.turn.new.watch + c.args.steps.now)) (g.W.Watch.tables c.args.watch.now) (g.W.Watch.tables c.turn.new.watch))
-        × UnlessNoteFault c.finish.result (HasLeft r image watched.recovered.telling c.finish.new.self c.finish.result))
+        × LeavesBy r image (g.N.Notes.shown c.args.notes.now).told.unnoted (g.N.Notes.shown c.finish.new.notes).told.unnoted watched.recovered.telling c.finish.new.self c.finish.result)
         (then ∙ same)
         (subst (λ n. (watched : HasWatched later image (keeping_of c.finish.new.self) first (g.K.Link.seen c.finish.new.link) (outcome_of c.finish.result c.finish.new.self) (g.N.Notes.shown c.args.notes.now).told (g.N.Notes.shown c.finish.new.notes).told n (g.W.Watch.tables c.args.watch.now) (g.W.Watch.tables c.turn.new.watch))
-        × UnlessNoteFault c.finish.result (HasLeft later image watched.recovered.telling c.finish.new.self c.finish.result)) counts
+        × LeavesBy later image (g.N.Notes.shown c.args.notes.now).told.unnoted (g.N.Notes.shown c.finish.new.notes).told.unnoted watched.recovered.telling c.finish.new.self c.finish.result) counts
         (c.finish.ensures.served image began first stops.0 finishing
-        (subst (λ (why : Stop). UnlessNoteStop (Err why) (IsTrimmed c.turn.new.self)) c.in-Err-Ends.field-0-is (c.in-Err-Ends.ensures.keeps.trimmed c.turns.invariant.trimmed)))))
+        (subst (λ (why : Stop). TrimsBy (g.N.Notes.shown c.turns.notes) (g.N.Notes.shown c.turn.new.notes) c.turn.new.self (Err why)) c.in-Err-Ends.field-0-is (c.in-Err-Ends.ensures.keeps.trimmed c.turns.invariant.trimmed)))))
 
 pub returns-in-Err-Breaks-clause-counted_at_least : goal.returns-in-Err-Breaks-clause-counted_at_least
 returns-in-Err-Breaks-clause-counted_at_least g c =

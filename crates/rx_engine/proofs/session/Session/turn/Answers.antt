@@ -1,7 +1,7 @@
 use Rattle.session_history.specs.declared.ends.SessionBreak.TheVariants as session_break
 use Rattle.session_history.specs.declared.ends.SessionEnd.TheVariants as session_end
 use Rattle.session_history.specs.declared.ends.Stop.TheVariants as stop
-use Rattle.rx_engine.proofs.Terms.{Err, ap, arith, refl, rules, subst, sym, ◌+◌, ◌<◌, ◌∙◌, ◌≡◌, ◌≤◌, Ledger, CpuState, Rules, CanGive, unnoted_passing, chosen_serves, exited_serves, memory_serves, passing_serves, unnoted_chosen, unnoted_serves, asks_now, breaks_now, chooses_later, comes_under, emits_later, exits_now, fails_now, fails_under, further_adopted, further_ok, has_run, later_ok, lost_cut, lost_failed, lost_none, ran_frame, ran_keeping, ran_later, ran_low, ran_saved, run_under, if_ok, waits_under, comes_lost, same_rules, still_takes, rules_of, MayServe, rules_by, SessionState, Since}
+use Rattle.rx_engine.proofs.Terms.{Err, ap, arith, inl, refl, rules, subst, sym, ◌+◌, ◌<◌, ◌∙◌, ◌≡◌, ◌≤◌, Ledger, CpuState, Rules, CanGive, unnoted_passing, chosen_serves, exited_serves, memory_serves, passing_serves, trims_on, unnoted_chosen, unnoted_serves, asks_now, breaks_now, chooses_later, comes_under, emits_later, exits_now, fails_now, fails_under, further_adopted, further_ok, has_run, later_ok, lost_cut, lost_failed, lost_none, ran_frame, ran_keeping, ran_later, ran_low, ran_oldest, ran_saved, run_under, if_ok, waits_under, comes_lost, same_rules, trimmed_still, still_takes, rules_of, MayServe, rules_by, SessionState, Since}
 use Rattle.rx_engine.proofs.session.Session.turn.Goals as goal
 
 pub ask-requires : goal.ask-requires
@@ -153,7 +153,7 @@ returns-in-Ok-Asks-clause-keeps g c = record {
   notes = c.ask.ensures.keeps.notes;
   frame = search rules;
   keeping = search rules;
-  trimmed = search rules;
+  trimmed = λ before. c.ask.ensures.keeps.trimmed;
   marked = search rules;
   later =
       further_ok c.ask.result c.args.self.now c.ask.new.self (c.ask.ensures.keeps.until ∙ (ap (λ (s : SessionState _). s.until) c.count_run.ensures ∙ ap (λ (s : SessionState _). s.until) c.self.view_is))
@@ -167,7 +167,7 @@ returns-in-Ok-Emits-clause-keeps g c = record {
   notes = unnoted_serves c.send.result (unnoted_passing c.send.result c.send.ensures.keeps.link.broken);
   frame = search rules;
   keeping = search rules;
-  trimmed = search rules;
+  trimmed = trims_on (g.N.Notes.shown c.args.notes.now) (g.N.Notes.shown c.args.notes.now) c.send.result (ran_oldest c.self.view_is c.run_to_event.ensures.kept refl) c.send.ensures.keeps.oldest;
   marked = search rules;
   later =
       further_ok c.send.result c.args.self.now c.send.new.self (c.send.ensures.keeps.until ∙ ap (λ (s : SessionState _). s.until) c.self.view_is)
@@ -181,7 +181,7 @@ returns-in-Ok-Chooses-clause-keeps g c = record {
   notes = unnoted_serves c.choose.result (unnoted_chosen c.choose.result c.choose.ensures.keeps.broken);
   frame = search rules;
   keeping = search rules;
-  trimmed = search rules;
+  trimmed = trims_on (g.N.Notes.shown c.args.notes.now) (g.N.Notes.shown c.args.notes.now) c.choose.result (ran_oldest c.self.view_is c.run_to_event.ensures.kept refl) c.choose.ensures.keeps.oldest;
   marked = search rules;
   later =
       further_ok c.choose.result c.args.self.now c.choose.new.self (c.choose.ensures.keeps.until ∙ ap (λ (s : SessionState _). s.until) c.self.view_is)
@@ -206,7 +206,7 @@ returns-in-Ok-Failed-clause-keeps g c = record {
   notes = c.recover.ensures.keeps.notes;
   frame = search rules;
   keeping = search rules;
-  trimmed = search rules;
+  trimmed = trims_on (g.N.Notes.shown c.args.notes.now) (g.N.Notes.shown c.recover.new.notes) c.recover.result (ran_oldest c.self.view_is c.run_to_event.ensures.kept c.count_run-in-Ok-Failed.ensures) c.recover.ensures.keeps.oldest;
   marked = search rules;
   later =
       further_adopted c.recover.result c.args.self.now c.count_run-in-Ok-Failed.new.self c.recover.new.self (ap (λ (s : SessionState _). s.until) c.count_run-in-Ok-Failed.ensures ∙ ap (λ (s : SessionState _). s.until) c.self.view_is)
@@ -219,7 +219,7 @@ returns-in-Err-clause-keeps g c = record {
   notes = unnoted_serves (Err (stop.Breaks session_break.Memory)) tt;
   frame = search rules;
   keeping = ran_keeping c.self.view_is c.run_to_event.ensures.kept;
-  trimmed = search rules;
+  trimmed = λ before. inl (trimmed_still (ran_oldest c.self.view_is c.run_to_event.ensures.kept refl) before);
   marked = search rules;
   later = search rules;
 }
