@@ -13,7 +13,7 @@ use Rattle.session_history.specs.Lawful as lawful
 use Rattle.session_history.specs.Owing.{Moment}
 use Rattle.session_history.proofs.Ended.{came_to}
 use Rattle.over_port.proofs.CallLemmas.{gave, took}
-use Rattle.over_crowd.specs.Terms.{Send, sent_to, Entry, LinkEvent, ComesUntold, Coming, Grew, HasEnded, Told, last_taken, CrowdEntry, Limits, told_nothing, AreCalls, Served, entries_of, fresh_served, served_after, served_of, IsJustBound, Stands, link_journal, told_at, with_ends, Image, SessionEnd, Stop, IsBroken, Session, after_ending, journal_of, AtBreak, IsEnded, before_end, Bounds, Rules, passed_behind, Noted, Keeping, HasRecovered, IsOutcome, Outcome, IsRecordedUpTo, IsTrunkFault}
+use Rattle.over_crowd.specs.Terms.{Send, sent_to, Entry, LinkEvent, ComesUntold, Coming, Grew, HasEnded, Told, last_taken, CrowdEntry, Limits, told_nothing, AreCalls, Served, entries_of, fresh_served, served_after, served_of, IsJustBound, Stands, link_journal, told_at, with_ends, Image, SessionEnd, Stop, IsBroken, Session, after_ending, journal_of, AtBreak, IsEnded, before_end, Bounds, Rules, passed_behind, Noted, Keeping, HasRecovered, IsOutcome, Outcome, RecordsAt}
 use Rattle.over_crowd.specs.Serving.{CalledCrowd, EndsAfter, GoesOverCrowd, ServesCrowd}
 use Rattle.over_crowd.proofs.CallLemmas.{accepted_counted, closed_counted, given_is, open_at_most, taken_is}
 
@@ -104,7 +104,7 @@ goes_over limits rules (Some old) (Some new) connections place session bound wen
 -- a session over a link that was made over a crowd
 pub serves : (limits : Limits) (rules : Rules) (keeping : Keeping) (image : Image) {old new : Option (List CrowdEntry)} {connections : List Bool} {place : Place} (before seen : Seen) {outcome : Outcome} {noted_before noted_now : Noted} {counted : ℕ} {first last : Limits}
     → IsJustBound old → first ≡ limits → last ≡ first → WentOn first old new → Stands new connections last place → before.told ≡ told_nothing old → seen.told ≡ told_at new place → seen.coming ≡ Some ComesUntold
-    → (recovered : HasRecovered rules image keeping before seen outcome noted_before noted_now counted) → AtBreak outcome.stop (λ fault. IsTrunkFault fault → IsRecordedUpTo rules image keeping recovered.telling outcome)
+    → (recovered : HasRecovered rules image keeping before seen outcome noted_before noted_now counted) → AtBreak outcome.stop (RecordsAt rules image keeping recovered.telling outcome noted_before noted_now)
     → ServesCrowd limits rules keeping image old new outcome noted_before noted_now counted
 serves limits rules keeping image {old = old} {new = new} {connections = connections} {place = place} before seen {outcome = outcome} {noted_before = noted_before} {noted_now = noted_now} {counted = counted} {first = first} {last = last}
     bound first_is last_is went stands began told coming recovered recorded = record {

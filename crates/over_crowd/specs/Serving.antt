@@ -3,7 +3,7 @@ use Rattle.std.specs.Prelude.{◌≡◌, ◌≢◌, ℕ, ◌<◌, List, ◌++◌
 use Rattle.run_history.specs.declared.answer.Answer.TheVariants as answer
 use Rattle.session_history.specs.declared.ends.SessionEnd.TheVariants as session_end
 use Rattle.session_state.specs.Sessions.{IsBegun, SessionState}
-use Rattle.over_crowd.specs.Terms.{sent_to, Entry, ComesUntold, events_in, CrowdEntry, Limits, AreCalls, entries_of, fresh_served, served_after, with_ends, Image, Answer, SessionEnd, Stop, Session, journal_of, AtBreak, answer_of, Bounds, Rules, passed_in, Noted, Shown, Keeping, keeping_for, IsOutcome, Outcome, Telling, NotesAnswer, outcome_of, IsRecordedUpTo, IsTrunkFault, received_from}
+use Rattle.over_crowd.specs.Terms.{sent_to, Entry, ComesUntold, events_in, CrowdEntry, Limits, AreCalls, entries_of, fresh_served, served_after, with_ends, Image, Answer, SessionEnd, Stop, Session, journal_of, AtBreak, answer_of, Bounds, Rules, passed_in, Noted, Shown, Keeping, keeping_for, IsOutcome, Outcome, Telling, NotesAnswer, outcome_of, RecordsAt, received_from}
 use Rattle.over_crowd.specs.Calls.{OpenAtMost, given_to, is_accept, is_close, taken_of}
 
 -- All that came and went is what these calls made of the connections. No call tells the end, which is answered only where as many as
@@ -42,11 +42,11 @@ GoesOverCrowd limits rules (Some old) None session = ⊥
 GoesOverCrowd limits rules (Some old) (Some new) session = CalledCrowd limits rules old new session
 
 -- What a session leaves that served a crowd within these limits: its outcome, by one telling of it, over a link that refuses nothing; how much
--- is recorded, where the crowd failed; and beside it the crowd's calls.
+-- is recorded, where it was broken off; and beside it the crowd's calls.
 pub record ServesCrowd (limits : Limits) (rules : Rules) (keeping : Keeping) (image : Image) (calls calls_later : Option (List CrowdEntry)) (outcome : Outcome) (noted_before noted_now : Noted) (counted : ℕ) : Type 0 where
   pub telling : Telling
   pub is : IsOutcome rules image keeping (Some ComesUntold) telling outcome noted_before noted_now counted
-  pub recorded : AtBreak outcome.stop (λ fault. IsTrunkFault fault → IsRecordedUpTo rules image keeping telling outcome)
+  pub recorded : AtBreak outcome.stop (RecordsAt rules image keeping telling outcome noted_before noted_now)
   pub goes : GoesOverCrowd limits rules calls calls_later telling.account
 
 -- A session that was begun has served a crowd, and answers so: why it stopped; what it leaves; and what its notes show. Its input is never refused,

@@ -24,5 +24,5 @@ pub use Rattle.recovery.specs.Handling.{Keeping}
 pub use Rattle.session_state.specs.Options.{keeping_for}
 pub use Rattle.session_state.specs.Recovered.{HasRecovered, IsOutcome, Outcome, Telling}
 pub use Rattle.session_state.specs.Serving.{NotesAnswer, outcome_of, rules_by}
-pub use Rattle.over_trunk.specs.Serving.{IsRecordedUpTo, IsTrunkFault}
+pub use Rattle.over_trunk.specs.Serving.{RecordsAt}
 pub use Rattle.over_port.specs.Calls.{bytes_from, received_from}

@@ -14,7 +14,7 @@ use Rattle.session_history.specs.Giving.{AreGiven}
 use Rattle.session_history.specs.Lawful.{entries_of}
 use Rattle.session_history.specs.Owing.{Moment}
 use Rattle.session_history.proofs.Ended.{came_to}
-use Rattle.over_port.specs.Terms.{ListenEntry, Send, sent_to, Entry, LinkEvent, ComesUntold, Coming, Counts, Grew, HasEnded, Refuses, Told, last_taken, Place, Waiting, told_nothing, AreCalls, Port, fresh_port, port_after, port_of, IsAt, IsJustBound, Stands, link_journal, told_at, Image, Answer, SessionEnd, Stop, IsBroken, Session, after_ending, journal_of, HasAnswerCause, AtBreak, IsEnded, answer_of, before_end, Bounds, Rules, passed_behind, Noted, Keeping, HasRecovered, IsOutcome, Outcome, IsRecordedUpTo, IsTrunkFault}
+use Rattle.over_port.specs.Terms.{ListenEntry, Send, sent_to, Entry, LinkEvent, ComesUntold, Coming, Counts, Grew, HasEnded, Refuses, Told, last_taken, Place, Waiting, told_nothing, AreCalls, Port, fresh_port, port_after, port_of, IsAt, IsJustBound, Stands, link_journal, told_at, Image, Answer, SessionEnd, Stop, IsBroken, Session, after_ending, journal_of, HasAnswerCause, AtBreak, IsEnded, answer_of, before_end, Bounds, Rules, passed_behind, Noted, Keeping, HasRecovered, IsOutcome, Outcome, RecordsAt}
 use Rattle.over_port.specs.Serving.{CalledPort, EndsAfter, GoesOverPort, ServesPort, port_counts}
 use Rattle.over_port.proofs.CallLemmas.{all_closed, gave, given_is, taken_is, took}
 
@@ -96,7 +96,7 @@ goes_over conns rules (Some old) (Some new) connected place session bound went s
 -- a session over a link that was made over a listener
 pub serves : (conns : ℕ) (rules : Rules) (keeping : Keeping) (image : Image) {old new : Option (List ListenEntry)} {connected : Bool} {place : Place} (before seen : Seen) {outcome : Outcome} {noted_before noted_now : Noted} {counted first last : ℕ}
     → IsJustBound old → first ≡ conns → last ≡ first → WentOn first old new → Stands new connected last place → before.told ≡ told_nothing old → seen.told ≡ told_at new place → seen.coming ≡ Some ComesUntold
-    → (recovered : HasRecovered rules image keeping before seen outcome noted_before noted_now counted) → AtBreak outcome.stop (λ fault. IsTrunkFault fault → IsRecordedUpTo rules image keeping recovered.telling outcome)
+    → (recovered : HasRecovered rules image keeping before seen outcome noted_before noted_now counted) → AtBreak outcome.stop (RecordsAt rules image keeping recovered.telling outcome noted_before noted_now)
     → ServesPort conns rules keeping image old new outcome noted_before noted_now counted
 serves conns rules keeping image {old = old} {new = new} {connected = connected} {place = place} before seen {outcome = outcome} {noted_before = noted_before} {noted_now = noted_now} {counted = counted} {first = first} {last = last}
     bound first_is last_is went stands began told coming recovered recorded = record {

@@ -2,7 +2,7 @@
 use Rattle.std.specs.Prelude.{◌≡◌, ◌≢◌, ℕ, ◌<◌, List, ◌++◌, count_by, Option, None, Some, IfSome}
 use Rattle.run_history.specs.declared.answer.Answer.TheVariants as answer
 use Rattle.session_history.specs.declared.ends.SessionEnd.TheVariants as session_end
-use Rattle.over_port.specs.Terms.{ListenEntry, sent_to, Entry, ComesUntold, Counts, events_in, Place, Waiting, AreCalls, fresh_port, port_after, IsAt, link_journal, Image, Answer, SessionEnd, Stop, Session, journal_of, AtBreak, answer_of, Bounds, Rules, passed_in, Noted, Shown, Keeping, keeping_for, IsOutcome, Outcome, Telling, NotesAnswer, outcome_of, IsBegun, SessionState, IsRecordedUpTo, IsTrunkFault}
+use Rattle.over_port.specs.Terms.{ListenEntry, sent_to, Entry, ComesUntold, Counts, events_in, Place, Waiting, AreCalls, fresh_port, port_after, IsAt, link_journal, Image, Answer, SessionEnd, Stop, Session, journal_of, AtBreak, answer_of, Bounds, Rules, passed_in, Noted, Shown, Keeping, keeping_for, IsOutcome, Outcome, Telling, NotesAnswer, outcome_of, IsBegun, SessionState, RecordsAt}
 use Rattle.over_port.specs.Calls.{is_accept, is_close, given_to, taken_of, received_from}
 
 -- how often a bind or an accept has failed, as a link over a listener counts it: no give of it is a fault of writing
@@ -45,11 +45,11 @@ GoesOverPort conns rules (Some old) None session = ⊥
 GoesOverPort conns rules (Some old) (Some new) session = CalledPort conns rules old new session
 
 -- What a session leaves that served so many connections of a port: its outcome, by one telling of it, over a link that refuses nothing; how much
--- is recorded, where the listener failed; and beside it the listener's calls.
+-- is recorded, where it was broken off; and beside it the listener's calls.
 pub record ServesPort (conns : ℕ) (rules : Rules) (keeping : Keeping) (image : Image) (calls calls_later : Option (List ListenEntry)) (outcome : Outcome) (noted_before noted_now : Noted) (counted : ℕ) : Type 0 where
   pub telling : Telling
   pub is : IsOutcome rules image keeping (Some ComesUntold) telling outcome noted_before noted_now counted
-  pub recorded : AtBreak outcome.stop (λ fault. IsTrunkFault fault → IsRecordedUpTo rules image keeping telling outcome)
+  pub recorded : AtBreak outcome.stop (RecordsAt rules image keeping telling outcome noted_before noted_now)
   pub goes : GoesOverPort conns rules calls calls_later telling.account
 
 -- A session that was begun has served a port, and answers so: why it stopped; what it leaves; and what its notes show. Its input is never refused, and

@@ -27,4 +27,4 @@ pub use Rattle.session_state.specs.Options.{keeping_for}
 pub use Rattle.session_state.specs.Recovered.{HasRecovered, IsOutcome, Outcome, Telling}
 pub use Rattle.session_state.specs.Serving.{NotesAnswer, outcome_of, rules_by}
 pub use Rattle.session_state.specs.Sessions.{IsBegun, SessionState}
-pub use Rattle.over_trunk.specs.Serving.{IsRecordedUpTo, IsTrunkFault}
+pub use Rattle.over_trunk.specs.Serving.{RecordsAt}

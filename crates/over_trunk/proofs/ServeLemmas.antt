@@ -2,7 +2,7 @@
 use Rattle.session_history.specs.declared.ends.SessionBreak.TheVariants as session_break
 use Rattle.session_history.specs.declared.ends.SessionEnd.TheVariants as session_end
 use Rattle.session_history.specs.declared.ends.Stop.TheVariants as stop
-use Rattle.over_trunk.proofs.Terms.{All, Bool, List, None, Option, Some, [], ap, false, inl, inr, length, option_map, refl, subst, sym, true, ℕ, ◌++◌, ◌∙◌, ◌≡◌, fun_ext, same_Some, Appends, IfSome, IsSome, is_some, IsDrained, Stream, Took, Entry, LinkEvent, Coming, Grew, Handed, IsFresh, Piece, Told, events_in, pieces_in, Seen, Countable, count_after, frames, AreInOrder, GivesOn, Intake, IsCut, IsFramed, IsTail, Output, TakesOn, TookFrames, WroteFrames, phases_behind, fresh, told_coming, told_events, told_nothing, told_pieces, trunk_told, Image, SessionBreak, SessionEnd, Stop, end_then, Session, after_ending, journal_of, AtBreak, HandedLast, HasComeTo, StaysKnown, TakesAtEnd, WasAsked, answer_of, before_end, HasHanded, Bounds, Rules, Try, Noted, Keeping, stands_of, HandledAt, HasLeft, keeping_of, HasWatched, Outcome, Telling, BreaksAt, LinkAnswers, UnlessNoteFault, outcome_of, SessionState, BreaksTrunk, Carries, StopsTrunk, TakesNoPart, TakesTrunk, TookTrunk, WritesTrunk, WritesWhole, HeadsAt, HeadsDue, HeadsTrunk, IsRecordedUpTo, IsTrunkFault, WatchesTrunk}
+use Rattle.over_trunk.proofs.Terms.{All, Bool, List, None, Option, Some, [], ap, false, inl, inr, length, option_map, refl, subst, sym, true, ℕ, ◌++◌, ◌∙◌, ◌≡◌, fun_ext, same_Some, Appends, IfSome, IsSome, is_some, IsDrained, Stream, Took, Entry, LinkEvent, Coming, Grew, Handed, IsFresh, Piece, Told, events_in, pieces_in, Seen, Countable, count_after, frames, AreInOrder, GivesOn, Intake, IsCut, IsFramed, IsTail, Output, TakesOn, TookFrames, WroteFrames, phases_behind, fresh, told_coming, told_events, told_nothing, told_pieces, trunk_told, Image, SessionBreak, SessionEnd, Stop, end_then, Session, after_ending, journal_of, AtBreak, HandedLast, HasComeTo, StaysKnown, TakesAtEnd, WasAsked, answer_of, before_end, HasHanded, Bounds, Rules, Try, Noted, Unnoted, Keeping, stands_of, HandledAt, HandlesRequests, HasKept, HasLeft, LeavesBy, keeping_of, HasWatched, Outcome, Telling, BreaksAt, LinkAnswers, outcome_of, SessionState, BreaksTrunk, Carries, StopsTrunk, TakesNoPart, TakesTrunk, TookTrunk, WritesTrunk, WritesWhole, HeadsAt, HeadsDue, HeadsTrunk, IsRecordedLow, IsRecordedUpTo, RecordsAt, WatchesTrunk}
 use Rattle.over_trunk.proofs.WriteLemmas.{wrote_headed, Short, wrote_trunk, wrote_frames}
 use Rattle.recovery.proofs.Handled.{has_ring}
 use Rattle.over_trunk.proofs.ReadLemmas.{tail_none, tail_asked, events_told, stands_behind}
@@ -229,19 +229,41 @@ recorded_up_to {rules = rules} {image = image} {keeping = keeping} {telling = te
       recorded = left.recorded;
     }
 
--- what is recorded where the link failed, by what the session left
-pub left_recorded : {R : Type 0} (rules : Rules) (image : Image) {keeping : Keeping} (telling : Telling) (session : SessionState R) (why : Stop) → keeping_of session ≡ keeping → UnlessNoteFault why (HasLeft rules image telling session why)
-    → AtBreak why (λ fault. IsTrunkFault fault → IsRecordedUpTo rules image keeping telling (outcome_of why session))
-left_recorded rules image telling session (stop.Ends end) same left = tt
-left_recorded rules image telling session (stop.Breaks session_break.ReadFault) same left = λ is. recorded_up_to session_break.ReadFault same left
-left_recorded rules image telling session (stop.Breaks session_break.WriteFault) same left = λ is. recorded_up_to session_break.WriteFault same left
-left_recorded rules image telling session (stop.Breaks session_break.FileFault) same left = λ is. absurd is
-left_recorded rules image telling session (stop.Breaks session_break.Memory) same left = λ is. absurd is
+recorded_low : {R : Type 0} {rules : Rules} {image : Image} {keeping : Keeping} {telling : Telling} {session : SessionState R} {before now : Option Unnoted} (fault : SessionBreak) → keeping_of session ≡ keeping → HasKept rules image before now telling session
+    → IsRecordedLow rules image keeping telling (outcome_of (stop.Breaks fault) session) before now
+recorded_low {rules = rules} {image = image} {telling = telling} {session = session} fault same kept =
+    let h = kept.holds in
+    let account : Session = telling.account in
+    record {
+      ring = h.paths;
+      chained = h.chained;
+      checkpoints = h.are;
+      stands = stands_of session.cpu.slots.saved;
+      ringed = has_ring session.cpu.slots.saved h.paths h.as_many h.saved;
+      handled =
+          subst (λ (k : Keeping). HandlesRequests rules image k account.earlier (before_end account) telling.recoveries account.survivor (stands_of session.cpu.slots.saved)) same h.requests;
+      oldest = kept.oldest;
+      oldest_is = kept.oldest_is;
+      recorded = kept.recorded;
+      up_to = elim kept.up_to [
+        | inl whole ↦ inl whole.1
+        | inr fails ↦ inr fails
+      ];
+    }
+
+-- what is recorded where a session was broken off, by what it left
+pub left_recorded : {R : Type 0} (rules : Rules) (image : Image) {keeping : Keeping} (before now : Noted) (telling : Telling) (session : SessionState R) (why : Stop) → keeping_of session ≡ keeping → LeavesBy rules image before.unnoted now.unnoted telling session why
+    → AtBreak why (RecordsAt rules image keeping telling (outcome_of why session) before now)
+left_recorded rules image before now telling session (stop.Ends end) same left = tt
+left_recorded rules image before now telling session (stop.Breaks session_break.ReadFault) same left = recorded_up_to session_break.ReadFault same left
+left_recorded rules image before now telling session (stop.Breaks session_break.WriteFault) same left = recorded_up_to session_break.WriteFault same left
+left_recorded rules image before now telling session (stop.Breaks session_break.FileFault) same left = recorded_low session_break.FileFault same left
+left_recorded rules image before now telling session (stop.Breaks session_break.Memory) same left = recorded_low session_break.Memory same left
 
 -- a session over a link that was made
 pub watches : (rules : Rules) (keeping : Keeping) (image : Image) {old new : Intake} {out later : Output} (before rest : Seen) {outcome : Outcome} {noted_before noted_now : Noted} {counted : ℕ} {tables_before tables : Option (List (List Try))}
     → StartsTrunk (shows_by old out before).told old out → WentTrunk old new out later → LinkAnswers (shows_by old out before) (shows_by new later rest) outcome.stop
-    → (watched : HasWatched rules image keeping (shows_by old out before) (shows_by new later rest) outcome noted_before noted_now counted tables_before tables) → AtBreak outcome.stop (λ fault. IsTrunkFault fault → IsRecordedUpTo rules image keeping watched.recovered.telling outcome)
+    → (watched : HasWatched rules image keeping (shows_by old out before) (shows_by new later rest) outcome noted_before noted_now counted tables_before tables) → AtBreak outcome.stop (RecordsAt rules image keeping watched.recovered.telling outcome noted_before noted_now)
     → WatchesTrunk rules keeping image old.told new.told out.told later.told outcome noted_before noted_now counted tables_before tables
 watches rules keeping image {old = old} {new = new} {out = out} {later = later} before rest {outcome = outcome} starts went answers watched recorded =
     let recovered = watched.recovered in

@@ -1,9 +1,9 @@
 -- What a session leaves that served a trunk.
-use Rattle.std.specs.Prelude.{◌≡◌, ℕ, ◌-◌, List, length, Option, Some, IfSome, slice_get, None, is_some, [], ◌≢◌}
+use Rattle.std.specs.Prelude.{◌≡◌, ◌⊎◌, ℕ, ◌-◌, ◌≤◌, List, length, Option, Some, IfSome, slice_get, None, is_some, [], ◌≢◌}
 use Rattle.session_history.specs.declared.ends.SessionBreak.TheVariants as session_break
 use Rattle.trials.specs.Chains.{AreChained, AreCheckpoints}
 use Rattle.recovery.specs.Watching.{TellsMore}
-use Rattle.over_trunk.specs.Terms.{Stream, Prefix, Coming, Counts, cut_entries, events_in, pieces_in, Image, Answer, Path, SessionBreak, Stop, Session, after_ending, journal_of, AtBreak, AtEnd, WasAsked, answer_of, before_end, items_in, IsWholePiece, Rules, Try, Noted, Shown, HasRing, Keeping, Stand, HandledAt, keeping_for, AreAllTables, IsOutcome, Outcome, Telling, story_of, NotesAnswer, outcome_of, IsBegun, SessionState}
+use Rattle.over_trunk.specs.Terms.{Stream, Prefix, Coming, Counts, cut_entries, events_in, pieces_in, Image, Answer, Path, SessionBreak, Stop, Session, after_ending, journal_of, AtBreak, AtEnd, WasAsked, answer_of, before_end, items_in, IsWholePiece, Rules, Try, Noted, Shown, Unnoted, HasRing, Keeping, Stand, HandledAt, HandlesRequests, keeping_for, AreAllTables, FailsUpTo, IsOutcome, Outcome, Telling, story_of, NotesAnswer, outcome_of, IsBegun, SessionState}
 use Rattle.over_trunk.specs.Trunk.{TakesTrunk, StopsTrunk, WritesTrunk, WritesWhole, BreaksTrunk, Carries, WroteTrunk}
 
 -- how often a source and a sink have failed, as a link over both counts it
@@ -61,20 +61,35 @@ pub record IsRecordedUpTo (rules : Rules) (image : Image) (keeping : Keeping) (t
   pub oldest_is : slice_get ring (length ring - 1) ≡ Some oldest
   pub recorded : outcome.recorded ≡ length oldest.choices
 
--- a fault of the source or of the sink
-abbrev pub IsTrunkFault : SessionBreak → Type 0
-IsTrunkFault session_break.ReadFault = Unit {0}
-IsTrunkFault session_break.WriteFault = Unit {0}
-IsTrunkFault session_break.FileFault = ⊥
-IsTrunkFault session_break.Memory = ⊥
+-- How much is recorded of a session whose notes failed, or whose memory ran out. Such checkpoints stand; and of the run's answers of malloc no more are
+-- recorded than the oldest of them had used. All that it had used are; or a call of the notes failed that was handed just those that aren't recorded. What
+-- the first failed call of the notes was handed was the first of these when the session began, and is the second now.
+pub record IsRecordedLow (rules : Rules) (image : Image) (keeping : Keeping) (telling : Telling) (outcome : Outcome) (before now : Option Unnoted) : Type 0 where
+  pub ring : List Path
+  pub chained : AreChained rules.limits (items_in rules.bounds (before_end telling.account)) telling.account.survivor.plan image telling.account.survivor.now ring
+  pub checkpoints : AreCheckpoints rules.limits image ring
+  pub stands : List Stand
+  pub ringed : HasRing stands ring
+  pub handled : HandlesRequests rules image keeping telling.account.earlier (before_end telling.account) telling.recoveries telling.account.survivor stands
+  pub oldest : Path
+  pub oldest_is : slice_get ring (length ring - 1) ≡ Some oldest
+  pub recorded : outcome.recorded ≤ length oldest.choices
+  pub up_to : (outcome.recorded ≡ length oldest.choices) ⊎ FailsUpTo before now (length oldest.choices) outcome.recorded outcome.tail
 
--- What a session leaves that served a trunk over a source and a sink: its outcome, by one telling of it; how much is recorded, where one of both
--- failed; and beside it the trunk's bytes.
+-- so it is at each fault, and where memory ran out
+abbrev pub RecordsAt : Rules → Image → Keeping → Telling → Outcome → Noted → Noted → SessionBreak → Type 0
+RecordsAt rules image keeping telling outcome before now session_break.ReadFault = IsRecordedUpTo rules image keeping telling outcome
+RecordsAt rules image keeping telling outcome before now session_break.WriteFault = IsRecordedUpTo rules image keeping telling outcome
+RecordsAt rules image keeping telling outcome before now session_break.FileFault = IsRecordedLow rules image keeping telling outcome before.unnoted now.unnoted
+RecordsAt rules image keeping telling outcome before now session_break.Memory = IsRecordedLow rules image keeping telling outcome before.unnoted now.unnoted
+
+-- What a session leaves that served a trunk over a source and a sink: its outcome, by one telling of it; how much is recorded, where it was broken
+-- off; and beside it the trunk's bytes.
 pub record ServesTrunk (rules : Rules) (keeping : Keeping) (image : Image) (source source_later : Option Stream) (sink sink_later : Option (List ℕ)) (outcome : Outcome) (noted_before noted_now : Noted) (counted : ℕ) : Type 0 where
   pub coming : Option Coming
   pub telling : Telling
   pub is : IsOutcome rules image keeping coming telling outcome noted_before noted_now counted
-  pub recorded : AtBreak outcome.stop (λ fault. IsTrunkFault fault → IsRecordedUpTo rules image keeping telling outcome)
+  pub recorded : AtBreak outcome.stop (RecordsAt rules image keeping telling outcome noted_before noted_now)
   pub bytes : GoesOverTrunk rules source source_later sink sink_later coming telling.account outcome.stop
 
 -- A session that was watched has served a trunk, and its watch, where it tells its tables, has told those of its recoveries more.

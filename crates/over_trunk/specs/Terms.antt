@@ -48,10 +48,10 @@ pub use Rattle.schedule_file.specs.declared.recorded.TheConstants.{VERSION}
 pub use Rattle.schedule_file.specs.Lines.{choice_line, choice_lines, line_of, lines_text}
 unfoldable pub use Rattle.schedule_file.specs.Lines.{end_line, head_line}
 pub use Rattle.schedule_file.specs.Records.{IsAnswer, IsAskOf, IsRecord, record_of, text_of}
-pub use Rattle.session_state.specs.Leaving.{HandledAt, HasLeft, keeping_of}
+pub use Rattle.session_state.specs.Leaving.{HandledAt, HandlesRequests, HasKept, HasLeft, LeavesBy, keeping_of}
 pub use Rattle.session_state.specs.Options.{keeping_for}
-pub use Rattle.session_state.specs.Recovered.{AreAllTables, AreLastTables, AreTables, HasGivenUp, HasWatched, IsHandedLast, IsOutcome, IsTable, IsTelling, Outcome, Telling, Walk, entries, episodes_of, story_of, walk_behind}
-pub use Rattle.session_state.specs.Serving.{BreaksAt, LinkAnswers, NotesAnswer, UnlessNoteFault, outcome_of, rules_by}
+pub use Rattle.session_state.specs.Recovered.{AreAllTables, AreLastTables, AreTables, FailsUpTo, HasGivenUp, HasWatched, IsHandedLast, IsOutcome, IsTable, IsTelling, Outcome, Telling, Walk, entries, episodes_of, story_of, walk_behind}
+pub use Rattle.session_state.specs.Serving.{BreaksAt, LinkAnswers, NotesAnswer, outcome_of, rules_by}
 pub use Rattle.session_state.specs.Sessions.{IsBegun, SessionState}
 pub use Rattle.replay.specs.declared.difference.Difference.{Difference}
 pub use Rattle.replay.specs.Differing.{HasDifference, TellsDifference}

@@ -25,7 +25,7 @@ returns-clause-served g c =
                 (search (rules, made.conns)) went.conns went.went (port_stands c.serve_told.new.link)
                 (made.told ∙ (λ i. told_nothing (g.E.Listener.told ((sym made.listener) i).now))) refl refl
                 recovered.0.recovered
-                (left_recorded (rules_by g.R.AccessRule.rule c.args.session.now) image recovered.0.recovered.telling c.serve_told.new.session has.why has.keeping recovered.1),
+                (left_recorded (rules_by g.R.AccessRule.rule c.args.session.now) image (g.N.Notes.shown c.args.notes.now).told (g.N.Notes.shown c.serve_told.new.notes).told recovered.0.recovered.telling c.serve_told.new.session has.why has.keeping recovered.1),
           );
       notes = search (rules, has.notes);
       never_refused = λ kind offset is. no_refusal has.why kind offset ended (sym has.is ∙ is);

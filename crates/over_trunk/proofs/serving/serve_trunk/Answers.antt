@@ -24,7 +24,7 @@ returns-clause-served g c =
       told = made.told ∙ (λ i. told_nothing (g.S.Source.told ((sym made.fresh.source_is) i).now) (g.K.Sink.told ((sym made.fresh.sink_is) i).now));
     })
     (record { countable = g.met.S.Source.countable c.serve_watched_told.new.link.source.now; short = g.met.K.Sink.countable c.serve_watched_told.new.link.sink.now; taken = went.taken; given = went.given })
-    has.link (has.served image begun).0 (left_recorded (rules_by g.R.AccessRule.rule c.args.session.now) image (has.served image begun).0.recovered.telling c.serve_watched_told.new.session has.why has.keeping (has.served image begun).1) in
+    has.link (has.served image begun).0 (left_recorded (rules_by g.R.AccessRule.rule c.args.session.now) image (g.N.Notes.shown c.args.notes.now).told (g.N.Notes.shown c.serve_watched_told.new.notes).told (has.served image begun).0.recovered.telling c.serve_watched_told.new.session has.why has.keeping (has.served image begun).1) in
     record { why = has.why; is = has.is; served = λ image begun. watches_at (search rules) (search rules) (search rules) (search rules) (served image begun); notes = has.notes }
 
 pub returns-clause-cause : goal.returns-clause-cause
