@@ -4,7 +4,7 @@ use Rattle.std.specs.Io.KnownBytes.{Appends}
 use Rattle.session_history.specs.declared.ends.SessionEnd.TheVariants as session_end
 use Rattle.over_crowd.specs.Calls as crowd
 use Rattle.over_crowd.specs.Serving as gathered
-use Rattle.rx_serve.specs.Terms.{ListenEntry, IsDrained, Stream, Prefix, ComesUntold, Coming, CrowdEntry, Limits, payload, Image, Answer, output, SessionEnd, Stop, Session, journal_of, AtBreak, IsEnd, Rules, is_open, Try, Noted, Keeping, TellsMore, AreAllTables, IsOutcome, Outcome, Telling, story_of, GoesOverTrunk, IsRecordedUpTo, IsTrunkFault, given_to, EndsAfter, GoesOverPort, GoesOverCrowd}
+use Rattle.rx_serve.specs.Terms.{ListenEntry, IsDrained, Stream, Prefix, ComesUntold, Coming, CrowdEntry, Limits, payload, Image, Answer, output, SessionEnd, Stop, Session, journal_of, AtBreak, IsEnd, Rules, is_open, Try, Noted, Keeping, TellsMore, AreAllTables, IsOutcome, Outcome, Telling, story_of, GoesOverTrunk, RecordsAt, given_to, EndsAfter, GoesOverPort, GoesOverCrowd}
 use Rattle.rx_serve.specs.Outside.{Outside}
 
 -- A trunk, by what its source and its sink told before and after; or so many connections of a port, one after another, by the calls that its listener
@@ -24,13 +24,13 @@ GoesOver (Trunk source source_later sink sink_later) rules coming session why = 
 GoesOver (Port conns calls calls_later) rules coming session why = (coming ≡ Some ComesUntold) × GoesOverPort conns rules calls calls_later session
 GoesOver (Several limits calls calls_later) rules coming session why = (coming ≡ Some ComesUntold) × GoesOverCrowd limits rules calls calls_later session
 
--- What a session leaves that served it: its outcome, by one telling of it; how much is recorded, where the input or the output failed; and beside it
+-- What a session leaves that served it: its outcome, by one telling of it; how much is recorded, where it was broken off; and beside it
 -- what came and went.
 pub record Serves (route : Route) (rules : Rules) (keeping : Keeping) (image : Image) (outcome : Outcome) (before now : Noted) (counted : ℕ) : Type 0 where
   pub coming : Option Coming
   pub telling : Telling
   pub is : IsOutcome rules image keeping coming telling outcome before now counted
-  pub recorded : AtBreak outcome.stop (λ fault. IsTrunkFault fault → IsRecordedUpTo rules image keeping telling outcome)
+  pub recorded : AtBreak outcome.stop (RecordsAt rules image keeping telling outcome before now)
   pub goes : GoesOver route rules coming telling.account outcome.stop
 
 -- A session that was watched served so, and its watch, where it tells its tables, has told those of its recoveries more.

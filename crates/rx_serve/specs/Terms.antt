@@ -78,7 +78,7 @@ pub use Rattle.replay.specs.Replaying.{EndsBy, bounds_of}
 pub use Rattle.over_trunk.specs.Converting.{ConvertsTrunk, TellsConverted}
 pub use Rattle.over_trunk.specs.EndLaws.{AreAllHeeded, NoOtherEnd, SendsAreWritten}
 pub use Rattle.over_trunk.specs.Replaying.{ReplaysTrunk, WritesSends}
-pub use Rattle.over_trunk.specs.Serving.{GoesOverTrunk, HasServedTrunk, IsRecordedUpTo, IsTrunkFault, ServesTrunk, WatchesTrunk}
+pub use Rattle.over_trunk.specs.Serving.{GoesOverTrunk, HasServedTrunk, RecordsAt, ServesTrunk, WatchesTrunk}
 pub use Rattle.over_trunk.specs.WatchLaws.{BeginWith, NotedTablesAreTold}
 pub use Rattle.over_port.specs.Calls.{given_to}
 pub use Rattle.over_port.specs.Serving.{CalledPort, EndsAfter, GoesOverPort, ServesPort}
