@@ -1,11 +1,10 @@
 -- Chances of a table are tried one after another.
 use Rattle.std.proofs.lemmas.List.{map-append, take_all}
 use Rattle.block_book.specs.Heap.{Heap}
-use Rattle.item_log.specs.Log.{Log}
-use Rattle.reply_ledger.specs.Ledger.{Ledger}
-use Rattle.guest_cpu.specs.Cpus.{CpuState}
 use Rattle.session_history.proofs.Connected.{take_one}
-use Rattle.recovery.specs.Trying.{KeepsLedger, KeepsSaved}
+use Rattle.recovery.specs.declared.recoverable.Recoverable.{Recoverable}
+use Rattle.recovery.specs.Recoverables.{KeepsUntried}
+use Rattle.recovery.specs.Trying.{KeepsLedger}
 use Rattle.recovery.specs.Walking.{IsMade}
 use Rattle.diagnosis.proofs.Terms.{AllocError, Bool, List, Some, [], ap, append-nil, append_assoc, length, refl, subst, sym, take, ℕ, ◌++◌, ◌+◌, ◌∙◌, ◌∷◌, ◌≡◌, ◌≤◌, All-append, All-cons, All-nil, Err, Ok, OnOk, Result, map, slice_get, Env, Path, Try, Chance, IsRight, Trial, chances_at, environments, table, try_of, FailedAt, Failure, IsUnder, items_of, pieces_of, IsTableOf, NotesBy, NotesTries}
 
@@ -80,15 +79,15 @@ notes_table {failure = failure} {point = point} {index = index} past some = reco
 
 module _ {R : Type 0} where
   -- what holds of the loop over environments, and of that over checkpoints
-  pub record ExaminedEnvs (permits : R → Heap → ℕ → ℕ → Bool) (budget point index : ℕ) (log : Log) (began now : CpuState R) (old new : Ledger) (before after : ℕ) (noted tries : List Try) (place : ℕ) : Type 0 where
-    pub saved : KeepsSaved began now
-    pub ledger : KeepsLedger old new
-    pub notes : (failure : Failure) (checkpoint : Path) → IsUnder failure budget (permits began.rule) → FailedAt point failure began log old → slice_get failure.ring index ≡ Some checkpoint
+  pub record ExaminedEnvs (permits : R → Heap → ℕ → ℕ → Bool) (budget point index : ℕ) (began now : Recoverable R) (before after : ℕ) (noted tries : List Try) (place : ℕ) : Type 0 where
+    pub kept : KeepsUntried began now
+    pub ledger : KeepsLedger began.replies now.replies
+    pub notes : (failure : Failure) (checkpoint : Path) → IsUnder failure budget (permits began.cpu.rule) → FailedAt point failure began.cpu began.log began.replies → slice_get failure.ring index ≡ Some checkpoint
         → NotesTries failure point (chances_at checkpoint (take place environments)) noted tries
     pub least : before ≤ after
 
-  pub record ExaminedRing (permits : R → Heap → ℕ → ℕ → Bool) (budget point : ℕ) (log : Log) (began now : CpuState R) (old new : Ledger) (before after : ℕ) (tries : List Try) (index : ℕ) : Type 0 where
-    pub saved : KeepsSaved began now
-    pub ledger : KeepsLedger old new
-    pub notes : (failure : Failure) → IsUnder failure budget (permits began.rule) → FailedAt point failure began log old → NotesTries failure point (table (take index failure.ring)) [] tries
+  pub record ExaminedRing (permits : R → Heap → ℕ → ℕ → Bool) (budget point : ℕ) (began now : Recoverable R) (before after : ℕ) (tries : List Try) (index : ℕ) : Type 0 where
+    pub kept : KeepsUntried began now
+    pub ledger : KeepsLedger began.replies now.replies
+    pub notes : (failure : Failure) → IsUnder failure budget (permits began.cpu.rule) → FailedAt point failure began.cpu began.log began.replies → NotesTries failure point (table (take index failure.ring)) [] tries
     pub least : before ≤ after

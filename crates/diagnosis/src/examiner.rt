@@ -3,12 +3,8 @@ ghost use Rattle.diagnosis.specs.Examined.{KeepsTable};
 
 use crate::counting::{Count, NoSteps, Since};
 use crate::examining::examine;
-use ckpt_ring::Ring;
-use guest_cpu::Cpu;
 use guest_space::AccessRule;
-use item_log::ItemLog;
-use recovery::Watch;
-use reply_ledger::Replies;
+use recovery::{Recoverable, TrialLimits, Watch};
 use rx_io::Steps;
 use session_notes::{Tries, Try};
 use std::alloc::{AllocError, Global};
@@ -58,12 +54,6 @@ impl Examiner {
 }
 
 impl Watch for Examiner {
-    ghost use Rattle.std.specs.Prelude.{◌≡◌, ◌+◌, ◌≤◌};
-    ghost use Rattle.ckpt_ring.specs.Rings.{checkpoints_of};
-    ghost use Rattle.recovery.specs.Sessions.{CanTry, Failure, FailedAt, IsUnder, taken_in};
-    ghost use Rattle.recovery.specs.Trying.{KeepsSaved};
-    ghost use Rattle.recovery.specs.Walking.{LeavesNoTrial};
-    ghost use Rattle.recovery.specs.Watching.{LooksBy};
     ghost use Rattle.diagnosis.specs.Examined.{ran_of, tables_told};
 
     ghost ran = { ran_of };
@@ -72,19 +62,14 @@ impl Watch for Examiner {
 
     fn failed<R: AccessRule, L: Ledger>(
         &mut self,
-        cpu: &mut Cpu<R>,
-        ring: &Ring,
+        held: &mut Recoverable<R>,
         point: u64,
         budget: u32,
-        items: &ItemLog,
-        replies: &mut Replies,
         steps: &mut Steps<L>,
     ) -> Result<(), AllocError> {
         let mut tries = Vec::new(self.alloc);
         let began = Count::of(&*steps);
-        let examined = examine(
-            self.alloc, cpu, ring, point, budget, items, replies, steps, &mut tries,
-        );
+        let examined = examine(held, TrialLimits { point, budget }, steps, &mut tries);
         let count = Count::of(&Since {
             before: &self.count,
             began: &began,

@@ -1,23 +1,19 @@
 // Trying the whole table of a failure.
 ghost use Rattle.std.specs.Prelude.{◌≡◌, ◌<◌, ◌≤◌, length, Some, slice_get, OnOk, [], ◌∷◌, ◌++◌};
-ghost use Rattle.ckpt_ring.specs.Rings.{checkpoints_of};
 ghost use Rattle.run_history.specs.Served.{Path};
 ghost use Rattle.trials.specs.Tables.{chances_at, environments};
-ghost use Rattle.recovery.specs.Sessions.{CanTry, Failure, FailedAt, IsUnder, taken_in};
-ghost use Rattle.recovery.specs.Trying.{KeepsLedger, KeepsSaved};
+ghost use Rattle.recovery.specs.Sessions.{Failure, IsUnder};
+ghost use Rattle.recovery.specs.Recoverables.{CanBeTried, HasFailedAt, HasSameRing, KeepsUntried};
+ghost use Rattle.recovery.specs.Trying.{KeepsLedger};
 ghost use Rattle.recovery.specs.Walking.{LeavesNoTrial};
 ghost use Rattle.diagnosis.specs.Examined.{NotesBy, TableBy};
 
 use alloc_env::Env;
-use ckpt_ring::Ring;
-use guest_cpu::Cpu;
 use guest_space::AccessRule;
-use item_log::ItemLog;
-use recovery::attempt;
-use reply_ledger::Replies;
+use recovery::{Chance, Recoverable, TrialLimits};
 use rx_io::Steps;
 use session_notes::Try;
-use std::alloc::{AllocError, Global};
+use std::alloc::AllocError;
 use std::sync::ledger::Ledger;
 
 // The environments in which a program is tried, in their order.
@@ -43,48 +39,30 @@ fn note(tries: &mut Vec<Try>, made: Try) -> Result<(), AllocError>
 
 // Tries a checkpoint in one environment, and notes what came of it.
 fn examine_one<R: AccessRule, L: Ledger>(
-    alloc: Global,
-    cpu: &mut Cpu<R>,
-    ring: &Ring,
-    index: u32,
-    env: Env,
-    point: u64,
-    budget: u32,
-    items: &ItemLog,
-    replies: &mut Replies,
+    held: &mut Recoverable<R>,
+    chance: Chance,
+    limits: TrialLimits,
     steps: &mut Steps<L>,
     tries: &mut Vec<Try>,
 ) -> Result<(), AllocError>
-    requires failed { CanTry budget (R.rule cpu.old.rule) point cpu.old items.now replies.old }
-    requires within { index < length ring.now.standing }
-    requires same { ring.now.standing ≡ checkpoints_of taken_in cpu.old.slots.saved }
-    ensures notes { (failure : Failure) (checkpoint : Path) → IsUnder failure budget (R.rule cpu.old.rule) → FailedAt point failure cpu.old items.now replies.old → slice_get failure.ring index ≡ Some checkpoint
-        → NotesBy failure point (record { checkpoint = checkpoint; env = env } ∷ []) tries.old.items tries.new.items result }
-    ensures saved { KeepsSaved cpu.old cpu.new }
-    ensures ledger { KeepsLedger replies.old replies.new }
+    requires failed { CanBeTried limits.budget (R.rule held.old.cpu.rule) limits.point held.old }
+    requires within { chance.index < length held.old.ring.standing }
+    requires same { HasSameRing held.old }
+    ensures notes { (failure : Failure) (checkpoint : Path) → IsUnder failure limits.budget (R.rule held.old.cpu.rule) → HasFailedAt limits.point failure held.old → slice_get failure.ring chance.index ≡ Some checkpoint
+        → NotesBy failure limits.point (record { checkpoint = checkpoint; env = chance.env } ∷ []) tries.old.items tries.new.items result }
+    ensures kept { KeepsUntried held.old held.new }
+    ensures ledger { KeepsLedger held.old.replies held.new.replies }
     ensures least { steps.old ≤ steps.new }
 {
-    let mut choices = Vec::new(alloc);
-    match attempt(
-        alloc,
-        cpu,
-        ring,
-        index,
-        env,
-        point,
-        budget,
-        items,
-        replies,
-        &mut choices,
-        steps,
-    ) {
+    let mut own = Vec::new(held.alloc);
+    match held.attempt(chance, limits, &mut own, steps) {
         Ok(tried) => {
-            let checkpoint = ring.taken_at(index);
+            let checkpoint = held.ring.taken_at(chance.index);
             note(
                 tries,
                 Try {
                     checkpoint,
-                    env,
+                    env: chance.env,
                     tried,
                 },
             )
@@ -95,31 +73,24 @@ fn examine_one<R: AccessRule, L: Ledger>(
 
 // Tries a checkpoint in each environment.
 fn examine_all<R: AccessRule, L: Ledger>(
-    alloc: Global,
-    cpu: &mut Cpu<R>,
-    ring: &Ring,
+    held: &mut Recoverable<R>,
     index: u32,
-    point: u64,
-    budget: u32,
-    items: &ItemLog,
-    replies: &mut Replies,
+    limits: TrialLimits,
     steps: &mut Steps<L>,
     tries: &mut Vec<Try>,
 ) -> Result<(), AllocError>
-    requires failed { CanTry budget (R.rule cpu.old.rule) point cpu.old items.now replies.old }
-    requires within { index < length ring.now.standing }
-    requires same { ring.now.standing ≡ checkpoints_of taken_in cpu.old.slots.saved }
-    ensures notes { (failure : Failure) (checkpoint : Path) → IsUnder failure budget (R.rule cpu.old.rule) → FailedAt point failure cpu.old items.now replies.old → slice_get failure.ring index ≡ Some checkpoint
-        → NotesBy failure point (chances_at checkpoint environments) tries.old.items tries.new.items result }
-    ensures saved { KeepsSaved cpu.old cpu.new }
-    ensures ledger { KeepsLedger replies.old replies.new }
+    requires failed { CanBeTried limits.budget (R.rule held.old.cpu.rule) limits.point held.old }
+    requires within { index < length held.old.ring.standing }
+    requires same { HasSameRing held.old }
+    ensures notes { (failure : Failure) (checkpoint : Path) → IsUnder failure limits.budget (R.rule held.old.cpu.rule) → HasFailedAt limits.point failure held.old → slice_get failure.ring index ≡ Some checkpoint
+        → NotesBy failure limits.point (chances_at checkpoint environments) tries.old.items tries.new.items result }
+    ensures kept { KeepsUntried held.old held.new }
+    ensures ledger { KeepsLedger held.old.replies held.new.replies }
     ensures least { steps.old ≤ steps.new }
 {
     'environments: for place in 0..ENVIRONMENTS.len() {
         let env = environment(place);
-        match examine_one(
-            alloc, cpu, ring, index, env, point, budget, items, replies, steps, tries,
-        ) {
+        match examine_one(held, Chance { index, env }, limits, steps, tries) {
             Ok(()) => {}
             Err(e) => return Err(e),
         }
@@ -129,34 +100,27 @@ fn examine_all<R: AccessRule, L: Ledger>(
 
 // Tries all checkpoints, from the newest on, each in each environment, and leaves no trial.
 pub(crate) fn examine<R: AccessRule, L: Ledger>(
-    alloc: Global,
-    cpu: &mut Cpu<R>,
-    ring: &Ring,
-    point: u64,
-    budget: u32,
-    items: &ItemLog,
-    replies: &mut Replies,
+    held: &mut Recoverable<R>,
+    limits: TrialLimits,
     steps: &mut Steps<L>,
     tries: &mut Vec<Try>,
 ) -> Result<(), AllocError>
-    requires failed { CanTry budget (R.rule cpu.old.rule) point cpu.old items.now replies.old }
-    requires same { ring.now.standing ≡ checkpoints_of taken_in cpu.old.slots.saved }
+    requires failed { CanBeTried limits.budget (R.rule held.old.cpu.rule) limits.point held.old }
+    requires same { HasSameRing held.old }
     requires none { tries.old.items ≡ [] }
-    ensures table { (failure : Failure) → IsUnder failure budget (R.rule cpu.old.rule) → FailedAt point failure cpu.old items.now replies.old
-        → TableBy failure point tries.new.items result }
-    ensures saved { KeepsSaved cpu.old cpu.new }
-    ensures ledger { LeavesNoTrial replies.old replies.new result }
+    ensures table { (failure : Failure) → IsUnder failure limits.budget (R.rule held.old.cpu.rule) → HasFailedAt limits.point failure held.old
+        → TableBy failure limits.point tries.new.items result }
+    ensures kept { KeepsUntried held.old held.new }
+    ensures ledger { LeavesNoTrial held.old.replies held.new.replies result }
     ensures least { steps.old ≤ steps.new }
 {
-    let count = ring.len();
+    let count = held.ring.len();
     'checkpoints: for index in 0..count {
-        match examine_all(
-            alloc, cpu, ring, index, point, budget, items, replies, steps, tries,
-        ) {
+        match examine_all(held, index, limits, steps, tries) {
             Ok(()) => {}
             Err(e) => return Err(e),
         }
     }
-    replies.discard();
+    held.replies.discard();
     Ok(())
 }

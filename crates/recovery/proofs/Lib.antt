@@ -17,6 +17,7 @@ pub mod Forces
 pub mod Survived
 pub mod WatchLemmas
 pub mod Recoveries
+pub mod HeldLemmas
 pub mod TrimLemmas
 pub mod ForgetLemmas
 pub mod Handled

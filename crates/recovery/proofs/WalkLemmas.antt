@@ -1,7 +1,6 @@
 -- A walk goes on from chance to chance.
 use Rattle.std.proofs.lemmas.List.Sums.{sum_by-append}
-use Rattle.recovery.proofs.Terms.{Bool, List, None, Option, Some, [], ap, append-nil, append_assoc, arith, cond, false, length, refl, subst, suc, sym, take, true, zero, ℕ, ◌++◌, ◌+◌, ◌-◌, ◌∙◌, ◌∷◌, ◌≡◌, ◌≤◌, MatchBool-at_false, MatchBool-at_true, map-append, take_all, none-some, same_Some, MatchBool, map, slice_get, sum, Choice, Heap, Env, Log, Ledger, discarded, Path, CpuState, Try, survives, Chance, IsRight, Trial, WalksOver, chances_at, environments, survivor_in, table, try_of, Adopted, CanTry, FailedAt, Failure, IsUnder, items_of, pieces_of, HasWalked, KeepsLedger, KeepsSaved, steps_of, Attempt, BeginsOver, AdoptedLast, AdoptedOne, AreTried, FailedOne, FailedSome, HasBegun, HasSameBytes}
-use Rattle.recovery.proofs.Starting.{failed_still}
+use Rattle.recovery.proofs.Terms.{Bool, List, None, Option, Some, [], ap, append-nil, append_assoc, arith, cond, false, length, refl, subst, suc, sym, take, true, zero, ℕ, ◌++◌, ◌+◌, ◌-◌, ◌∙◌, ◌∷◌, ◌≡◌, ◌≤◌, MatchBool-at_false, MatchBool-at_true, map-append, take_all, none-some, same_Some, MatchBool, map, slice_get, sum, Choice, Heap, Env, Ledger, discarded, Path, CpuState, Try, survives, Chance, IsRight, Trial, WalksOver, chances_at, environments, survivor_in, table, try_of, Recoverable, Adopted, FailedAt, Failure, IsUnder, items_of, pieces_of, HasWalked, KeepsLedger, KeepsSaved, steps_of, Attempt, BeginsOver, AdoptedLast, AdoptedOne, AreTried, FailedOne, FailedSome, HasBegun, HasSameBytes, KeepsUntried}
 use Rattle.recovery.proofs.Adopting.{adopted_survives}
 use Rattle.session_history.proofs.Connected.{take_one}
 
@@ -261,27 +260,18 @@ module _ {R : Type 0} where
           ap sum (map-append (λ (t : Trial). t.path.steps - t.chance.checkpoint.steps) xs ys) ∙ sum_by-append (λ x. x) (map (λ (t : Trial). t.path.steps - t.chance.checkpoint.steps) xs) (map (λ (t : Trial). t.path.steps - t.chance.checkpoint.steps) ys)
 
   -- what holds of the loop over environments, and of that over checkpoints
-  pub record TriedUpTo (permits : R → Heap → ℕ → ℕ → Bool) (budget point : ℕ) (index : ℕ) (log : Log) (began now : CpuState R) (old new : Ledger) (before after : ℕ) (noted tries : List Try) (place : ℕ) : Type 0 where
-    pub saved : KeepsSaved began now
-    pub ledger : KeepsLedger old new
-    pub tried : (failure : Failure) (checkpoint : Path) → IsUnder failure budget (permits began.rule) → FailedAt point failure began log old → slice_get failure.ring index ≡ Some checkpoint
+  pub record TriedUpTo (permits : R → Heap → ℕ → ℕ → Bool) (budget point : ℕ) (index : ℕ) (began now : Recoverable R) (before after : ℕ) (noted tries : List Try) (place : ℕ) : Type 0 where
+    pub kept : KeepsUntried began now
+    pub ledger : KeepsLedger began.replies now.replies
+    pub tried : (failure : Failure) (checkpoint : Path) → IsUnder failure budget (permits began.cpu.rule) → FailedAt point failure began.cpu began.log began.replies → slice_get failure.ring index ≡ Some checkpoint
         → FailedSome failure point (chances_at checkpoint (take place environments)) noted tries before after
     pub least : before ≤ after
 
-  pub record WalkedUpTo (permits : R → Heap → ℕ → ℕ → Bool) (budget point : ℕ) (log : Log) (began now : CpuState R) (old new : Ledger) (before after : ℕ) (tries : List Try) (index : ℕ) : Type 0 where
-    pub saved : KeepsSaved began now
-    pub ledger : KeepsLedger old new
-    pub tried : (failure : Failure) → IsUnder failure budget (permits began.rule) → FailedAt point failure began log old → FailedSome failure point (table (take index failure.ring)) [] tries before after
+  pub record WalkedUpTo (permits : R → Heap → ℕ → ℕ → Bool) (budget point : ℕ) (began now : Recoverable R) (before after : ℕ) (tries : List Try) (index : ℕ) : Type 0 where
+    pub kept : KeepsUntried began now
+    pub ledger : KeepsLedger began.replies now.replies
+    pub tried : (failure : Failure) → IsUnder failure budget (permits began.cpu.rule) → FailedAt point failure began.cpu began.log began.replies → FailedSome failure point (table (take index failure.ring)) [] tries before after
     pub least : before ≤ after
-
-  -- trials can be made from there still
-  pub can_still_try : (permits : R → Heap → ℕ → ℕ → Bool) {budget point : ℕ} {log : Log} {began now : CpuState R} {old new : Ledger} → KeepsSaved began now → KeepsLedger old new → CanTry budget (permits began.rule) point began log old
-      → CanTry budget (permits now.rule) point now log new
-  can_still_try permits {budget = budget} {point = point} {log = log} {began = began} {now = now} {old = old} {new = new} saved same w = record {
-    failure = w.failure;
-    under = subst (λ (rule : R). IsUnder w.failure budget (permits rule)) (sym saved.rule) w.under;
-    failed = failed_still point w.failure began now log old new saved same w.failed;
-  }
 
   pub same_saved : {cpu : CpuState R} → KeepsSaved cpu cpu
   same_saved = record { rule = refl; base = refl; saved = refl; count = refl; pages = refl; frames = refl }

@@ -9,4 +9,5 @@ pub mod Rings
 pub mod Recovering
 pub mod Forgetting
 pub mod Handling
+pub mod Recoverables
 pub mod Laws

@@ -12,11 +12,11 @@ pub use Rattle.block_book.specs.Heap.{Heap}
 pub use Rattle.alloc_env.specs.declared.env.Env.{Env}
 pub use Rattle.alloc_env.specs.declared.env.Env.TheVariants.{Plain}
 pub use Rattle.ckpt_ring.specs.declared.checkpoint.Checkpoint.{Checkpoint}
-pub use Rattle.ckpt_ring.specs.Rings.{Checkpoints, checkpoint_of, checkpoints_of, from_newest, has_room, kept, line, saved_in_ring, without_newer}
+pub use Rattle.ckpt_ring.specs.Rings.{Checkpoints, checkpoint_of, checkpoints, checkpoints_of, from_newest, has_room, kept, line, saved_in_ring, without_newer}
 pub use Rattle.ckpt_ring.specs.Slots.{Saved, Slots, newest_slot, restored, slot_numbers, with_whole_oldest, without_newer_slots}
 pub use Rattle.page_line.specs.Line.{count_true}
 pub use Rattle.item_log.specs.Log.{IsItemOf, Log, ShowsStill}
-pub use Rattle.reply_ledger.specs.Ledger.{Connection, IsInOrder, IsOpened, Ledger, NotBefore, Passed, passed_to}
+pub use Rattle.reply_ledger.specs.Ledger.{Connection, IsInOrder, IsOpened, Ledger, NotBefore, Passed, no_replies, passed_to}
 unfoldable pub use Rattle.reply_ledger.specs.Ledger.{connection_of, is_open, stamped, stamped_to, stamps_of, times_of}
 pub use Rattle.reply_ledger.specs.Parts.{is_left, parts}
 unfoldable pub use Rattle.reply_ledger.specs.Parts.{parts_behind, settled, unpassed, waits}
@@ -35,7 +35,7 @@ unfoldable pub use Rattle.run_history.specs.Served.{served_next}
 pub use Rattle.rv_exec.specs.Stepping.{limits_of}
 pub use Rattle.guest_cpu.specs.declared.event.Event.{Event}
 pub use Rattle.guest_cpu.specs.declared.marks.Marks.{Marks}
-pub use Rattle.guest_cpu.specs.Cpus.{CpuState, live_of, with_live}
+pub use Rattle.guest_cpu.specs.Cpus.{CpuState, IsFreshCpu, live_of, with_live}
 pub use Rattle.guest_cpu.specs.Serving.{Adds, standing_of}
 pub use Rattle.guest_cpu.specs.Standing.{Live, Standing, Turn, live_after, marks_of, with_range}
 unfoldable pub use Rattle.guest_cpu.specs.Standing.{turn}

@@ -6,32 +6,32 @@ ghost use Rattle.item_log.specs.Log.{received};
 ghost use Rattle.item_log.specs.Log as logs;
 ghost use Rattle.reply_ledger.specs.Ledger.{is_open};
 ghost use Rattle.reply_ledger.specs.Trimming as ledgers;
-ghost use Rattle.ckpt_ring.specs.Rings.{Checkpoints};
 ghost use Rattle.run_history.specs.Served.{Override, Path};
 ghost use Rattle.session_history.specs.Keeping.{KeepsItems, KeepsReplies};
 ghost use Rattle.session_history.specs.Lawful.{Rules};
-ghost use Rattle.recovery.specs.Rings.{KeepsRing};
 ghost use Rattle.recovery.specs.Forgetting.{CanForget, Forgets};
+ghost use Rattle.recovery.specs.Recoverables.{HoldsRing};
 
-use guest_cpu::Cpu;
+use crate::Recoverable;
 use guest_space::AccessRule;
-use item_log::ItemLog;
-use reply_ledger::Replies;
 
-/// Gives up the items and the replies that no trial needs any more: those from before the oldest checkpoint. A reply that may still be
-/// passed stays, and so does all behind it. It takes no memory.
-pub fn forget<R: AccessRule>(cpu: &Cpu<R>, log: &mut ItemLog, replies: &mut Replies)
-    requires can { CanForget cpu.now log.old replies.old }
-    ensures forgets { (rules : Rules) (image : Image) (entries : List Entry) (plan : List Override) (now : Path) (paths : List Path) (checkpoints : Checkpoints) → KeepsRing rules image entries plan now paths cpu.now checkpoints log.old replies.old
-        → KeepsItems rules.bounds entries log.old → KeepsReplies rules.bounds entries None now.state.sends replies.old
-        → Forgets rules image entries plan now paths cpu.now checkpoints log.new replies.new }
-    ensures received { received log.new ≡ received log.old }
-    ensures open { (conn : ℕ) → is_open replies.new.connections conn ≡ is_open replies.old.connections conn }
-    ensures trial { replies.new.trial ≡ None }
-    ensures first { IfSome (slice_get cpu.now.slots.saved 0) (λ oldest. log.new ≡ logs.trimmed log.old oldest.state.guest.machine.taken) }
-    ensures first_send { IfSome (slice_get cpu.now.slots.saved 0) (λ oldest. replies.new ≡ ledgers.trimmed replies.old oldest.state.sends) }
-{
-    let oldest = cpu.oldest_marks();
-    log.trim(oldest.taken);
-    replies.trim(oldest.sends);
+impl<R: AccessRule> Recoverable<R> {
+    /// Gives up the items and the replies that no trial needs any more: those from before the oldest checkpoint. A reply that may still be
+    /// passed stays, and so does all behind it. It takes no memory.
+    pub fn forget(&mut self)
+        requires can { CanForget self.old.cpu self.old.log self.old.replies }
+        ensures forgets { (rules : Rules) (image : Image) (entries : List Entry) (plan : List Override) (now : Path) (paths : List Path) → HoldsRing rules image entries plan now paths self.old
+            → KeepsItems rules.bounds entries self.old.log → KeepsReplies rules.bounds entries None now.state.sends self.old.replies
+            → Forgets rules image entries plan now paths self.new.cpu self.new.ring self.new.log self.new.replies }
+        ensures received { received self.new.log ≡ received self.old.log }
+        ensures open { (conn : ℕ) → is_open self.new.replies.connections conn ≡ is_open self.old.replies.connections conn }
+        ensures trial { self.new.replies.trial ≡ None }
+        ensures first { IfSome (slice_get self.old.cpu.slots.saved 0) (λ oldest. self.new.log ≡ logs.trimmed self.old.log oldest.state.guest.machine.taken) }
+        ensures first_send { IfSome (slice_get self.old.cpu.slots.saved 0) (λ oldest. self.new.replies ≡ ledgers.trimmed self.old.replies oldest.state.sends) }
+        ensures rest { self.new ≡ record self.old { log = self.new.log; replies = self.new.replies } }
+    {
+        let oldest = self.cpu.oldest_marks();
+        self.log.trim(oldest.taken);
+        self.replies.trim(oldest.sends);
+    }
 }

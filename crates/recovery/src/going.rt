@@ -1,5 +1,5 @@
 // A trial on its way, from one event of its guest to the next.
-ghost use Rattle.std.specs.Prelude.{◌≡◌, ◌+◌, ◌<◌, ◌≤◌, true, Option, List, length, IsSome, MatchOption};
+ghost use Rattle.std.specs.Prelude.{◌≡◌, ◌+◌, ◌<◌, ◌≤◌, true, Option, List, length, IsSome};
 ghost use Rattle.alloc_env.specs.declared.env.Env.{Env};
 ghost use Rattle.block_book.specs.declared.choice.Choice.{Choice};
 ghost use Rattle.reply_ledger.specs.Ledger.{IsOpened, NotBefore, times_of};
@@ -8,7 +8,9 @@ ghost use Rattle.run_history.specs.Served.{Path};
 ghost use Rattle.recovery.specs.Sessions.{Failure, IsUnder};
 ghost use Rattle.recovery.specs.Trying.{KeepsLedger, KeepsBase};
 ghost use Rattle.recovery.specs.Going.{IsJudged, SendsBy, IsLater, IsLaterIf, IsTrying, TriesSomewhere, IsAsking, AsksSomewhere, ComesIf, TurnsBy, ComesBy};
+ghost use Rattle.recovery.specs.Recoverables.{KeepsRest};
 
+use crate::{Recoverable, TrialLimits};
 use alloc_env::Env;
 use block_book::Choice;
 use guest_cpu::{Cpu, Event};
@@ -17,7 +19,7 @@ use item_log::ItemLog;
 use reply_ledger::Replies;
 use rx_io::{Bytes, Steps};
 use session_notes::Tried;
-use std::alloc::{AllocError, Global};
+use std::alloc::AllocError;
 use std::sync::ledger::Ledger;
 
 // A trial that has come past the failure survived, if it sent all that was passed.
@@ -79,70 +81,70 @@ fn ask<R: AccessRule, L: Ledger>(
     None
 }
 
-// The trial goes on to its next event.
-fn turn<R: AccessRule, L: Ledger>(
-    alloc: Global,
-    cpu: &mut Cpu<R>,
-    env: Env,
-    point: u64,
-    budget: u32,
-    items: &ItemLog,
-    replies: &mut Replies,
-    choices: &mut Vec<Choice>,
-    steps: &mut Steps<L>,
-) -> Result<Option<Tried>, AllocError>
-    requires tries { TriesSomewhere budget (R.rule cpu.old.rule) point env cpu.old choices.old.items items.now replies.old }
-    ensures comes { (failure : Failure) (checkpoint : Path) → IsUnder failure budget (R.rule cpu.old.rule) → IsTrying failure point checkpoint env cpu.old choices.old.items items.now replies.old
-        → TurnsBy failure point checkpoint env cpu.new choices.new.items items.now replies.new result }
-    ensures kept { KeepsBase cpu.old cpu.new }
-    ensures ledger { KeepsLedger replies.old replies.new }
-    ensures counted { steps.new + cpu.old.slots.live.steps ≡ steps.old + cpu.new.slots.live.steps }
-    ensures least { steps.old ≤ steps.new }
-    ensures later { IsLater result cpu.old.slots.live.steps cpu.new.slots.live.steps }
-{
-    match cpu.run_to_event(alloc, env, budget, steps) {
-        Ok(Event::Asks) => Ok(ask(cpu, point, items, replies, steps)),
-        Ok(Event::Emits(conn, bytes)) => {
-            let taken = cpu.marks().taken;
-            emit(replies, conn, bytes, taken)
+impl<R: AccessRule> Recoverable<R> {
+    // The trial goes on to its next event.
+    fn turn<L: Ledger>(
+        &mut self,
+        env: Env,
+        limits: TrialLimits,
+        own: &mut Vec<Choice>,
+        steps: &mut Steps<L>,
+    ) -> Result<Option<Tried>, AllocError>
+        requires tries { TriesSomewhere limits.budget (R.rule self.old.cpu.rule) limits.point env self.old.cpu own.old.items self.old.log self.old.replies }
+        ensures comes { (failure : Failure) (checkpoint : Path) → IsUnder failure limits.budget (R.rule self.old.cpu.rule) → IsTrying failure limits.point checkpoint env self.old.cpu own.old.items self.old.log self.old.replies
+            → TurnsBy failure limits.point checkpoint env self.new.cpu own.new.items self.new.log self.new.replies result }
+        ensures kept { KeepsBase self.old.cpu self.new.cpu }
+        ensures rest { KeepsRest self.old self.new }
+        ensures ledger { KeepsLedger self.old.replies self.new.replies }
+        ensures counted { steps.new + self.old.cpu.slots.live.steps ≡ steps.old + self.new.cpu.slots.live.steps }
+        ensures least { steps.old ≤ steps.new }
+        ensures later { IsLater result self.old.cpu.slots.live.steps self.new.cpu.slots.live.steps }
+    {
+        match self.cpu.run_to_event(self.alloc, env, limits.budget, steps) {
+            Ok(Event::Asks) => Ok(ask(
+                &mut self.cpu,
+                limits.point,
+                &self.log,
+                &self.replies,
+                steps,
+            )),
+            Ok(Event::Emits(conn, bytes)) => {
+                let taken = self.cpu.marks().taken;
+                emit(&mut self.replies, conn, bytes, taken)
+            }
+            Ok(Event::Chooses(choice)) => match own.push(choice) {
+                Ok(()) => Ok(None),
+                Err(_) => Err(AllocError),
+            },
+            Ok(Event::Exits(code)) => Ok(Some(judge(Tried::Exits(code), &self.replies))),
+            Ok(Event::Failed(cause)) => Ok(Some(Tried::Failed(cause))),
+            Err(e) => Err(e),
         }
-        Ok(Event::Chooses(choice)) => match choices.push(choice) {
-            Ok(()) => Ok(None),
-            Err(_) => Err(AllocError),
-        },
-        Ok(Event::Exits(code)) => Ok(Some(judge(Tried::Exits(code), replies))),
-        Ok(Event::Failed(cause)) => Ok(Some(Tried::Failed(cause))),
-        Err(e) => Err(e),
     }
-}
 
-/// Lets a trial go on until it comes to its result.
-pub(crate) fn go_on<R: AccessRule, L: Ledger>(
-    alloc: Global,
-    cpu: &mut Cpu<R>,
-    env: Env,
-    point: u64,
-    budget: u32,
-    items: &ItemLog,
-    replies: &mut Replies,
-    choices: &mut Vec<Choice>,
-    steps: &mut Steps<L>,
-) -> Result<Tried, AllocError>
-    requires tries { TriesSomewhere budget (R.rule cpu.old.rule) point env cpu.old choices.old.items items.now replies.old }
-    ensures comes { (failure : Failure) (checkpoint : Path) → IsUnder failure budget (R.rule cpu.old.rule) → IsTrying failure point checkpoint env cpu.old choices.old.items items.now replies.old
-        → ComesBy failure point checkpoint env cpu.new choices.new.items replies.new result }
-    ensures kept { KeepsBase cpu.old cpu.new }
-    ensures ledger { KeepsLedger replies.old replies.new }
-    ensures counted { steps.new + cpu.old.slots.live.steps ≡ steps.old + cpu.new.slots.live.steps }
-    ensures least { steps.old ≤ steps.new }
-{
-    'turns: loop {
-        match turn(
-            alloc, cpu, env, point, budget, items, replies, choices, steps,
-        ) {
-            Ok(None) => {}
-            Ok(Some(tried)) => return Ok(tried),
-            Err(e) => return Err(e),
+    // Lets a trial go on until it comes to its result.
+    pub(crate) fn go_on<L: Ledger>(
+        &mut self,
+        env: Env,
+        limits: TrialLimits,
+        own: &mut Vec<Choice>,
+        steps: &mut Steps<L>,
+    ) -> Result<Tried, AllocError>
+        requires tries { TriesSomewhere limits.budget (R.rule self.old.cpu.rule) limits.point env self.old.cpu own.old.items self.old.log self.old.replies }
+        ensures comes { (failure : Failure) (checkpoint : Path) → IsUnder failure limits.budget (R.rule self.old.cpu.rule) → IsTrying failure limits.point checkpoint env self.old.cpu own.old.items self.old.log self.old.replies
+            → ComesBy failure limits.point checkpoint env self.new.cpu own.new.items self.new.replies result }
+        ensures kept { KeepsBase self.old.cpu self.new.cpu }
+        ensures rest { KeepsRest self.old self.new }
+        ensures ledger { KeepsLedger self.old.replies self.new.replies }
+        ensures counted { steps.new + self.old.cpu.slots.live.steps ≡ steps.old + self.new.cpu.slots.live.steps }
+        ensures least { steps.old ≤ steps.new }
+    {
+        'turns: loop {
+            match self.turn(env, limits, own, steps) {
+                Ok(None) => {}
+                Ok(Some(tried)) => return Ok(tried),
+                Err(e) => return Err(e),
+            }
         }
     }
 }

@@ -5,7 +5,8 @@
 //! A walk changes no passed byte, and where no trial survives the ledger is as it was. Whatever is answered, it has the sends of one run alone.
 //! After want of memory the trials so far are told, and how far the one had come that was under way. Where the guest stands isn't, but of one trial.
 //! A `Watch` may look at a failure before trials are made of it. The program's own is `NoWatch`.
-//! Its calls keep the ring right beside the guest, the log and the ledger of the session, and require that it is.
+//! A `Recoverable` is what a recovery takes back, as one value, which a session owns: guest, checkpoints, items, replies, and answers of the allocator.
+//! Its calls keep the ring right beside the guest, the log and the ledger, and require that it is.
 //! `recover` asks the watch first, and then walks over the trials.
 //! What the watch counts isn't among what the trials did.
 //! `forget` gives up only what no trial from the checkpoints that stand can need.
@@ -17,14 +18,14 @@ mod checkpoints;
 mod forgetting;
 mod going;
 pub mod laws;
+mod recoverable;
 mod recovering;
 mod trying;
 mod walking;
 mod watching;
 
-pub use checkpoints::{begin_ring, checkpoint};
-pub use forgetting::forget;
-pub use recovering::{Recovered, recover};
-pub use trying::attempt;
-pub use walking::{Adopted, FailureSite, Walked, walk};
+pub use recoverable::{Recoverable, Room};
+pub use recovering::Recovered;
+pub use trying::{Chance, TrialLimits};
+pub use walking::{Adopted, FailureSite, Walked};
 pub use watching::{NoWatch, Watch};

@@ -6,11 +6,12 @@ ghost use Rattle.reply_ledger.specs.Trials.{discarded};
 ghost use Rattle.session_notes.specs.Survival.{survives};
 ghost use Rattle.alloc_env.specs.declared.env.Env.{Env};
 ghost use Rattle.run_history.specs.Served.{Path};
-ghost use Rattle.recovery.specs.Sessions.{CanTry, Failure, FailedAt, IsUnder, taken_in};
+ghost use Rattle.recovery.specs.Sessions.{Failure, FailedAt, IsUnder, taken_in};
 ghost use Rattle.recovery.specs.Going.{IsTrying};
 ghost use Rattle.recovery.specs.Trying.{KeepsLedger, KeepsSaved, StandsOn, CountsTrial, TriesBy};
+ghost use Rattle.recovery.specs.Recoverables.{CanBeTried, HasFailedAt, HasSameRing, KeepsUntried};
 
-use crate::going::go_on;
+use crate::Recoverable;
 use alloc_env::Env;
 use block_book::Choice;
 use ckpt_ring::Ring;
@@ -20,8 +21,26 @@ use item_log::ItemLog;
 use reply_ledger::Replies;
 use rx_io::Steps;
 use session_notes::Tried;
-use std::alloc::{AllocError, Global};
+use std::alloc::AllocError;
 use std::sync::ledger::Ledger;
+
+/// Where a trial begins, and how it is run.
+#[derive(Clone, Copy, Debug)]
+pub struct Chance {
+    /// The index of its checkpoint in the ring, where 0 is the newest one.
+    pub index: u32,
+    /// Its environment.
+    pub env: Env,
+}
+
+/// How far a trial goes.
+#[derive(Clone, Copy, Debug)]
+pub struct TrialLimits {
+    /// How many items the program had taken where it failed: a trial has come past that where it asks for one more.
+    pub point: u64,
+    /// How many instructions may come between two items.
+    pub budget: u32,
+}
 
 // The guest stands on a checkpoint, and a trial begins there.
 fn begin<R: AccessRule>(
@@ -57,49 +76,47 @@ fn settle(tried: Tried, replies: &mut Replies)
     }
 }
 
-/// Goes on from the checkpoint at an index of the ring, where 0 is the newest one, in an environment, with the items that were
-/// received, up to a result: whether the program comes past the failure, at which so many items were taken as `point` says. What
-/// malloc answered since the checkpoint stands in `choices`. Where the trial survives, `replies` has its sends as a trial, which
-/// `adopt` makes the survivor's; else no trial is left there. All else of `replies` stays, whatever is answered.
-///
-/// The guest stands where the trial has come, and counts as written the pages that the trial wrote. The checkpoints and the items stay
-/// as they are. `steps` counts the instructions.
-///
-/// # Errors
-///
-/// `AllocError` where memory runs out. The guest then stands where the trial had come, and a trial may be left in `replies`. `steps` counts
-/// its instructions up to there.
-pub fn attempt<R: AccessRule, L: Ledger>(
-    alloc: Global,
-    cpu: &mut Cpu<R>,
-    ring: &Ring,
-    index: u32,
-    env: Env,
-    point: u64,
-    budget: u32,
-    items: &ItemLog,
-    replies: &mut Replies,
-    choices: &mut Vec<Choice>,
-    steps: &mut Steps<L>,
-) -> Result<Tried, AllocError>
-    requires failed { CanTry budget (R.rule cpu.old.rule) point cpu.old items.now replies.old }
-    requires within { index < length ring.now.standing }
-    requires same { ring.now.standing ≡ checkpoints_of taken_in cpu.old.slots.saved }
-    ensures tries { (failure : Failure) (checkpoint : Path) → IsUnder failure budget (R.rule cpu.old.rule) → FailedAt point failure cpu.old items.now replies.old → slice_get failure.ring index ≡ Some checkpoint
-        → TriesBy failure point checkpoint env cpu.new choices.new.items replies.new result }
-    ensures saved { KeepsSaved cpu.old cpu.new }
-    ensures ledger { KeepsLedger replies.old replies.new }
-    ensures stands { IfOk result (λ _. StandsOn cpu.new index) }
-    ensures counts { CountsTrial (from_newest cpu.old.slots.saved index) cpu.new steps.old steps.new }
-{
-    begin(cpu, ring, index, replies, choices);
-    match go_on(
-        alloc, cpu, env, point, budget, items, replies, choices, steps,
-    ) {
-        Ok(tried) => {
-            settle(tried, replies);
-            Ok(tried)
+impl<R: AccessRule> Recoverable<R> {
+    /// Goes on from a checkpoint in an environment, with the items that were received, up to a result: whether the program comes past the failure
+    /// that `limits` tells. What malloc answered since the checkpoint stands in `own`. Where the trial survives, the replies have its sends as a
+    /// trial, which `Replies::adopt` makes the survivor's; else no trial is left there. All else of the replies stays, whatever is answered.
+    ///
+    /// The guest stands where the trial has come, and counts as written the pages that the trial wrote. `steps` counts the instructions.
+    ///
+    /// # Errors
+    ///
+    /// `AllocError` where memory runs out. The guest then stands where the trial had come, and a trial may be left in the replies. `steps` counts
+    /// its instructions up to there.
+    pub fn attempt<L: Ledger>(
+        &mut self,
+        chance: Chance,
+        limits: TrialLimits,
+        own: &mut Vec<Choice>,
+        steps: &mut Steps<L>,
+    ) -> Result<Tried, AllocError>
+        requires failed { CanBeTried limits.budget (R.rule self.old.cpu.rule) limits.point self.old }
+        requires within { chance.index < length self.old.ring.standing }
+        requires same { HasSameRing self.old }
+        ensures tries { (failure : Failure) (checkpoint : Path) → IsUnder failure limits.budget (R.rule self.old.cpu.rule) → HasFailedAt limits.point failure self.old → slice_get failure.ring chance.index ≡ Some checkpoint
+            → TriesBy failure limits.point checkpoint chance.env self.new.cpu own.new.items self.new.replies result }
+        ensures kept { KeepsUntried self.old self.new }
+        ensures ledger { KeepsLedger self.old.replies self.new.replies }
+        ensures stands { IfOk result (λ _. StandsOn self.new.cpu chance.index) }
+        ensures counts { CountsTrial (from_newest self.old.cpu.slots.saved chance.index) self.new.cpu steps.old steps.new }
+    {
+        begin(
+            &mut self.cpu,
+            &self.ring,
+            chance.index,
+            &mut self.replies,
+            own,
+        );
+        match self.go_on(chance.env, limits, own, steps) {
+            Ok(tried) => {
+                settle(tried, &mut self.replies);
+                Ok(tried)
+            }
+            Err(e) => Err(e),
         }
-        Err(e) => Err(e),
     }
 }

@@ -1,24 +1,20 @@
 // A walk over the table of trials: from each checkpoint, the newest first, in each environment.
 ghost use Rattle.std.specs.Prelude.{◌≡◌, ◌+◌, ◌<◌, ◌≤◌, length, Some, slice_get, IfOk, OnOk, [], ◌∷◌, ◌++◌};
-ghost use Rattle.ckpt_ring.specs.Rings.{checkpoints_of};
 ghost use Rattle.run_history.specs.Served.{Path};
 ghost use Rattle.trials.specs.Tables.{environments};
-ghost use Rattle.recovery.specs.Sessions.{CanTry, Failure, FailedAt, IsUnder, taken_in};
-ghost use Rattle.recovery.specs.Trying.{KeepsSaved, adopted_of};
+ghost use Rattle.recovery.specs.Sessions.{Failure, IsUnder};
+ghost use Rattle.recovery.specs.Trying.{adopted_of};
 ghost use Rattle.recovery.specs.Walking.{OneBy, AllBy, RingBy, LedgerBy, StaysBy, IsOfOneRun, IsEpisode, WalksBy};
+ghost use Rattle.recovery.specs.Recoverables.{CanBeTried, HasFailedAt, HasSameRing, KeepsUntried};
 
-use crate::trying::attempt;
+use crate::{Chance, Recoverable, TrialLimits};
 use alloc_env::Env;
 use block_book::Choice;
-use ckpt_ring::Ring;
-use guest_cpu::Cpu;
 use guest_space::AccessRule;
-use item_log::ItemLog;
-use reply_ledger::Replies;
 use run_history::Cause;
 use rx_io::Steps;
 use session_notes::{Episode, Tried, Tries, Try};
-use std::alloc::{AllocError, Global};
+use std::alloc::AllocError;
 use std::sync::ledger::Ledger;
 
 /// Where and why a program failed.
@@ -83,177 +79,155 @@ fn adopted_of(index: u32, env: Env, tried: Tried) -> Option<Adopted>
     Some(Adopted { index, env, code })
 }
 
-// Tries a checkpoint in one environment, and adopts the trial where it survives.
-fn try_one<R: AccessRule, L: Ledger>(
-    alloc: Global,
-    cpu: &mut Cpu<R>,
-    ring: &Ring,
-    index: u32,
-    env: Env,
-    point: u64,
-    budget: u32,
-    items: &ItemLog,
-    replies: &mut Replies,
-    choices: &mut Vec<Choice>,
-    steps: &mut Steps<L>,
-    tries: &mut Vec<Try>,
-) -> Result<Option<Adopted>, AllocError>
-    requires failed { CanTry budget (R.rule cpu.old.rule) point cpu.old items.now replies.old }
-    requires within { index < length ring.now.standing }
-    requires same { ring.now.standing ≡ checkpoints_of taken_in cpu.old.slots.saved }
-    ensures tries { (failure : Failure) (checkpoint : Path) → IsUnder failure budget (R.rule cpu.old.rule) → FailedAt point failure cpu.old items.now replies.old → slice_get failure.ring index ≡ Some checkpoint
-        → OneBy failure point (record { checkpoint = checkpoint; env = env }) cpu.new choices.new.items replies.new tries.old.items tries.new.items steps.old steps.new result }
-    ensures saved { KeepsSaved cpu.old cpu.new }
-    ensures ledger { LedgerBy replies.old replies.new result }
-    ensures least { steps.old ≤ steps.new }
-{
-    match attempt(
-        alloc, cpu, ring, index, env, point, budget, items, replies, choices, steps,
-    ) {
-        Ok(tried) => {
-            let checkpoint = ring.taken_at(index);
-            if let Err(e) = note(
-                tries,
-                Try {
-                    checkpoint,
-                    env,
-                    tried,
-                },
-            ) {
-                return Err(e);
-            }
-            match adopted_of(index, env, tried) {
-                None => Ok(None),
-                Some(adopted) => {
-                    replies.adopt();
-                    Ok(Some(adopted))
+impl<R: AccessRule> Recoverable<R> {
+    // Tries a checkpoint in one environment, and adopts the trial where it survives.
+    fn try_one<L: Ledger>(
+        &mut self,
+        chance: Chance,
+        limits: TrialLimits,
+        own: &mut Vec<Choice>,
+        steps: &mut Steps<L>,
+        tries: &mut Vec<Try>,
+    ) -> Result<Option<Adopted>, AllocError>
+        requires failed { CanBeTried limits.budget (R.rule self.old.cpu.rule) limits.point self.old }
+        requires within { chance.index < length self.old.ring.standing }
+        requires same { HasSameRing self.old }
+        ensures tries { (failure : Failure) (checkpoint : Path) → IsUnder failure limits.budget (R.rule self.old.cpu.rule) → HasFailedAt limits.point failure self.old → slice_get failure.ring chance.index ≡ Some checkpoint
+            → OneBy failure limits.point (record { checkpoint = checkpoint; env = chance.env }) self.new.cpu own.new.items self.new.replies tries.old.items tries.new.items steps.old steps.new result }
+        ensures kept { KeepsUntried self.old self.new }
+        ensures ledger { LedgerBy self.old.replies self.new.replies result }
+        ensures least { steps.old ≤ steps.new }
+    {
+        match self.attempt(chance, limits, own, steps) {
+            Ok(tried) => {
+                let checkpoint = self.ring.taken_at(chance.index);
+                if let Err(e) = note(
+                    tries,
+                    Try {
+                        checkpoint,
+                        env: chance.env,
+                        tried,
+                    },
+                ) {
+                    return Err(e);
+                }
+                match adopted_of(chance.index, chance.env, tried) {
+                    None => Ok(None),
+                    Some(adopted) => {
+                        self.replies.adopt();
+                        Ok(Some(adopted))
+                    }
                 }
             }
-        }
-        Err(e) => Err(e),
-    }
-}
-
-// Tries a checkpoint in each environment, up to the first in which the trial survives, which is adopted.
-fn try_all<R: AccessRule, L: Ledger>(
-    alloc: Global,
-    cpu: &mut Cpu<R>,
-    ring: &Ring,
-    index: u32,
-    point: u64,
-    budget: u32,
-    items: &ItemLog,
-    replies: &mut Replies,
-    choices: &mut Vec<Choice>,
-    steps: &mut Steps<L>,
-    tries: &mut Vec<Try>,
-) -> Result<Option<Adopted>, AllocError>
-    requires failed { CanTry budget (R.rule cpu.old.rule) point cpu.old items.now replies.old }
-    requires within { index < length ring.now.standing }
-    requires same { ring.now.standing ≡ checkpoints_of taken_in cpu.old.slots.saved }
-    ensures tries { (failure : Failure) (checkpoint : Path) → IsUnder failure budget (R.rule cpu.old.rule) → FailedAt point failure cpu.old items.now replies.old → slice_get failure.ring index ≡ Some checkpoint
-        → AllBy failure point checkpoint cpu.new choices.new.items replies.new tries.old.items tries.new.items steps.old steps.new result }
-    ensures saved { KeepsSaved cpu.old cpu.new }
-    ensures ledger { LedgerBy replies.old replies.new result }
-    ensures least { steps.old ≤ steps.new }
-{
-    'environments: for place in 0..ENVIRONMENTS.len() {
-        let env = environment(place);
-        match try_one(
-            alloc, cpu, ring, index, env, point, budget, items, replies, choices, steps, tries,
-        ) {
-            Ok(None) => {}
-            Ok(Some(adopted)) => return Ok(Some(adopted)),
-            Err(e) => return Err(e),
+            Err(e) => Err(e),
         }
     }
-    Ok(None)
-}
 
-// Tries all checkpoints, from the newest on, up to the first trial that survives, which is adopted.
-fn try_ring<R: AccessRule, L: Ledger>(
-    alloc: Global,
-    cpu: &mut Cpu<R>,
-    ring: &Ring,
-    point: u64,
-    budget: u32,
-    items: &ItemLog,
-    replies: &mut Replies,
-    choices: &mut Vec<Choice>,
-    steps: &mut Steps<L>,
-    tries: &mut Vec<Try>,
-) -> Result<Option<Adopted>, AllocError>
-    requires failed { CanTry budget (R.rule cpu.old.rule) point cpu.old items.now replies.old }
-    requires same { ring.now.standing ≡ checkpoints_of taken_in cpu.old.slots.saved }
-    requires none { tries.old.items ≡ [] }
-    ensures walks { (failure : Failure) → IsUnder failure budget (R.rule cpu.old.rule) → FailedAt point failure cpu.old items.now replies.old
-        → RingBy failure point cpu.new choices.new.items replies.old replies.new steps.old steps.new tries.new.items result }
-    ensures saved { KeepsSaved cpu.old cpu.new }
-    ensures ledger { StaysBy replies.old replies.new result }
-    ensures least { steps.old ≤ steps.new }
-{
-    let count = ring.len();
-    'checkpoints: for index in 0..count {
-        match try_all(
-            alloc, cpu, ring, index, point, budget, items, replies, choices, steps, tries,
-        ) {
-            Ok(None) => {}
-            Ok(Some(adopted)) => return Ok(Some(adopted)),
-            Err(e) => return Err(e),
+    // Tries a checkpoint in each environment, up to the first in which the trial survives, which is adopted.
+    fn try_all<L: Ledger>(
+        &mut self,
+        index: u32,
+        limits: TrialLimits,
+        own: &mut Vec<Choice>,
+        steps: &mut Steps<L>,
+        tries: &mut Vec<Try>,
+    ) -> Result<Option<Adopted>, AllocError>
+        requires failed { CanBeTried limits.budget (R.rule self.old.cpu.rule) limits.point self.old }
+        requires within { index < length self.old.ring.standing }
+        requires same { HasSameRing self.old }
+        ensures tries { (failure : Failure) (checkpoint : Path) → IsUnder failure limits.budget (R.rule self.old.cpu.rule) → HasFailedAt limits.point failure self.old → slice_get failure.ring index ≡ Some checkpoint
+            → AllBy failure limits.point checkpoint self.new.cpu own.new.items self.new.replies tries.old.items tries.new.items steps.old steps.new result }
+        ensures kept { KeepsUntried self.old self.new }
+        ensures ledger { LedgerBy self.old.replies self.new.replies result }
+        ensures least { steps.old ≤ steps.new }
+    {
+        'environments: for place in 0..ENVIRONMENTS.len() {
+            let env = environment(place);
+            match self.try_one(Chance { index, env }, limits, own, steps, tries) {
+                Ok(None) => {}
+                Ok(Some(adopted)) => return Ok(Some(adopted)),
+                Err(e) => return Err(e),
+            }
         }
+        Ok(None)
     }
-    replies.discard();
-    Ok(None)
-}
 
-/// Tries to come past a failure: goes on from each checkpoint of the ring, the newest first, in each of five environments, up to the
-/// first trial that survives, and adopts that one. Where and why the program failed stands in the episode, with all trials in their order.
-///
-/// Where a trial was adopted, the guest stands where that trial has come, on its checkpoint; the allocator's answers
-/// since the checkpoint stand in `choices`, and its sends are the survivor's in `replies`. The pages that the trial's run writes since
-/// then (`writes` of `guest_runs`) are those that the guest counts as written. Where none survived, the guest may stand
-/// anywhere. The checkpoints, the items, and what was passed stay as they are. `steps` counts the instructions of all trials.
-///
-/// # Errors
-///
-/// `AllocError` where memory runs out. Trials of the first chances were made then, none of which survived, and one more may be begun. The guest may
-/// stand anywhere, and a trial may be left in `replies`, beside the sends of the run that failed. `steps` counts the instructions of the trial that was
-/// begun, too.
-pub fn walk<R: AccessRule, L: Ledger>(
-    alloc: Global,
-    cpu: &mut Cpu<R>,
-    ring: &Ring,
-    site: FailureSite,
-    budget: u32,
-    items: &ItemLog,
-    replies: &mut Replies,
-    choices: &mut Vec<Choice>,
-    steps: &mut Steps<L>,
-) -> Result<Walked, AllocError>
-    requires failed { CanTry budget (R.rule cpu.old.rule) site.point cpu.old items.now replies.old }
-    requires same { ring.now.standing ≡ checkpoints_of taken_in cpu.old.slots.saved }
-    ensures walks { (failure : Failure) → IsUnder failure budget (R.rule cpu.old.rule) → FailedAt site.point failure cpu.old items.now replies.old
-        → WalksBy failure site.point cpu.new choices.new.items replies.old replies.new steps.old steps.new result }
-    ensures episode { IfOk result (λ walked. IsEpisode site walked.episode) }
-    ensures saved { KeepsSaved cpu.old cpu.new }
-    ensures ledger { StaysBy replies.old replies.new result }
-    ensures one_run { (failure : Failure) → IsUnder failure budget (R.rule cpu.old.rule) → FailedAt site.point failure cpu.old items.now replies.old
-        → IsOfOneRun failure site.point replies.new }
-    ensures least { steps.old ≤ steps.new }
-{
-    let mut tries = Vec::new(alloc);
-    match try_ring(
-        alloc, cpu, ring, site.point, budget, items, replies, choices, steps, &mut tries,
-    ) {
-        Ok(adopted) => Ok(Walked {
-            episode: Episode {
-                point: site.point,
-                cause: site.cause,
-                pc: site.pc,
-                tries: Tries::from_vec(tries),
-            },
-            adopted,
-        }),
-        Err(e) => Err(e),
+    // Tries all checkpoints, from the newest on, up to the first trial that survives, which is adopted.
+    fn try_ring<L: Ledger>(
+        &mut self,
+        limits: TrialLimits,
+        own: &mut Vec<Choice>,
+        steps: &mut Steps<L>,
+        tries: &mut Vec<Try>,
+    ) -> Result<Option<Adopted>, AllocError>
+        requires failed { CanBeTried limits.budget (R.rule self.old.cpu.rule) limits.point self.old }
+        requires same { HasSameRing self.old }
+        requires none { tries.old.items ≡ [] }
+        ensures walks { (failure : Failure) → IsUnder failure limits.budget (R.rule self.old.cpu.rule) → HasFailedAt limits.point failure self.old
+            → RingBy failure limits.point self.new.cpu own.new.items self.old.replies self.new.replies steps.old steps.new tries.new.items result }
+        ensures kept { KeepsUntried self.old self.new }
+        ensures ledger { StaysBy self.old.replies self.new.replies result }
+        ensures least { steps.old ≤ steps.new }
+    {
+        let count = self.ring.len();
+        'checkpoints: for index in 0..count {
+            match self.try_all(index, limits, own, steps, tries) {
+                Ok(None) => {}
+                Ok(Some(adopted)) => return Ok(Some(adopted)),
+                Err(e) => return Err(e),
+            }
+        }
+        self.replies.discard();
+        Ok(None)
+    }
+
+    /// Tries to come past a failure: goes on from each checkpoint of the ring, the newest first, in each of five environments, up to the
+    /// first trial that survives, and adopts that one. Where and why the program failed stands in the episode, with all trials in their order.
+    ///
+    /// Where a trial was adopted, the guest stands where that trial has come, on its checkpoint; the allocator's answers
+    /// since the checkpoint stand in `own`, and its sends are the survivor's in the replies. The pages that the trial's run writes since
+    /// then (`writes` of `guest_runs`) are those that the guest counts as written. Where none survived, the guest may stand
+    /// anywhere. What was passed stays as it is. `steps` counts the instructions of all trials.
+    ///
+    /// # Errors
+    ///
+    /// `AllocError` where memory runs out. Trials of the first chances were made then, none of which survived, and one more may be begun. The guest may
+    /// stand anywhere, and a trial may be left in the replies, beside the sends of the run that failed. `steps` counts the instructions of the trial that
+    /// was begun, too.
+    pub fn walk<L: Ledger>(
+        &mut self,
+        site: FailureSite,
+        budget: u32,
+        own: &mut Vec<Choice>,
+        steps: &mut Steps<L>,
+    ) -> Result<Walked, AllocError>
+        requires failed { CanBeTried budget (R.rule self.old.cpu.rule) site.point self.old }
+        requires same { HasSameRing self.old }
+        ensures walks { (failure : Failure) → IsUnder failure budget (R.rule self.old.cpu.rule) → HasFailedAt site.point failure self.old
+            → WalksBy failure site.point self.new.cpu own.new.items self.old.replies self.new.replies steps.old steps.new result }
+        ensures episode { IfOk result (λ walked. IsEpisode site walked.episode) }
+        ensures kept { KeepsUntried self.old self.new }
+        ensures ledger { StaysBy self.old.replies self.new.replies result }
+        ensures one_run { (failure : Failure) → IsUnder failure budget (R.rule self.old.cpu.rule) → HasFailedAt site.point failure self.old
+            → IsOfOneRun failure site.point self.new.replies }
+        ensures least { steps.old ≤ steps.new }
+    {
+        let mut tries = Vec::new(self.alloc);
+        let limits = TrialLimits {
+            point: site.point,
+            budget,
+        };
+        match self.try_ring(limits, own, steps, &mut tries) {
+            Ok(adopted) => Ok(Walked {
+                episode: Episode {
+                    point: site.point,
+                    cause: site.cause,
+                    pc: site.pc,
+                    tries: Tries::from_vec(tries),
+                },
+                adopted,
+            }),
+            Err(e) => Err(e),
+        }
     }
 }

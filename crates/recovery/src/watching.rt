@@ -1,17 +1,13 @@
 // Who else looks at a failure.
 ghost use Rattle.std.specs.Prelude.{◌≡◌, ◌+◌, ◌≤◌, ℕ, List, Option, None};
-ghost use Rattle.ckpt_ring.specs.Rings.{checkpoints_of};
 ghost use Rattle.session_notes.specs.declared.episode.Try.{Try};
-ghost use Rattle.recovery.specs.Sessions.{CanTry, Failure, FailedAt, IsUnder, taken_in};
-ghost use Rattle.recovery.specs.Trying.{KeepsSaved};
+ghost use Rattle.recovery.specs.Sessions.{Failure, IsUnder};
+ghost use Rattle.recovery.specs.Recoverables.{CanBeTried, HasFailedAt, HasSameRing, KeepsUntried};
 ghost use Rattle.recovery.specs.Walking.{LeavesNoTrial};
 ghost use Rattle.recovery.specs.Watching.{LooksBy};
 
-use ckpt_ring::Ring;
-use guest_cpu::Cpu;
+use crate::Recoverable;
 use guest_space::AccessRule;
-use item_log::ItemLog;
-use reply_ledger::Replies;
 use rx_io::Steps;
 use std::alloc::AllocError;
 use std::sync::ledger::Ledger;
@@ -25,30 +21,26 @@ pub trait Watch {
     ghost tables: { Self → Option (List (List Try)) };
 
     /// A program failed with so many items taken, as `walk` expects it, and may be run from its checkpoints as often as one likes.
-    /// Checkpoints, items, replies and what was passed stay as they are, and no trial is left in `replies`. The guest may stand
-    /// anywhere. `steps` counts its instructions. A watch that tells its tables tells one more then: a try for each checkpoint in
-    /// each environment, in the order of a walk, with the result that it has.
+    /// No trial is left in the replies, and the guest may stand anywhere. All else of `held` stays as it is. `steps` counts the guest's instructions. A
+    /// watch that tells its tables tells one more then: a try for each checkpoint in each environment, in the order of a walk, with the result that it has.
     ///
     /// # Errors
     ///
     /// `AllocError` where memory runs out. A trial may be left then. No table more is told.
     fn failed<R: AccessRule, L: Ledger>(
         &mut self,
-        cpu: &mut Cpu<R>,
-        ring: &Ring,
+        held: &mut Recoverable<R>,
         point: u64,
         budget: u32,
-        items: &ItemLog,
-        replies: &mut Replies,
         steps: &mut Steps<L>,
     ) -> Result<(), AllocError>
-        requires failed { CanTry budget (R.rule cpu.old.rule) point cpu.old items.now replies.old }
-        requires same { ring.now.standing ≡ checkpoints_of taken_in cpu.old.slots.saved }
-        ensures saved { KeepsSaved cpu.old cpu.new }
-        ensures ledger { LeavesNoTrial replies.old replies.new result }
+        requires failed { CanBeTried budget (R.rule held.old.cpu.rule) point held.old }
+        requires same { HasSameRing held.old }
+        ensures kept { KeepsUntried held.old held.new }
+        ensures ledger { LeavesNoTrial held.old.replies held.new.replies result }
         ensures counted { steps.new + ran self.old ≡ steps.old + ran self.new }
         ensures least { ran self.old ≤ ran self.new }
-        ensures tells { (failure : Failure) → IsUnder failure budget (R.rule cpu.old.rule) → FailedAt point failure cpu.old items.now replies.old
+        ensures tells { (failure : Failure) → IsUnder failure budget (R.rule held.old.cpu.rule) → HasFailedAt point failure held.old
             → LooksBy failure point (tables self.old) (tables self.new) result };
 }
 
@@ -63,15 +55,12 @@ impl Watch for NoWatch {
 
     fn failed<R: AccessRule, L: Ledger>(
         &mut self,
-        _cpu: &mut Cpu<R>,
-        _ring: &Ring,
+        held: &mut Recoverable<R>,
         _point: u64,
         _budget: u32,
-        _items: &ItemLog,
-        replies: &mut Replies,
         _steps: &mut Steps<L>,
     ) -> Result<(), AllocError> {
-        replies.discard();
+        held.replies.discard();
         Ok(())
     }
 }

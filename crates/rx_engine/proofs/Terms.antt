@@ -1,15 +1,17 @@
 -- The words and lemmas that this crate's proofs are written in: those of crates below, and its own words.
-pub use Rattle.std.proofs.Common.{Err, None, Ok, Some, [], ap, arith, inl, length, refl, rules, subst, sym, ℕ, ◌*◌, ◌++◌, ◌+◌, ◌-◌, ◌/◌, ◌<◌, ◌^◌, ◌∙◌, ◌∷◌, ◌≡◌, ◌≤◌}
+pub use Rattle.std.proofs.Common.{Err, List, None, Ok, Option, Some, [], ap, arith, false, inl, length, refl, rules, subst, sym, ℕ, ◌*◌, ◌++◌, ◌+◌, ◌-◌, ◌<◌, ◌^◌, ◌∙◌, ◌∷◌, ◌≡◌, ◌≤◌}
 pub use Rattle.std.specs.Prelude.{IfSome, slice_get}
 pub use Rattle.links.specs.Seen.{Seen}
 pub use Rattle.item_log.specs.Log.{IsItemOf, Log, received}
 pub use Rattle.reply_ledger.specs.Ledger.{Ledger, NotBefore}
 unfoldable pub use Rattle.reply_ledger.specs.Ledger.{is_open, times_of}
-pub use Rattle.guest_cpu.specs.Cpus.{CpuState, IsFreshCpu}
+pub use Rattle.run_history.specs.Served.{Override, Path, origin}
 pub use Rattle.session_history.specs.Giving.{IsClosing, IsReady}
 pub use Rattle.session_history.specs.Lawful.{Rules}
 pub use Rattle.link_gate.specs.Passing.{CanGive}
-pub use Rattle.recovery.specs.Handling.{alone, keeping_by, stands_of}
+pub use Rattle.recovery.specs.declared.recoverable.Recoverable.{Recoverable}
+pub use Rattle.recovery.specs.Handling.{Stand, alone, handle, is_far, keeping_by, stands_of}
+pub use Rattle.recovery.specs.Rings.{CanSave, KeepsRing, SavesIf, is_due}
 pub use Rattle.session_state.specs.declared.options.Options.{Options}
 pub use Rattle.session_state.proofs.ending.EndLemmas.{end_of, ending_moved, served_off}
 pub use Rattle.session_state.proofs.ending.FaultLemmas.{note_answered}
@@ -25,6 +27,7 @@ pub use Rattle.session_state.proofs.guest.ServeLemmas.{run_breaks, run_chooses}
 pub use Rattle.session_state.proofs.passing.DueLemmas.{comes_between}
 pub use Rattle.session_state.proofs.passing.PassLemmas.{breaks_by, may_pass, passes_ok, rest_ok}
 pub use Rattle.session_state.proofs.passing.PassingLemmas.{closed_can, closing_can, due_behind, due_passed, due_ready, ending_can, ending_ready, finish_fault, finish_ok, finish_unnoted, gives_closed, none_due, none_passed, passed_then, received_given, rest_passed}
+pub use Rattle.session_state.proofs.recovering.AdoptLemmas.{adopt_breaks, adopt_least, adopt_none, adopt_some, adopted_later, adopting_at, adopting_in, counts_seen, failing_moved, failure_of, goes_as, to_recover, walked}
 pub use Rattle.session_state.proofs.recovering.RecoverLemmas.{comes_lost, ends_adopted, failing_told, gives_same, goes_adopted, lost_behind, missed_episode, noted_episode, one_more}
 pub use Rattle.session_state.proofs.recovering.TableLemmas.{counted_alone, watched_kept}
 pub use Rattle.session_state.proofs.standing.FrameLemmas.{forgot_frame, guest_frame, noted_frame, passed_adopted, passed_counted, passed_frame, same_rules, saved_frame}
@@ -36,4 +39,4 @@ pub use Rattle.session_state.specs.Options.{keeping_for, rules_of}
 pub use Rattle.session_state.specs.Recovered.{HasWatched}
 pub use Rattle.session_state.specs.Serving.{IsCounted, IsFinishing, IsToldBy, MayServe, StandsClosing, StandsEnding, StandsPassing, StopsBy, TakesBy, TrimsAt, TrimsBy, UnlessBroken, outcome_of, rules_by}
 pub use Rattle.session_state.specs.Sessions.{IsBegun, SessionState}
-pub use Rattle.session_state.specs.Standing.{HasPassed, IsBetween, IsEnding, IsGoing, IsWaitingFor, Since, Story, entries, moment, sends, then_story, told_since}
+pub use Rattle.session_state.specs.Standing.{HasPassed, IsBetween, IsBrokenOff, IsEnding, IsGoing, IsWaitingFor, Since, Story, entries, moment, sends, then_story, told_since}

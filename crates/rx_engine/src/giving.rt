@@ -21,8 +21,8 @@ impl<R: AccessRule> Session<R> {
         ensures keeps { KeepsGiving (K.seen link.old) (K.seen link.new) self.old self.new result }
         ensures went { K.Went link.old link.new }
     {
-        let stamp = self.log.received();
-        if let Err(fault) = pass_until(&mut self.replies, link, until, stamp) {
+        let stamp = self.held.log.received();
+        if let Err(fault) = pass_until(&mut self.held.replies, link, until, stamp) {
             return Err(Stop::Breaks(answer_to(fault)));
         }
         Ok(())
@@ -50,11 +50,11 @@ impl<R: AccessRule> Session<R> {
         ensures keeps { KeepsGiving (K.seen link.old) (K.seen link.new) self.old self.new result }
         ensures went { K.Went link.old link.new }
     {
-        let stamp = self.log.received();
-        if let Err(fault) = pass_rest(&mut self.replies, link, conn, stamp) {
+        let stamp = self.held.log.received();
+        if let Err(fault) = pass_rest(&mut self.held.replies, link, conn, stamp) {
             return Err(Stop::Breaks(answer_to(fault)));
         }
-        self.replies.closes(conn);
+        self.held.replies.closes(conn);
         self.pass_due(link)
     }
 }

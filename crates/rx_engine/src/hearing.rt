@@ -40,8 +40,8 @@ impl<R: AccessRule> Session<R> {
     {
         match hear(
             link,
-            &mut self.log,
-            &mut self.replies,
+            &mut self.held.log,
+            &mut self.held.replies,
             &mut self.events,
             self.options.max_events,
         ) {
@@ -62,7 +62,7 @@ impl<R: AccessRule> Session<R> {
         ensures keeps { KeepsHearing (K.seen link.old) (K.seen link.new) self.old self.new result }
         ensures went { K.Went link.old link.new }
     {
-        'waits: while self.log.received() <= self.taken {
+        'waits: while self.held.log.received() <= self.taken {
             if let Err(stop) = self.hear(link) {
                 return Err(stop);
             }

@@ -8,7 +8,7 @@ ghost use Rattle.session_state.specs.Serving.{IsNoteAnswer, ComesBetween, Stands
 use crate::Session;
 use guest_space::AccessRule;
 use links::Link;
-use recovery::{Adopted, FailureSite, Recovered, Watch, recover};
+use recovery::{Adopted, FailureSite, Recovered, Watch};
 use run_history::Cause;
 use rx_io::{IoFault, Steps};
 use session_history::{SessionBreak, SessionEnd, Stop};
@@ -83,20 +83,9 @@ impl<R: AccessRule> Session<R> {
         ensures least { self.new.steps + (W.ran watch.new + steps.old) ≤ W.ran watch.old + steps.new + self.old.steps }
     {
         let point = self.taken;
-        let pc = self.cpu.pc();
-        match recover(
-            self.alloc,
-            &mut self.cpu,
-            &mut self.ring,
-            FailureSite { point, cause, pc },
-            self.options.budget,
-            &self.log,
-            &mut self.replies,
-            self.recorded,
-            &mut self.choices,
-            watch,
-            steps,
-        ) {
+        let pc = self.held.cpu.pc();
+        let site = FailureSite { point, cause, pc };
+        match self.held.recover(site, self.options.budget, watch, steps) {
             Ok(recovered) => match recovered.adopted {
                 Some(adopted) => {
                     self.env = adopted.env;

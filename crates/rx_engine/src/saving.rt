@@ -15,7 +15,6 @@ ghost use Rattle.session_state.specs.Serving.{IsReadyToServe, StandsSomewhere, W
 use crate::Session;
 use crate::recovering::note_answer;
 use guest_space::AccessRule;
-use recovery::{begin_ring, checkpoint, forget};
 use session_history::{SessionBreak, Stop};
 use session_notes::Notes;
 use session_state::note_up_to;
@@ -29,7 +28,7 @@ impl<R: AccessRule> Session<R> {
         ensures first { stands_of self.new.cpu.slots.saved ≡ alone 0 self.new.cpu.slots.pages }
         ensures keeps { KeepsSaving self.old self.new }
     {
-        begin_ring(&mut self.cpu, &mut self.ring);
+        self.held.save_start();
     }
 
     /// Saves the guest at its request for an item as the newest checkpoint, where enough items were taken since the last one.
@@ -40,12 +39,7 @@ impl<R: AccessRule> Session<R> {
         ensures saved { SavesIf (is_due self.old.options.every self.old.taken self.old.ring.standing) self.old.ring.capacity self.old.cpu self.new.cpu }
         ensures keeps { KeepsSaving self.old self.new }
     {
-        checkpoint(
-            &mut self.cpu,
-            &mut self.ring,
-            self.taken,
-            self.options.every,
-        );
+        self.held.save(self.options.every);
     }
 
     /// Notes the answers of the allocator that no trial can take back any more: those from before the oldest checkpoint.
@@ -56,8 +50,13 @@ impl<R: AccessRule> Session<R> {
         ensures keeps { KeepsNoting (N.shown notes.old) (N.shown notes.new) self.old self.new result }
         ensures fixed { N.fixed notes.new ≡ N.fixed notes.old }
     {
-        let safe = self.cpu.oldest_marks().choices;
-        if let Err(fault) = note_up_to(notes, safe, &mut self.recorded, &mut self.choices) {
+        let safe = self.held.cpu.oldest_marks().choices;
+        if let Err(fault) = note_up_to(
+            notes,
+            safe,
+            &mut self.held.recorded,
+            &mut self.held.choices,
+        ) {
             return Err(Stop::Breaks(note_answer(fault)));
         }
         Ok(())
@@ -69,7 +68,7 @@ impl<R: AccessRule> Session<R> {
         ensures waits { (image : Image) (began : Since) (seen : Seen) → IsWaitingFor (rules_by R.rule self.old) image began seen self.old → IsWaitingFor (rules_by R.rule self.old) image began seen self.new }
         ensures keeps { KeepsForgetting self.old self.new }
     {
-        forget(&self.cpu, &mut self.log, &mut self.replies);
+        self.held.forget();
     }
 
     /// At an end: gives up the replies from before the oldest checkpoint.
@@ -78,8 +77,8 @@ impl<R: AccessRule> Session<R> {
         ensures same { self.new ≡ record self.old { replies = self.new.replies } }
         ensures trimmed { IfSome (slice_get self.old.cpu.slots.saved 0) (λ oldest. self.new.replies ≡ trimmed self.old.replies oldest.state.sends) }
     {
-        let oldest = self.cpu.oldest_marks();
-        self.replies.trim(oldest.sends);
+        let oldest = self.held.cpu.oldest_marks();
+        self.held.replies.trim(oldest.sends);
     }
 
     /// At an end: notes the answers of the allocator that aren't noted yet.
@@ -89,8 +88,8 @@ impl<R: AccessRule> Session<R> {
         ensures shows { HasNoteRest (N.shown notes.old) (N.shown notes.new) result }
         ensures fixed { N.fixed notes.new ≡ N.fixed notes.old }
     {
-        let all = self.recorded + self.choices.len() as u64;
-        match note_up_to(notes, all, &mut self.recorded, &mut self.choices) {
+        let all = self.held.recorded + self.held.choices.len() as u64;
+        match note_up_to(notes, all, &mut self.held.recorded, &mut self.held.choices) {
             Ok(()) => Ok(()),
             Err(fault) => Err(note_answer(fault)),
         }

@@ -83,8 +83,8 @@ impl<R: AccessRule> Session<R> {
         ensures shows { Finishes (K.seen link.old) (K.seen link.new) (N.shown notes.old) (N.shown notes.new) end result }
         ensures outside { K.Went link.old link.new × (N.fixed notes.new ≡ N.fixed notes.old) }
     {
-        let stamp = self.log.received();
-        if let Err(fault) = pass_until(&mut self.replies, link, u64::MAX, stamp) {
+        let stamp = self.held.log.received();
+        if let Err(fault) = pass_until(&mut self.held.replies, link, u64::MAX, stamp) {
             return Stop::Breaks(answer_to(fault));
         }
         if let Err(fault) = self.note_rest(notes) {
@@ -112,8 +112,9 @@ impl<R: AccessRule> Session<R> {
     {
         let env = self.env_now();
         match self
+            .held
             .cpu
-            .run_to_event(self.alloc, env, self.options.budget, steps)
+            .run_to_event(self.held.alloc, env, self.options.budget, steps)
         {
             Ok(Event::Asks) => {
                 self.count_run();
@@ -183,7 +184,9 @@ impl<R: AccessRule> Session<R> {
         ensures keeps { KeepsItem self.old self.new }
         ensures counted { steps.new ≡ steps.old + 1 }
     {
-        self.cpu.take_item(self.log.item(self.taken), steps);
+        self.held
+            .cpu
+            .take_item(self.held.log.item(self.taken), steps);
         self.count_run();
     }
 
@@ -196,7 +199,7 @@ impl<R: AccessRule> Session<R> {
         ensures keeps { KeepsSending (K.seen link.old) (K.seen link.new) self.old self.new result }
         ensures went { K.Went link.old link.new }
     {
-        if let Err(_) = self.replies.sent(conn, bytes, self.taken) {
+        if let Err(_) = self.held.replies.sent(conn, bytes, self.taken) {
             return Err(Stop::Breaks(SessionBreak::Memory));
         }
         self.count_run();
@@ -210,7 +213,7 @@ impl<R: AccessRule> Session<R> {
             → ComesBetween (rules_by R.rule self.old) image (record began { lost = lost }) seen self.new result }
         ensures keeps { KeepsChoosing self.old self.new result }
     {
-        if let Err(_) = self.choices.push(choice) {
+        if let Err(_) = self.held.choices.push(choice) {
             return Err(Stop::Breaks(SessionBreak::Memory));
         }
         self.count_run();

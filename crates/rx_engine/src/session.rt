@@ -6,31 +6,19 @@ ghost use Rattle.session_state.specs.Sessions.{IsBegun, env_of};
 use crate::Left;
 use alloc_env::Env;
 use block_book::{Choice, Choices};
-use ckpt_ring::Ring;
 use elf_image::Image;
-use guest_cpu::Cpu;
 use guest_space::AccessRule;
-use item_log::ItemLog;
-use reply_ledger::Replies;
+use recovery::{Recoverable, Room};
 use session_state::Options;
 use std::alloc::{AllocError, Global};
 use std::marker::Model;
 
-const PAGE: u32 = 4096;
-
 /// A session of a program over a link.
 #[derive(Drop)]
 pub struct Session<R: AccessRule> {
-    pub(crate) alloc: Global,
     pub(crate) options: Options,
-    pub(crate) cpu: Cpu<R>,
-    pub(crate) ring: Ring,
-    pub(crate) log: ItemLog,
-    pub(crate) replies: Replies,
+    pub(crate) held: Recoverable<R>,
     pub(crate) events: u64,
-    // How many of the run's answers of the allocator are noted, and the others.
-    pub(crate) recorded: u64,
-    pub(crate) choices: Vec<Choice>,
     pub(crate) taken: u64,
     pub(crate) steps: u64,
     pub(crate) env: Env,
@@ -43,7 +31,7 @@ impl<R: AccessRule> Model for Session<R> {
 
     ghost Value = { SessionState R };
 
-    ghost view = { λ s. record { options = s.options; cpu = s.cpu; ring = s.ring; log = s.log; replies = s.replies; events = s.events; recorded = s.recorded; choices = s.choices.items; taken = s.taken; steps = s.steps; env = s.env; until = s.until } };
+    ghost view = { λ s. record { options = s.options; cpu = s.held.cpu; ring = s.held.ring; log = s.held.log; replies = s.held.replies; events = s.events; recorded = s.held.recorded; choices = s.held.choices.items; taken = s.taken; steps = s.steps; env = s.env; until = s.until } };
 
     ghost invariant = { λ s. AreInRange s.options };
 }
@@ -60,21 +48,17 @@ impl<R: AccessRule + Drop> Session<R> {
         requires window { options.now.window ≡ image.now.window }
         ensures { IfOk result (IsBegun image.now options.now rule) }
     {
-        let frames = options.frames * (options.window / PAGE);
-        let ring = Ring::make(alloc, options.ring)?;
-        let log = ItemLog::make(alloc, options.frame, options.max_items)?;
-        let replies = Replies::make(alloc)?;
-        let cpu = Cpu::make(alloc, image, options.ring, frames, rule)?;
+        let room = Room {
+            ring: options.ring,
+            frames: options.frames,
+            framing: options.frame,
+            max_items: options.max_items,
+        };
+        let held = Recoverable::make(alloc, image, room, rule)?;
         Ok(Session {
-            alloc,
             options: *options,
-            cpu,
-            ring,
-            log,
-            replies,
+            held,
             events: 0,
-            recorded: 0,
-            choices: Vec::new(alloc),
             taken: 0,
             steps: 0,
             env: Env::Plain,
@@ -87,15 +71,19 @@ impl<R: AccessRule + Drop> Session<R> {
         ensures { result ≡ record { recorded = self.recorded; tail = self.choices; steps = self.steps; taken = self.taken; cpu = self.cpu; log = self.log; replies = self.replies } }
     {
         let Session {
+            held,
+            taken,
+            steps,
+            ..
+        } = self;
+        let Recoverable {
             cpu,
             log,
             replies,
             recorded,
             choices,
-            taken,
-            steps,
             ..
-        } = self;
+        } = held;
         Left {
             recorded,
             tail: Choices::from_vec(choices),
@@ -127,14 +115,14 @@ impl<R: AccessRule> Session<R> {
     pub fn recorded(&self) -> u64
         ensures { result ≡ self.now.recorded }
     {
-        self.recorded
+        self.held.recorded
     }
 
     /// The answers of the allocator that it used behind those, in their order.
     pub fn choices(&self) -> &[Choice]
         ensures { result.now ≡ self.now.choices }
     {
-        self.choices.as_slice()
+        self.held.choices.as_slice()
     }
 
     /// The environment that is in force with the items taken so far.
@@ -151,7 +139,7 @@ impl<R: AccessRule> Session<R> {
     pub(crate) fn count_run(&mut self)
         ensures { self.new ≡ record self.old { taken = self.old.cpu.slots.live.guest.machine.taken; steps = self.old.cpu.slots.live.steps } }
     {
-        let marks = self.cpu.marks();
+        let marks = self.held.cpu.marks();
         self.taken = marks.taken;
         self.steps = marks.steps;
     }

@@ -1,12 +1,8 @@
 // A watch that lets a teller know what is seen at a failure.
 use crate::sight;
 use crate::teller::Teller;
-use ckpt_ring::Ring;
-use guest_cpu::Cpu;
 use guest_space::AccessRule;
-use item_log::ItemLog;
-use recovery::Watch;
-use reply_ledger::Replies;
+use recovery::{Recoverable, Watch};
 use rx_io::Steps;
 use std::alloc::AllocError;
 use std::sync::ledger::Ledger;
@@ -43,19 +39,15 @@ impl<'a, T: Teller, W: Watch> Watch for TellingWatch<'a, T, W> {
 
     fn failed<R: AccessRule, L: Ledger>(
         &mut self,
-        cpu: &mut Cpu<R>,
-        ring: &Ring,
+        held: &mut Recoverable<R>,
         point: u64,
         budget: u32,
-        items: &ItemLog,
-        replies: &mut Replies,
         steps: &mut Steps<L>,
     ) -> Result<(), AllocError> {
         if self.teller.wants() {
-            let seen = sight(cpu, items, point);
+            let seen = sight(&held.cpu, &held.log, point);
             self.teller.failed(&seen);
         }
-        self.watch
-            .failed(cpu, ring, point, budget, items, replies, steps)
+        self.watch.failed(held, point, budget, steps)
     }
 }

@@ -1,12 +1,8 @@
 // A watch that counts the failures at which it looks, and tells no tables.
 ghost use Rattle.std.specs.Prelude.{None};
 
-use ckpt_ring::Ring;
-use guest_cpu::Cpu;
 use guest_space::AccessRule;
-use item_log::ItemLog;
-use recovery::Watch;
-use reply_ledger::Replies;
+use recovery::{Recoverable, Watch};
 use rx_io::Steps;
 use std::alloc::AllocError;
 use std::sync::ledger::Ledger;
@@ -23,16 +19,13 @@ impl Watch for FailureCount {
 
     fn failed<R: AccessRule, L: Ledger>(
         &mut self,
-        _cpu: &mut Cpu<R>,
-        _ring: &Ring,
+        held: &mut Recoverable<R>,
         _point: u64,
         _budget: u32,
-        _items: &ItemLog,
-        replies: &mut Replies,
         _steps: &mut Steps<L>,
     ) -> Result<(), AllocError> {
         self.failures = self.failures.saturating_add(1);
-        replies.discard();
+        held.replies.discard();
         Ok(())
     }
 }

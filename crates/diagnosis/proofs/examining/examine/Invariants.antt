@@ -2,4 +2,4 @@ use Rattle.diagnosis.proofs.ExaminedLemmas.{ExaminedRing}
 use Rattle.diagnosis.proofs.examining.examine.Given as goal
 
 abbrev pub invariant-checkpoints : goal.invariant-checkpoints
-invariant-checkpoints g l = ExaminedRing g.R.AccessRule.rule l.budget l.point l.items l.fn.cpu l.cpu l.fn.replies l.replies l.fn.steps l.steps l.tries.items l.index
+invariant-checkpoints g l = ExaminedRing g.R.AccessRule.rule l.limits.budget l.limits.point l.fn.held l.held l.fn.steps l.steps l.tries.items l.index

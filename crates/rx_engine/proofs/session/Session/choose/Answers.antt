@@ -13,5 +13,5 @@ returns-clause-turns g c image began seen lost takes h counts =
     let steps : c.count_run.new.self.steps ≡ c.args.self.now.cpu.slots.live.steps = ap (λ (s : SessionState _). s.steps) c.count_run.ensures ∙ ap (λ (s : SessionState _). s.cpu.slots.live.steps) c.self.view_is in
     comes_lost (rules_by g.R.AccessRule.rule c.args.self.now) image began seen c.count_run.new.self (Ok tt) (omega (arith, counts, steps))
     (subst (λ (s : SessionState _). IsBetween (rules_by g.R.AccessRule.rule c.args.self.now) image began seen s) (sym c.count_run.ensures)
-    (run_chooses h (ap (λ (s : SessionState _). record s { replies = c.self.inside.replies; choices = c.push.new.self.items; taken = c.self.inside.cpu.slots.live.guest.machine.taken; steps = c.self.inside.cpu.slots.live.steps }) c.self.view_is)
+    (run_chooses h (ap (λ (s : SessionState _). record s { replies = c.self.inside.held.replies; choices = c.push.new.self.items; taken = c.self.inside.held.cpu.slots.live.guest.machine.taken; steps = c.self.inside.held.cpu.slots.live.steps }) c.self.view_is)
     (ap (λ (s : SessionState _). s.replies) c.self.view_is) (c.in_default.ensures.items ∙ ap (λ (s : SessionState _). s.choices ++ c.args.choice ∷ []) c.self.view_is) (record { taken = refl; steps = refl })))

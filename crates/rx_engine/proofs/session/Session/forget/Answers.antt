@@ -1,4 +1,5 @@
-use Rattle.rx_engine.proofs.Terms.{rules, subst, sym, forgot_up, moved, waits_forgets, waits_forgot, IsRecorded, rules_by, SessionState, entries}
+use Rattle.rx_engine.proofs.Terms.{rules, subst, sym, forgot_up, moved, waits_forgets, waits_forgot, IsRecorded, IsTrimmed, rules_by, SessionState, entries}
+use Rattle.rx_engine.proofs.HeldLemmas.{forgets_as, forgot_as, session_of}
 use Rattle.rx_engine.proofs.session.Session.forget.Goals as goal
 
 pub forget-requires : goal.forget-requires
@@ -9,18 +10,19 @@ returns-clause-waits g c image began seen waits =
     let the_rules = rules_by g.R.AccessRule.rule c.args.self.now in
     let w = moved (sym c.self.view_is) waits in
     let story = w.hearing.story in
-    waits_forgot w
-    (c.forget.ensures.forgets the_rules image (entries story) story.survivor.plan story.survivor.now w.hearing.saved.paths c.self.inside.ring w.hearing.saved.ring w.hearing.goes.items w.hearing.passed.replies) c.forget.ensures.trial
+    moved (forgot_as c.self.inside c.forget.new.self c.forget.ensures.rest)
+    (waits_forgot w
+    (forgets_as c.self.inside.held c.forget.new.self c.forget.ensures.rest
+    (c.forget.ensures.forgets the_rules image (entries story) story.survivor.plan story.survivor.now w.hearing.saved.paths w.hearing.saved.ring w.hearing.goes.items w.hearing.passed.replies)) c.forget.ensures.trial)
 
 pub returns-clause-keeps : goal.returns-clause-keeps
 returns-clause-keeps g c =
     let w = moved (sym c.self.view_is) c.requires.waits.is in
     let story = w.hearing.story in
-    let old : SessionState _ = record c.args.self.now { cpu = c.self.inside.cpu; ring = c.self.inside.ring; log = c.self.inside.log; replies = c.self.inside.replies; recorded = c.self.inside.recorded } in
     record {
       same = search rules;
       trimmed = λ recorded.
-          (let up = forgot_up {old = old} w.hearing.saved.ring c.forget.ensures.first c.forget.ensures.first_send (subst (λ (s : SessionState _). IsRecorded s) (sym c.self.view_is) recorded) in
-          record { items = up.items; recorded = up.recorded; sends = up.sends });
+          subst (λ (s : SessionState _). IsTrimmed s) (forgot_as c.self.inside c.forget.new.self c.forget.ensures.rest)
+          (forgot_up {old = session_of c.self.inside} w.hearing.saved.ring c.forget.ensures.first c.forget.ensures.first_send (subst (λ (s : SessionState _). IsRecorded s) (sym c.self.view_is) recorded));
       opened = search rules;
     }

@@ -34,7 +34,7 @@ returns-clause-keeps g c =
     record {
       notes = notes_noted c.in_default.ensures.keeps;
       same = search rules;
-      recorded = subst (λ n. IfSome (slice_get c.self.inside.cpu.slots.saved 0) (λ oldest. n ≡ oldest.state.guest.machine.allocations)) (up_to_safe low c.in_default.ensures.noted.1) up;
+      recorded = subst (λ n. IfSome (slice_get c.self.inside.held.cpu.slots.saved 0) (λ oldest. n ≡ oldest.state.guest.machine.allocations)) (up_to_safe low c.in_default.ensures.noted.1) up;
       broken = search rules;
     }
 
@@ -42,7 +42,7 @@ pub returns-in-Err-clause-keeps : goal.returns-in-Err-clause-keeps
 returns-in-Err-clause-keeps g c =
     let w = moved (sym c.self.view_is) c.requires.waits.is in
     let h = w.hearing in
-    let old : SessionState _ = record c.args.self.now { cpu = c.self.inside.cpu; ring = c.self.inside.ring; log = c.self.inside.log; replies = c.self.inside.replies; recorded = c.self.inside.recorded; choices = c.self.inside.choices.items } in
+    let old : SessionState _ = record c.args.self.now { cpu = c.self.inside.held.cpu; ring = c.self.inside.held.ring; log = c.self.inside.held.log; replies = c.self.inside.held.replies; recorded = c.self.inside.held.recorded; choices = c.self.inside.held.choices.items } in
     let cut = cut_as old c.in-Err.ensures.noted.1 c.in-Err.ensures.noted.2 (cut_short {session = old} c.oldest_marks-safe.result c.oldest_marks-safe.ensures h.saved.ring c.in-Err.ensures.noted.4) in
     record {
       notes = notes_stopped c.in-Err.fault c.note_answer.result c.in-Err.ensures.keeps c.note_answer.ensures;
