@@ -1,9 +1,9 @@
 -- A page of the live space that moves to a free frame.
-use Rattle.cow_pages.proofs.Terms.{All, Bool, List, None, Some, [], ap, arith, cond, drop, false, get_or, inl, inr, length, map, nat_lt, refl, set, subst, sym, take, true, ℕ, ◌*◌, ◌++◌, ◌+◌, ◌<◌, ◌||◌, ◌∙◌, ◌∷◌, ◌≡◌, ◌≤◌, ◌⊎◌, cases_Bool, cases_eq, cases_lt, false≢true, lt-ltb, ltb-true, or_left, or_parts, or_right, get_or-set_other, get_or-set_same, get_or_append_left, get_or_push, length-append, length-set, take_at, All-cons, All-head, All-nil, All-tail, PAGE, Slot, Pages, different, has, saved_numbers, used_of, IsFree, NumberAfter, Owns, is_shared, IsSlot, IsSound, IsStack, IsTable, contents, pages_of, places, slot_numbers, slot_space, space_of, table_numbers}
-use Rattle.cow_pages.proofs.Counting.{AreBelow, has-append, has-is, places-append, has-get_or, different-append-lt, places-set}
-use Rattle.cow_pages.proofs.Walks.{in_use, places-here, places-there}
+use Rattle.cow_pages.proofs.Terms.{All, Bool, List, None, Some, [], ap, arith, cond, drop, false, get_or, inl, inr, length, map, nat_lt, refl, set, subst, sym, take, true, ℕ, ◌*◌, ◌++◌, ◌+◌, ◌<◌, ◌||◌, ◌∙◌, ◌∷◌, ◌≡◌, ◌≤◌, ◌⊎◌, cases_Bool, cases_eq, cases_lt, false≢true, lt-ltb, ltb-true, or_left, or_parts, or_right, get_or-set_other, get_or-set_same, get_or_append_left, get_or_push, length-append, length-set, take_at, All-cons, All-head, All-nil, All-tail, PAGE, Slot, Pages, different, has, saved_numbers, used_of, IsFree, NumberAfter, Owns, is_shared, IsSlot, IsSound, IsStack, IsTable, Parts, contents, pages_of, places, slot_numbers, slot_space, space_of, table_numbers}
+use Rattle.cow_pages.proofs.Counting.{AreBelow, has-append, has-is, places-append, has-get_or, different-append-lt, places-here, places-set, places-there}
+use Rattle.cow_pages.proofs.Walks.{in_use}
 use Rattle.cow_pages.proofs.Frames.{copied, length-copied, copy_within-copied, contents-copied, contents-copied_apart}
-use Rattle.cow_pages.proofs.Stores.{saved_numbers-is, table_below, shared-is, use-has, used-sum}
+use Rattle.cow_pages.proofs.Stores.{held-is, live_below, saved_numbers-is, table_below, shared-is, use-has, used-sum}
 
 pub has-set_other : (n : ℕ) (xs : List ℕ) (k y : ℕ) → k < length xs → (get_or xs k 0 ≡ n → ⊥) → (y ≡ n → ⊥) → has n (set xs k y) ≡ has n xs
 has-set_other n xs k y less old new =
@@ -16,12 +16,11 @@ pub has-set_same : (xs : List ℕ) (k y : ℕ) → k < length xs → has y (set 
 has-set_same xs k y less = subst (λ n. has n (set xs k y) ≡ true) (get_or-set_same xs k y 0 less) (has-get_or (set xs k y) k (omega (arith, length-set xs k y)))
 
 -- a shared page leaves a free frame
-pub free_there : (pages frames held : ℕ) (pool live counts free : List ℕ) (reserved : ℕ) (slots : List Slot) (page : ℕ) → IsSound pages frames held pool live counts free reserved slots → page < pages → is_shared (pages_of pages frames pool live slots) page ≡ true → 0 < length free
-free_there pages frames held pool live counts free reserved slots page so less shared =
-    let inside : page < length live = omega (arith, so.live_table.size) in
-    let fewer : different (live ++ saved_numbers (map (slot_space pool) slots)) < length live + different (saved_numbers (map (slot_space pool) slots)) = different-append-lt live (saved_numbers (map (slot_space pool) slots)) page inside shared in
-    let held' : different (saved_numbers (map (slot_space pool) slots)) ≡ held = ap different (saved_numbers-is pool slots) ∙ sym so.held_count in
-    omega (arith, used-sum pages frames held pool live counts free reserved slots so, so.room, so.live_table.size, fewer, held')
+pub free_there : {parts : Parts} {page : ℕ} → IsSound parts → page < parts.pages → is_shared (pages_of parts) page ≡ true → 0 < length parts.free
+free_there {parts = parts} {page = page} so less shared =
+    let numbers = saved_numbers (map (slot_space parts.pool) parts.slots) in
+    let fewer : different (parts.live ++ numbers) < length parts.live + different numbers = different-append-lt parts.live numbers page (omega (arith, so.tables.live_table.size)) shared in
+    omega (arith, used-sum so, so.accounts.room, so.tables.live_table.size, fewer, held-is so)
 
 -- the frame on top of the stack is in no table
 pub top_below : (counts live rest : List ℕ) (fresh : ℕ) → IsStack counts live (rest ++ fresh ∷ []) → fresh < length counts
@@ -129,63 +128,84 @@ slots_same pages frames n homes pool after (slot ∷ slots) many all none same =
     let first : slot_space after slot ≡ slot_space pool slot =
     elim (cases_Bool slot.saved) [
       | inl saved ↦
-          (let e : contents after slot.table.items ≡ contents pool slot.table.items = same slot.table.items (table_below pages frames homes slot.table.items (one.table saved) many) (first_none n slot slots none saved) in
+          (let e : contents after slot.table.items ≡ contents pool slot.table.items = same slot.table.items (table_below (one.table saved) many) (first_none n slot slots none saved) in
           ap (λ bytes. cond slot.saved (Some (record { numbers = slot.table.items; bytes = bytes })) None) e)
       | inr unsaved ↦ ap (λ b. cond b (Some (space_of after slot.table.items)) None) unsaved ∙ sym (ap (λ b. cond b (Some (space_of pool slot.table.items)) None) unsaved)
     ] in
     ap (λ s. s ∷ map (slot_space after) slots) first ∙ ap (λ xs. slot_space pool slot ∷ xs) rest
 
-counted_is : (n : ℕ) → nat_lt 0 n ≡ true → 0 < n
-counted_is n h = ltb-true 0 n h
+-- a shared page moves to the frame on top of the stack
+pub record Moved (parts : Parts) (page fresh : ℕ) (rest : List ℕ) : Type 0 where
+  pub so : IsSound parts
+  pub less : page < parts.pages
+  pub shared : is_shared (pages_of parts) page ≡ true
+  pub top : parts.free ≡ rest ++ fresh ∷ []
+
+pub moved : {parts : Parts} {store : Pages} {page fresh : ℕ} {rest : List ℕ} → IsSound parts → pages_of parts ≡ store → page < store.pages → is_shared store page ≡ true → parts.free ≡ rest ++ fresh ∷ [] → Moved parts page fresh rest
+moved {page = page} so seen inside shared top =
+    record { so = so; less = subst (λ s. page < s.pages) (sym seen) inside; shared = subst (λ s. is_shared s page ≡ true) (sym seen) shared; top = top }
+
+-- the frames of the page, and that no table has the fresh one
+record Fresh (parts : Parts) (page fresh : ℕ) (rest : List ℕ) : Type 0 where
+  stack : IsStack parts.counts parts.live (rest ++ fresh ∷ [])
+  unused : in_use parts.counts parts.live fresh ≡ false
+  unsaved : has fresh (table_numbers parts.slots) ≡ false
+  unlive : has fresh parts.live ≡ false
+  old : get_or parts.live page 0 < parts.frames
+  new : fresh < parts.frames
+
+fresh_is : {parts : Parts} {page fresh : ℕ} {rest : List ℕ} → Moved parts page fresh rest → Fresh parts page fresh rest
+fresh_is {parts = parts} {page = page} {fresh = fresh} {rest = rest} m =
+    let stack : IsStack parts.counts parts.live (rest ++ fresh ∷ []) = subst (IsStack parts.counts parts.live) m.top m.so.stack in
+    let unused : in_use parts.counts parts.live fresh ≡ false = top_unused parts.counts parts.live rest fresh stack in
+    let neither = or_parts (nat_lt 0 (get_or parts.counts fresh 0)) (has fresh parts.live) unused in
+    record {
+      stack = stack;
+      unused = unused;
+      unsaved = has-is fresh (table_numbers parts.slots) ∙ ap (nat_lt 0) (sym (m.so.accounts.counted.each fresh)) ∙ neither.0;
+      unlive = neither.1;
+      old = live_below m.so page (omega (arith, m.so.tables.live_table.size, m.less));
+      new = omega (arith, top_below parts.counts parts.live rest fresh stack, m.so.accounts.counts_size);
+    }
 
 -- the store after the copy
-pub copy_sound : (pages frames held : ℕ) (pool live counts rest : List ℕ) (reserved : ℕ) (slots : List Slot) (page fresh : ℕ) → IsSound pages frames held pool live counts (rest ++ fresh ∷ []) reserved slots → page < pages → is_shared (pages_of pages frames pool live slots) page ≡ true → IsSound pages frames held (copied pool (get_or live page 0) fresh) (set live page fresh) counts rest reserved slots
-copy_sound pages frames held pool live counts rest reserved slots page fresh so less shared =
-    let near : fresh < length counts = top_below counts live rest fresh so.stack in
-    let unused = or_parts (nat_lt 0 (get_or counts fresh 0)) (has fresh live) (top_unused counts live rest fresh so.stack) in
-    let none : has fresh (table_numbers slots) ≡ false = has-is fresh (table_numbers slots) ∙ ap (nat_lt 0) (sym (so.counted.each fresh near)) ∙ unused.0 in
-    let counted : 0 < get_or counts (get_or live page 0) 0 = counted_is (get_or counts (get_or live page 0) 0) (sym (shared-is pages frames held pool live counts (rest ++ fresh ∷ []) reserved slots page so less) ∙ shared) in
-    let old : get_or live page 0 < frames = omega (arith, so.homes_size, so.live_table.below page less) in
+copy_sound : {parts : Parts} {page fresh : ℕ} {rest : List ℕ} → Moved parts page fresh rest → IsSound (record parts { pool = copied parts.pool (get_or parts.live page 0) fresh; live = set parts.live page fresh; free = rest })
+copy_sound {parts = parts} {page = page} {fresh = fresh} {rest = rest} m =
+    let so = m.so in
+    let f = fresh_is m in
+    let counted : 0 < get_or parts.counts (get_or parts.live page 0) 0 = ltb-true 0 (get_or parts.counts (get_or parts.live page 0) 0) (sym (shared-is page so) ∙ m.shared) in
     record {
-      few = so.few;
-      enough = so.enough;
-      numbered = so.numbered;
-      pool_size = length-copied frames (get_or live page 0) fresh pool so.pool_size old (omega (arith, so.counts_size)) ∙ so.pool_size;
-      counts_size = so.counts_size;
+      bounds = so.bounds;
+      pool_size = length-copied parts.frames (get_or parts.live page 0) fresh parts.pool so.pool_size f.old f.new ∙ so.pool_size;
+      tables = record {
+        numbered = so.tables.numbered;
+        homes = set so.tables.homes fresh page;
+        homes_size = length-set so.tables.homes fresh page ∙ so.tables.homes_size;
+        live_table = table_moved parts.pages so.tables.homes parts.live page fresh so.tables.live_table f.unlive m.less (omega (arith, so.tables.homes_size, f.new));
+        slot_tables = slots_kept parts.pages so.tables.homes page fresh parts.slots so.tables.slot_tables f.unsaved;
+      };
+      accounts = so.accounts;
       reserved_room = so.reserved_room;
-      homes = set so.homes fresh page;
-      homes_size = length-set so.homes fresh page ∙ so.homes_size;
-      live_table = table_moved pages so.homes live page fresh so.live_table unused.1 less (omega (arith, so.homes_size, so.counts_size));
-      slot_tables = slots_kept pages so.homes page fresh slots so.slot_tables none;
-      counted = so.counted;
-      stack = stack_taken counts live rest page fresh so.stack (omega (arith, so.live_table.size)) counted;
-      held_count = so.held_count;
-      room = so.room;
+      stack = stack_taken parts.counts parts.live rest page fresh f.stack (omega (arith, so.tables.live_table.size, m.less)) counted;
     }
 
 -- what it holds
-pub copy_owns : (pages frames held : ℕ) (pool live counts rest : List ℕ) (reserved : ℕ) (slots : List Slot) (page fresh : ℕ) → IsSound pages frames held pool live counts (rest ++ fresh ∷ []) reserved slots → page < pages → is_shared (pages_of pages frames pool live slots) page ≡ true → Owns (pages_of pages frames pool live slots) (pages_of pages frames (copied pool (get_or live page 0) fresh) (set live page fresh) slots) page
-copy_owns pages frames held pool live counts rest reserved slots page fresh so less shared =
-    let near : fresh < length counts = top_below counts live rest fresh so.stack in
-    let new : fresh < frames = omega (arith, so.counts_size) in
-    let here : page < length live = omega (arith, so.live_table.size) in
-    let unused = or_parts (nat_lt 0 (get_or counts fresh 0)) (has fresh live) (top_unused counts live rest fresh so.stack) in
-    let none : has fresh (table_numbers slots) ≡ false = has-is fresh (table_numbers slots) ∙ ap (nat_lt 0) (sym (so.counted.each fresh near)) ∙ unused.0 in
-    let old : get_or live page 0 < frames = omega (arith, so.homes_size, so.live_table.below page less) in
-    let below : AreBelow frames live = table_below pages frames so.homes live so.live_table so.homes_size in
-    let sum : length (rest ++ fresh ∷ []) + used_of (pages_of pages frames pool live slots) ≡ frames = used-sum pages frames held pool live counts (rest ++ fresh ∷ []) reserved slots so in
-    let later : length rest + used_of (pages_of pages frames (copied pool (get_or live page 0) fresh) (set live page fresh) slots) ≡ frames = used-sum pages frames held (copied pool (get_or live page 0) fresh) (set live page fresh) counts rest reserved slots (copy_sound pages frames held pool live counts rest reserved slots page fresh so less shared) in
-    let more : used_of (pages_of pages frames (copied pool (get_or live page 0) fresh) (set live page fresh) slots) ≡ used_of (pages_of pages frames pool live slots) + 1 = omega (arith, length-append rest (fresh ∷ [])) in
-    let set_is : get_or (set live page fresh) page 0 ≡ fresh = get_or-set_same live page fresh 0 here in
-    let free : IsFree (pages_of pages frames pool live slots) fresh = (new, subst (λ xs. has fresh (live ++ xs) ≡ false) (sym (saved_numbers-is pool slots)) (sym (use-has live counts rest frames slots fresh so.counted near) ∙ top_unused counts live rest fresh so.stack)) in
+copy_owns : {parts : Parts} {page fresh : ℕ} {rest : List ℕ} → Moved parts page fresh rest → Owns (pages_of parts) (pages_of (record parts { pool = copied parts.pool (get_or parts.live page 0) fresh; live = set parts.live page fresh })) page
+copy_owns {parts = parts} {page = page} {fresh = fresh} {rest = rest} m =
+    let so = m.so in
+    let f = fresh_is m in
+    let here : page < length parts.live = omega (arith, so.tables.live_table.size, m.less) in
+    let pool = copied parts.pool (get_or parts.live page 0) fresh in
+    let more : used_of (pages_of (record parts { pool = pool; live = set parts.live page fresh })) ≡ used_of (pages_of parts) + 1 = omega (arith, used-sum so, used-sum (copy_sound m), ap length m.top, length-append rest (fresh ∷ [])) in
+    let free : IsFree (pages_of parts) fresh = (f.new, subst (λ xs. has fresh (parts.live ++ xs) ≡ false) (sym (saved_numbers-is parts.pool parts.slots)) (sym (use-has parts.live fresh so.accounts.counted) ∙ f.unused)) in
     record {
       pages = refl;
       frames = refl;
-      slots = slots_same pages frames fresh so.homes pool (copied pool (get_or live page 0) fresh) slots so.homes_size so.slot_tables none (λ table under gone. contents-copied_apart frames (get_or live page 0) fresh pool table so.pool_size under old new (not-at fresh table gone));
-      bytes = contents-copied frames page fresh pool live so.pool_size below here new (not-at fresh live unused.1);
-      others = λ place inside other. get_or-set_other live page place fresh 0 other;
-      number = subst (λ b. NumberAfter b (pages_of pages frames pool live slots) page (get_or (set live page fresh) page 0)) (sym shared) (subst (IsFree (pages_of pages frames pool live slots)) (sym set_is) free);
-      used = more ∙ ap (λ b. used_of (pages_of pages frames pool live slots) + cond b 1 0) (sym shared);
+      slots = slots_same parts.pages parts.frames fresh so.tables.homes parts.pool pool parts.slots so.tables.homes_size so.tables.slot_tables f.unsaved (λ table under gone. contents-copied_apart parts.frames (get_or parts.live page 0) fresh parts.pool table so.pool_size under f.old f.new (not-at fresh table gone));
+      bytes = contents-copied parts.frames page fresh parts.pool parts.live so.pool_size (live_below so) here f.new (not-at fresh parts.live f.unlive);
+      others = λ place inside other. get_or-set_other parts.live page place fresh 0 other;
+      number = subst (λ b. NumberAfter b (pages_of parts) page (get_or (set parts.live page fresh) page 0)) (sym m.shared) (subst (IsFree (pages_of parts)) (sym (get_or-set_same parts.live page fresh 0 here)) free);
+      used = more ∙ ap (λ b. used_of (pages_of parts) + cond b 1 0) (sym m.shared);
     }
 
 -- a page that isn't shared stays
@@ -202,56 +222,33 @@ stay_owns store page own =
       used = same ∙ ap (λ b. used_of store + cond b 1 0) (sym own);
     }
 
--- the pool after `copy_within` is the pool with the frame copied
-moved_pool : (frames n count from to old fresh : ℕ) (pool moved : List ℕ) → length pool ≡ PAGE * frames → old < frames → fresh < frames → from ≡ PAGE * old → to ≡ PAGE * fresh → count ≡ PAGE → n ≡ length pool → moved ≡ take to pool ++ take count (drop from pool) ++ drop (to + count) pool → take n (moved ++ drop (length moved) pool) ≡ copied pool old fresh
-moved_pool frames n count from to old fresh pool moved size one other start place many whole is =
-    let e : moved ≡ copied pool old fresh =
-    is
-    ∙ ap (λ k. take to pool ++ take k (drop from pool) ++ drop (to + k) pool) many
+-- the pool after the copy is the pool with the frame copied
+pub moved_pool : {parts : Parts} {page fresh n : ℕ} {rest whole written : List ℕ} (from to : ℕ) → Moved parts page fresh rest → written ≡ take to whole ++ take PAGE (drop from whole) ++ drop (to + PAGE) whole → whole ≡ parts.pool → from ≡ PAGE * get_or parts.live page 0 → to ≡ PAGE * fresh → n ≡ length parts.pool → take n (written ++ drop (length written) parts.pool) ≡ copied parts.pool (get_or parts.live page 0) fresh
+moved_pool {parts = parts} {page = page} {fresh = fresh} {n = n} {written = written} from to m copy full start place whole =
+    let f = fresh_is m in
+    let pool = parts.pool in
+    let e : written ≡ copied pool (get_or parts.live page 0) fresh =
+    copy
+    ∙ ap (λ xs. take to xs ++ take PAGE (drop from xs) ++ drop (to + PAGE) xs) full
     ∙ ap (λ k. take to pool ++ take PAGE (drop k pool) ++ drop (to + PAGE) pool) start
-    ∙ ap (λ k. take k pool ++ take PAGE (drop (PAGE * old) pool) ++ drop (k + PAGE) pool) place
-    ∙ copy_within-copied frames old fresh pool size one other in
-    take_at moved (drop (length moved) pool) n (ap length e ∙ length-copied frames old fresh pool size one other ∙ sym whole) ∙ e
+    ∙ ap (λ k. take k pool ++ take PAGE (drop (PAGE * get_or parts.live page 0) pool) ++ drop (k + PAGE) pool) place
+    ∙ copy_within-copied parts.frames (get_or parts.live page 0) fresh pool m.so.pool_size f.old f.new in
+    take_at written (drop (length written) pool) n (ap length e ∙ length-copied parts.frames (get_or parts.live page 0) fresh pool m.so.pool_size f.old f.new ∙ sym whole) ∙ e
 
--- the fields of a store whose shared page has moved
-pub moved_sound : (pages frames held n count from to : ℕ) (pool whole moved live counts free rest : List ℕ) (reserved reserve : ℕ) (slots : List Slot) (store : Pages) (page fresh : ℕ) → IsSound pages frames held pool live counts free reserved slots → pages_of pages frames pool live slots ≡ store → page < store.pages → is_shared store page ≡ true → free ≡ rest ++ fresh ∷ [] → moved ≡ take to whole ++ take count (drop from whole) ++ drop (to + count) whole → whole ≡ pool → from ≡ PAGE * get_or live page 0 → to ≡ PAGE * fresh → count ≡ PAGE → n ≡ length pool → reserve ≡ reserved → IsSound pages frames held (take n (moved ++ drop (length moved) pool)) (set live page fresh) counts rest reserve slots
-moved_sound pages frames held n count from to pool whole moved live counts free rest reserved reserve slots store page fresh so is inside shared top moving full start place many size room =
-    let mine : IsSound pages frames held pool live counts (rest ++ fresh ∷ []) reserved slots = subst (λ xs. IsSound pages frames held pool live counts xs reserved slots) top so in
-    let less : page < pages = subst (λ s. page < s.pages) (sym is) inside in
-    let hit : is_shared (pages_of pages frames pool live slots) page ≡ true = subst (λ s. is_shared s page ≡ true) (sym is) shared in
-    let old : get_or live page 0 < frames = omega (arith, so.homes_size, so.live_table.below page less) in
-    let new : fresh < frames = omega (arith, top_below counts live rest fresh mine.stack, so.counts_size) in
-    let copy : moved ≡ take to pool ++ take count (drop from pool) ++ drop (to + count) pool = moving ∙ ap (λ xs. take to xs ++ take count (drop from xs) ++ drop (to + count) xs) full in
-    let e : take n (moved ++ drop (length moved) pool) ≡ copied pool (get_or live page 0) fresh = moved_pool frames n count from to (get_or live page 0) fresh pool moved so.pool_size old new start place many size copy in
-    subst (λ xs. IsSound pages frames held xs (set live page fresh) counts rest reserve slots) (sym e)
-    (subst (λ r. IsSound pages frames held (copied pool (get_or live page 0) fresh) (set live page fresh) counts rest r slots) (sym room)
-    (copy_sound pages frames held pool live counts rest reserved slots page fresh mine less hit))
+-- the fields of a store whose shared page has moved, and what it holds
+pub moved_sound : {parts : Parts} {page fresh reserve : ℕ} {rest pool : List ℕ} → Moved parts page fresh rest → pool ≡ copied parts.pool (get_or parts.live page 0) fresh → reserve ≡ parts.reserved → IsSound (record parts { pool = pool; live = set parts.live page fresh; free = rest; reserved = reserve })
+moved_sound m is room = rw (is, room) (copy_sound m)
 
--- what it holds
-pub moved_owns : (pages frames held n count from to : ℕ) (pool whole moved live counts free rest : List ℕ) (reserved : ℕ) (slots : List Slot) (store : Pages) (page fresh : ℕ) → IsSound pages frames held pool live counts free reserved slots → pages_of pages frames pool live slots ≡ store → page < store.pages → is_shared store page ≡ true → free ≡ rest ++ fresh ∷ [] → moved ≡ take to whole ++ take count (drop from whole) ++ drop (to + count) whole → whole ≡ pool → from ≡ PAGE * get_or live page 0 → to ≡ PAGE * fresh → count ≡ PAGE → n ≡ length pool → Owns store (pages_of pages frames (take n (moved ++ drop (length moved) pool)) (set live page fresh) slots) page
-moved_owns pages frames held n count from to pool whole moved live counts free rest reserved slots store page fresh so is inside shared top moving full start place many size =
-    let mine : IsSound pages frames held pool live counts (rest ++ fresh ∷ []) reserved slots = subst (λ xs. IsSound pages frames held pool live counts xs reserved slots) top so in
-    let less : page < pages = subst (λ s. page < s.pages) (sym is) inside in
-    let hit : is_shared (pages_of pages frames pool live slots) page ≡ true = subst (λ s. is_shared s page ≡ true) (sym is) shared in
-    let old : get_or live page 0 < frames = omega (arith, so.homes_size, so.live_table.below page less) in
-    let new : fresh < frames = omega (arith, top_below counts live rest fresh mine.stack, so.counts_size) in
-    let copy : moved ≡ take to pool ++ take count (drop from pool) ++ drop (to + count) pool = moving ∙ ap (λ xs. take to xs ++ take count (drop from xs) ++ drop (to + count) xs) full in
-    let e : take n (moved ++ drop (length moved) pool) ≡ copied pool (get_or live page 0) fresh = moved_pool frames n count from to (get_or live page 0) fresh pool moved so.pool_size old new start place many size copy in
-    subst (λ s. Owns s (pages_of pages frames (take n (moved ++ drop (length moved) pool)) (set live page fresh) slots) page) is
-    (subst (λ xs. Owns (pages_of pages frames pool live slots) (pages_of pages frames xs (set live page fresh) slots) page) (sym e)
-    (copy_owns pages frames held pool live counts rest reserved slots page fresh mine less hit))
+pub moved_owns : {parts : Parts} {store : Pages} {page fresh : ℕ} {rest pool : List ℕ} → Moved parts page fresh rest → pool ≡ copied parts.pool (get_or parts.live page 0) fresh → pages_of parts ≡ store → Owns store (pages_of (record parts { pool = pool; live = set parts.live page fresh })) page
+moved_owns m is seen = rw (← seen, is) (copy_owns m)
 
 -- the frame that is taken is another one than that of the page
-pub moved_apart : (pages frames held from to : ℕ) (pool live counts free rest : List ℕ) (reserved : ℕ) (slots : List Slot) (page fresh : ℕ) → IsSound pages frames held pool live counts free reserved slots → page < pages → free ≡ rest ++ fresh ∷ []
-    → from ≡ PAGE * get_or live page 0 → to ≡ PAGE * fresh → (from + PAGE ≤ to) ⊎ (to + PAGE ≤ from)
-moved_apart pages frames held from to pool live counts free rest reserved slots page fresh so less top start place =
-    let mine : IsSound pages frames held pool live counts (rest ++ fresh ∷ []) reserved slots = subst (λ xs. IsSound pages frames held pool live counts xs reserved slots) top so in
-    let none : has fresh live ≡ false = (or_parts (nat_lt 0 (get_or counts fresh 0)) (has fresh live) (top_unused counts live rest fresh mine.stack)).1 in
-    let inside : page < length live = omega (arith, so.live_table.size, less) in
-    elim (cases_lt (get_or live page 0) fresh) [
+pub moved_apart : {parts : Parts} {page fresh from to : ℕ} {rest : List ℕ} → Moved parts page fresh rest → from ≡ PAGE * get_or parts.live page 0 → to ≡ PAGE * fresh → (from + PAGE ≤ to) ⊎ (to + PAGE ≤ from)
+moved_apart {parts = parts} {page = page} {fresh = fresh} m start place =
+    elim (cases_lt (get_or parts.live page 0) fresh) [
       | inl below ↦ inl (omega (arith, below, start, place))
-      | inr above ↦ elim (cases_lt fresh (get_or live page 0)) [
+      | inr above ↦ elim (cases_lt fresh (get_or parts.live page 0)) [
         | inl more ↦ inr (omega (arith, more, start, place))
-        | inr most ↦ absurd (not-at fresh live none page inside (omega (arith, above, most)))
+        | inr most ↦ absurd (not-at fresh parts.live (fresh_is m).unlive page (omega (arith, m.so.tables.live_table.size, m.less)) (omega (arith, above, most)))
       ]
     ]

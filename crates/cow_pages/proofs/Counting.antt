@@ -1,6 +1,7 @@
 -- How many times a number stands in a list, and how many different ones do.
+use Rattle.std.proofs.Math.Bool.{or_assoc}
 use Rattle.std.proofs.Math.ListN.{set}
-use Rattle.cow_pages.proofs.Terms.{Bool, List, [], ap, arith, cond, drop, false, get_or, inl, inr, length, nat_lt, refl, subst, suc, sym, take, true, zero, ℕ, ◌++◌, ◌+◌, ◌<◌, ◌==◌, ◌||◌, ◌∙◌, ◌∷◌, ◌≡◌, ◌≤◌, cases_Bool, cases_eq, eq-eqb, eqb-true, false_from_ne_true, lt-ltb, ltb-false, ltb-true, ne_eqb, or_cases, or_left, or_right, take-append-drop, different, has, places}
+use Rattle.cow_pages.proofs.Terms.{Bool, List, [], ap, arith, cases_lt, get_or_append_left, get_or-append_right, length-append, le-ltb, ◌-◌, cond, drop, false, get_or, inl, inr, length, nat_lt, refl, subst, suc, sym, take, true, zero, ℕ, ◌++◌, ◌+◌, ◌<◌, ◌==◌, ◌||◌, ◌∙◌, ◌∷◌, ◌≡◌, ◌≤◌, cases_Bool, cases_eq, eq-eqb, eqb-true, false_from_ne_true, lt-ltb, ltb-false, ltb-true, ne_eqb, or_cases, or_left, or_right, take-append-drop, different, has, places}
 
 -- each element of a list is below a number
 abbrev pub AreBelow : ℕ → List ℕ → Type 0
@@ -9,12 +10,12 @@ AreBelow top xs = (k : ℕ) → k < length xs → get_or xs k 0 < top
 pub below_tail : (top x : ℕ) (xs : List ℕ) → AreBelow top (x ∷ xs) → AreBelow top xs
 below_tail top x xs below = λ k less. below (suc k) (omega arith)
 
+pub below_front : (top x : ℕ) (xs : List ℕ) → x < top → AreBelow top xs → AreBelow top (x ∷ xs)
+below_front top x xs near below zero less = near
+below_front top x xs near below (suc k) less = below k (omega arith)
+
 pub below_head : (top x : ℕ) (xs : List ℕ) → AreBelow top (x ∷ xs) → x < top
 below_head top x xs below = below 0 (omega arith)
-
-or_assoc : (a b c : Bool) → ((a || b) || c) ≡ (a || (b || c))
-or_assoc true b c = refl
-or_assoc false b c = refl
 
 pub has-append : (n : ℕ) (xs ys : List ℕ) → has n (xs ++ ys) ≡ (has n xs || has n ys)
 has-append n [] ys = refl
@@ -26,6 +27,13 @@ places-append n (x ∷ xs) ys = omega (arith, places-append n xs ys)
 
 pub places-take-drop : (n i : ℕ) (xs : List ℕ) → places n (take i xs) + places n (drop i xs) ≡ places n xs
 places-take-drop n i xs = sym (places-append n (take i xs) (drop i xs)) ∙ ap (places n) (take-append-drop i xs)
+
+-- a number stands once more in a list with it in front
+pub places-here : (x : ℕ) (xs : List ℕ) → places x (x ∷ xs) ≡ 1 + places x xs
+places-here x xs = ap (λ b. cond b 1 0 + places x xs) (eq-eqb x x refl)
+
+pub places-there : (n x : ℕ) (xs : List ℕ) → (x ≡ n → ⊥) → places n (x ∷ xs) ≡ places n xs
+places-there n x xs other = let e : 0 + places n xs ≡ places n xs = omega arith in ap (λ b. cond b 1 0 + places n xs) (ne_eqb x n other) ∙ e
 
 -- a number is in a list if it stands there at least once
 pub has-is : (n : ℕ) (xs : List ℕ) → has n xs ≡ nat_lt 0 (places n xs)
@@ -113,11 +121,14 @@ occupied-cons (suc k) x xs less =
           rw is (omega arith))
     ]
 
-pub chosen : (b : Bool) (n : ℕ) → cond b n (n + 1) ≡ n + cond b 0 1
+chosen : (b : Bool) (n : ℕ) → cond b n (n + 1) ≡ n + cond b 0 1
 chosen true n = omega arith
 chosen false n = refl
 
-pub different-occupied : (top : ℕ) (xs : List ℕ) → AreBelow top xs → different xs ≡ occupied top xs
+pub different-front : (x : ℕ) (xs : List ℕ) → different (x ∷ xs) ≡ different xs + cond (nat_lt 0 (places x xs)) 0 1
+different-front x xs = ap (λ b. cond b (different xs) (different xs + 1)) (has-is x xs) ∙ chosen (nat_lt 0 (places x xs)) (different xs)
+
+different-occupied : (top : ℕ) (xs : List ℕ) → AreBelow top xs → different xs ≡ occupied top xs
 different-occupied top [] below = sym (occupied-nil top)
 different-occupied top (x ∷ xs) below =
     let rest : different xs ≡ occupied top xs = different-occupied top xs (below_tail top x xs below) in
@@ -134,74 +145,102 @@ occupied-same (suc k) xs ys same =
 pub different-same : (top : ℕ) (xs ys : List ℕ) → AreBelow top xs → AreBelow top ys → ((n : ℕ) → n < top → has n xs ≡ has n ys) → different xs ≡ different ys
 different-same top xs ys bx by same = different-occupied top xs bx ∙ occupied-same top xs ys same ∙ sym (different-occupied top ys by)
 
-tally-nil : (k : ℕ) → tally k [] ≡ 0
-tally-nil zero = refl
-tally-nil (suc k) = omega (arith, tally-nil k)
+-- a number above all of a list
+top_of : List ℕ → ℕ
+top_of [] = 0
+top_of (x ∷ xs) = x + 1 + top_of xs
 
-tally-above : (k x : ℕ) (xs : List ℕ) → k ≤ x → tally k (x ∷ xs) ≡ tally k xs
-tally-above zero x xs above = refl
-tally-above (suc k) x xs above =
-    let other : (x == k) ≡ false = ne_eqb x k (λ e. omega arith) in
-    let fewer : tally k (x ∷ xs) ≡ tally k xs = tally-above k x xs (omega arith) in
-    rw other (omega arith)
+below_top : (more : ℕ) (xs : List ℕ) → AreBelow (top_of xs + more) xs
+unfolding top_of
+below_top more [] k less = absurd (omega arith)
+below_top more (x ∷ xs) zero less = omega arith
+below_top more (x ∷ xs) (suc k) less = let rest : get_or xs k 0 < top_of xs + more = below_top more xs k (omega arith) in omega arith
 
-tally-cons : (k x : ℕ) (xs : List ℕ) → x < k → tally k (x ∷ xs) ≡ tally k xs + 1
-tally-cons zero x xs less = absurd (omega arith)
-tally-cons (suc k) x xs less =
-    elim (cases_eq x k) [
-      | inl same ↦ (
-          let is : (x == k) ≡ true = eq-eqb x k same in
-          let fewer : tally k (x ∷ xs) ≡ tally k xs = tally-above k x xs (omega arith) in
-          rw is (omega arith))
-      | inr other ↦ (
-          let is : (x == k) ≡ false = ne_eqb x k other in
-          let fewer : tally k (x ∷ xs) ≡ tally k xs + 1 = tally-cons k x xs (omega arith) in
-          rw is (omega arith))
+occupied-le : (k : ℕ) (xs ys : List ℕ) → ((n : ℕ) → has n xs ≡ true → has n ys ≡ true) → occupied k xs ≤ occupied k ys
+occupied-le zero xs ys among = omega arith
+occupied-le (suc k) xs ys among =
+    let fewer : occupied k xs ≤ occupied k ys = occupied-le k xs ys among in
+    elim (cases_Bool (has k xs)) [
+      | inl is ↦ (let too : has k ys ≡ true = among k is in rw (is, too) (omega arith))
+      | inr isnt ↦ rw isnt (omega arith)
     ]
 
-pub tally-length : (top : ℕ) (xs : List ℕ) → AreBelow top xs → tally top xs ≡ length xs
-tally-length top [] below = tally-nil top
-tally-length top (x ∷ xs) below =
-    let rest : tally top xs ≡ length xs = tally-length top xs (below_tail top x xs below) in
-    let first : tally top (x ∷ xs) ≡ tally top xs + 1 = tally-cons top x xs (below_head top x xs below) in
+-- a list that has no number which another one hasn't has no more different ones
+pub different-le : (xs ys : List ℕ) → ((n : ℕ) → has n xs ≡ true → has n ys ≡ true) → different xs ≤ different ys
+different-le xs ys among =
+    let turned : top_of ys + top_of xs ≡ top_of xs + top_of ys = omega arith in
+    omega (arith, different-occupied _ xs (below_top (top_of ys) xs), different-occupied _ ys (subst (λ n. AreBelow n ys) turned (below_top (top_of xs) ys)), occupied-le (top_of xs + top_of ys) xs ys among)
+
+-- lists in which each number stands as often
+abbrev pub Alike : List ℕ → List ℕ → Type 0
+Alike xs ys = (n : ℕ) → places n xs ≡ places n ys
+
+pub different-alike : (xs ys : List ℕ) → Alike xs ys → different xs ≡ different ys
+different-alike xs ys same =
+    let one : different xs ≤ different ys = different-le xs ys (λ n is. has-some n ys (omega (arith, same n, places-some n xs is))) in
+    let other : different ys ≤ different xs = different-le ys xs (λ n is. has-some n xs (omega (arith, same n, places-some n ys is))) in
     omega arith
 
-whole : (b : Bool) (m n k : ℕ) → m + n ≡ k → m + cond b 0 1 + (n + cond b 1 0) ≡ suc k
-whole true m n k e = omega arith
-whole false m n k e = omega arith
+-- numbers that stand once each, and not in another list, are all different
+different-apart : (free xs : List ℕ) → ((n : ℕ) → places n free ≤ cond (has n xs) 0 1) → different (free ++ xs) ≡ length free + different xs
+different-apart [] xs apart = omega arith
+different-apart (x ∷ free) xs apart =
+    let rest : different (free ++ xs) ≡ length free + different xs = different-apart free xs (λ n. omega (arith, apart n)) in
+    let few : 1 + places x free ≤ cond (has x xs) 0 1 = subst (λ b. cond b 1 0 + places x free ≤ cond (has x xs) 0 1) (eq-eqb x x refl) (apart x) in
+    let new : has x xs ≡ false = false_from_ne_true (has x xs) (λ is. let h : 1 + places x free ≤ 0 = subst (λ b. 1 + places x free ≤ cond b 0 1) is few in omega arith) in
+    let none : 1 + places x free ≤ 1 = subst (λ b. 1 + places x free ≤ cond b 0 1) new few in
+    let gone : has x (free ++ xs) ≡ false = has-append x free xs ∙ ap (λ b. b || has x xs) (has-is x free ∙ le-ltb 0 (places x free) (omega arith)) ∙ new in
+    rw gone (omega arith)
 
-tally-occupied : (k : ℕ) (free xs : List ℕ) → ((n : ℕ) → n < k → places n free ≡ cond (has n xs) 0 1) → tally k free + occupied k xs ≡ k
-tally-occupied zero free xs each = refl
-tally-occupied (suc k) free xs each =
-    let fewer : tally k free + occupied k xs ≡ k = tally-occupied k free xs (λ n less. each n (omega arith)) in
-    rw (each k (omega arith)) (whole (has k xs) (tally k free) (occupied k xs) k fewer)
+occupied-top : (k : ℕ) (xs : List ℕ) → occupied k xs ≤ k
+occupied-top zero xs = omega arith
+occupied-top (suc k) xs = elim (has k xs) as (λ b. occupied k xs + cond b 1 0 ≤ suc k) [ true ↦ omega (arith, occupied-top k xs) | false ↦ omega (arith, occupied-top k xs) ]
+
+occupied-all : (k : ℕ) (xs : List ℕ) → ((n : ℕ) → n < k → has n xs ≡ true) → occupied k xs ≡ k
+occupied-all zero xs each = refl
+occupied-all (suc k) xs each =
+    let fewer : occupied k xs ≡ k = occupied-all k xs (λ n less. each n (omega arith)) in
+    rw (each k (omega arith)) (omega arith)
+
+pub below_append : (top : ℕ) (xs ys : List ℕ) → AreBelow top xs → AreBelow top ys → AreBelow top (xs ++ ys)
+below_append top xs ys bx by k less =
+    elim (cases_lt k (length xs)) [
+      | inl first ↦ subst (λ n. n < top) (sym (get_or_append_left xs ys 0 k first)) (bx k first)
+      | inr later ↦ subst (λ n. n < top) (sym (get_or-append_right xs ys (length xs) k 0 refl later)) (by (k - length xs) (omega (arith, length-append xs ys)))
+    ]
+
+one-left : (b : Bool) (n : ℕ) → n ≡ cond b 0 1 → n ≤ cond b 0 1
+one-left b n is = omega arith
 
 -- the free numbers and the different ones in use are all numbers below the limit
 pub length-free : (top : ℕ) (free xs : List ℕ) → AreBelow top free → AreBelow top xs → ((n : ℕ) → n < top → places n free ≡ cond (has n xs) 0 1) → length free + different xs ≡ top
 length-free top free xs bf bx each =
-    let a : tally top free ≡ length free = tally-length top free bf in
-    let b : different xs ≡ occupied top xs = different-occupied top xs bx in
-    let c : tally top free + occupied top xs ≡ top = tally-occupied top free xs each in
-    omega arith
-
-tally-le : (k : ℕ) (free : List ℕ) → ((n : ℕ) → n < k → places n free ≤ 1) → tally k free ≤ k
-tally-le zero free each = omega arith
-tally-le (suc k) free each = omega (arith, tally-le k free (λ n less. each n (omega arith)), each k (omega arith))
-
-tally-lt : (k m : ℕ) (free : List ℕ) → ((n : ℕ) → n < k → places n free ≤ 1) → m < k → places m free ≡ 0 → tally k free < k
-tally-lt zero m free each less none = absurd (omega arith)
-tally-lt (suc k) m free each less none =
-    elim (cases_eq m k) [
-      | inl same ↦ (let last : places k free ≡ 0 = subst (λ n. places n free ≡ 0) same none in omega (arith, tally-le k free (λ n below. each n (omega arith))))
-      | inr other ↦ (let before : m < k = omega arith in omega (arith, tally-lt k m free (λ n below. each n (omega arith)) before none, each k (omega arith)))
-    ]
+    let apart : (n : ℕ) → places n free ≤ cond (has n xs) 0 1 =
+    λ n.
+    elim (cases_Bool (has n free)) [
+      | inl is ↦ (let found = has-at n free is in omega (arith, each n (subst (λ m. m < top) found.2 (bf found.0 found.1))))
+      | inr isnt ↦ omega (arith, places-none n free isnt)
+    ] in
+    let every : (n : ℕ) → n < top → has n (free ++ xs) ≡ true =
+    λ n less.
+    elim (cases_Bool (has n xs)) [
+      | inl is ↦ has-append n free xs ∙ or_right (has n free) (has n xs) is
+      | inr isnt ↦ has-append n free xs ∙ or_left (has n free) (has n xs) (has-some n free (subst (λ b. 0 < b) (sym (each n less ∙ ap (λ b. cond b 0 1) isnt)) (omega arith)))
+    ] in
+    sym (different-apart free xs apart) ∙ different-occupied top (free ++ xs) (below_append top free xs bf bx) ∙ occupied-all top (free ++ xs) every
 
 -- a list that has no number twice, and one not at all, is shorter than the limit
 pub length-missing : (top m : ℕ) (free : List ℕ) → AreBelow top free → ((n : ℕ) → n < top → places n free ≤ 1) → m < top → places m free ≡ 0 → length free < top
 length-missing top m free below each less none =
-    let a : tally top free ≡ length free = tally-length top free below in
-    let b : tally top free < top = tally-lt top m free each less none in
-    omega arith
+    let once : (n : ℕ) → places n free ≤ 1 = λ n. elim (cases_Bool (has n free)) [ inl is ↦ (let found = has-at n free is in each n (subst (λ m. m < top) found.2 (below found.0 found.1))) | inr isnt ↦ omega (arith, places-none n free isnt) ] in
+    let apart : (n : ℕ) → places n free ≤ cond (has n (m ∷ [])) 0 1 =
+    λ n.
+    elim (cases_eq m n) [
+      | inl here ↦ subst (λ k. places k free ≤ cond (has k (m ∷ [])) 0 1) here (omega arith)
+      | inr other ↦ subst (λ b. places n free ≤ cond (b || false) 0 1) (sym (ne_eqb m n other)) (once n)
+    ] in
+    let both : AreBelow top (free ++ m ∷ []) = below_append top free (m ∷ []) below (below_front top m [] less (λ k inside. absurd (omega arith))) in
+    omega (arith, different-apart free (m ∷ []) apart, different-occupied top (free ++ m ∷ []) both, occupied-top top (free ++ m ∷ []))
 
 -- a list adds at most its length to the different numbers, and less where it has a number that stood there
 pub different-append-le : (xs ys : List ℕ) → different (xs ++ ys) ≤ length xs + different ys

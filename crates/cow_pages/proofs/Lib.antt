@@ -10,7 +10,6 @@ pub mod Runs
 pub mod SlotSteps
 pub mod RunSteps
 pub mod Making
-pub mod SavingOver
 pub mod Moving
 pub mod PutThere
 pub mod Lemmas

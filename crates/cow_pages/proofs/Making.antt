@@ -1,8 +1,8 @@
 -- A store that was just made.
-use Rattle.cow_pages.proofs.Terms.{All, List, None, Some, [], ap, arith, cond, false, get_or, inl, inr, length, map, nat_lt, refl, replicate, subst, sym, true, ℕ, ◌%◌, ◌*◌, ◌++◌, ◌+◌, ◌-◌, ◌/◌, ◌<◌, ◌||◌, ◌∙◌, ◌∷◌, ◌≡◌, ◌≤◌, cases_lt, false≢true, same_number_lists, get_or-replicate, get_or_append_left, length-append, length-replicate, All-head, All-nil, All-push, All-tail, All-weaker, PAGE, Slot, MAX_FRAMES_PER_PAGE, MAX_PAGES, MAX_SLOTS, IsMade, different, has, AreBlank, Counts, IsRow, IsSlot, IsSound, IsStack, contents, pages_of, places, slot_space, space_of, table_numbers}
-use Rattle.cow_pages.proofs.Counting.{AreBelow, has-get_or, has-nowhere, places-none, places-some, places-le-one}
+use Rattle.cow_pages.proofs.Terms.{All, List, None, Some, [], ap, arith, cond, false, get_or, inl, inr, length, map, nat_lt, refl, replicate, subst, sym, true, ℕ, ◌%◌, ◌*◌, ◌++◌, ◌+◌, ◌-◌, ◌/◌, ◌<◌, ◌||◌, ◌∙◌, ◌∷◌, ◌≡◌, ◌≤◌, cases_lt, false≢true, same_number_lists, get_or-replicate, get_or_append_left, get_or_past, length-append, length-replicate, All-head, All-nil, All-push, All-tail, All-weaker, PAGE, Slot, MAX_FRAMES_PER_PAGE, MAX_PAGES, MAX_SLOTS, IsMade, different, has, AreBlank, Counts, IsRow, IsSlot, IsSound, IsStack, Parts, contents, pages_of, places, slot_space, space_of, table_numbers}
+use Rattle.cow_pages.proofs.Counting.{has-get_or, has-nowhere, places-none, places-some, places-le-one}
 use Rattle.cow_pages.proofs.Frames.{get_or-contents, length-contents}
-use Rattle.cow_pages.proofs.Stores.{table_below, used-sum}
+use Rattle.cow_pages.proofs.Stores.{live_below, used-sum}
 
 -- nothing is saved in any slot
 abbrev pub IsBlank : ℕ → Slot → Type 0
@@ -30,6 +30,13 @@ blank_more count pages slots slot so unsaved size = record {
   each = All-push (IsBlank pages) slots slot so.each (unsaved, size);
 }
 
+get_or-zeros : (size k : ℕ) → get_or (replicate {A = ℕ} size 0) k 0 ≡ 0
+get_or-zeros size k =
+    elim (cases_lt k size) [
+      | inl less ↦ get_or-replicate size k 0 0 less
+      | inr past ↦ get_or_past (replicate {A = ℕ} size 0) k 0 (omega (arith, length-replicate {A = ℕ} size 0))
+    ]
+
 row_once : (start end : ℕ) (row : List ℕ) → IsRow start end row → (k j : ℕ) → k < length row → j < length row → get_or row k 0 ≡ get_or row j 0 → k ≡ j
 row_once start end row so k j lk lj e = omega (arith, so.each k lk, so.each j lj)
 
@@ -56,56 +63,50 @@ first_stack pages frames live free counts low high less is =
     record {
       below = λ k inside. omega (arith, high.each k inside, high.size, size);
       each = λ n under.
-          let zero_count : nat_lt 0 (get_or counts n 0) ≡ false = ap (λ xs. nat_lt 0 (get_or xs n 0)) is ∙ ap (nat_lt 0) (get_or-replicate frames n 0 0 (omega (arith, size))) in
+          let zero_count : nat_lt 0 (get_or counts n 0) ≡ false = ap (λ xs. nat_lt 0 (get_or xs n 0)) is ∙ ap (nat_lt 0) (get_or-zeros frames n) in
           row_places pages frames live free n low high less (omega (arith, size)) ∙ ap (λ b. cond (b || has n live) 0 1) (sym zero_count);
     }
 
-pub made_sound : (pages frames count : ℕ) (pool live counts free : List ℕ) (reserved : ℕ) (slots : List Slot) → (1 ≤ pages) × (pages ≤ MAX_PAGES) → (1 ≤ count) × (count ≤ MAX_SLOTS) → (2 * pages ≤ frames) × (frames ≤ MAX_FRAMES_PER_PAGE * pages) → pool ≡ replicate (frames * PAGE) 0 → IsRow 0 pages live → counts ≡ replicate frames 0 → IsRow pages frames free → frames ≤ reserved → AreBlank count pages slots → IsSound pages frames 0 pool live counts free reserved slots
-made_sound pages frames count pool live counts free reserved slots few numbered enough bytes low zeros high room blank =
-    let none : table_numbers slots ≡ [] = blank_numbers pages slots blank.each in
-    let size : length counts ≡ frames = ap length zeros ∙ length-replicate frames 0 in
-    let homes = live ++ replicate {A = ℕ} (frames - pages) 0 in
-    let many : length homes ≡ frames = omega (arith, length-append live (replicate {A = ℕ} (frames - pages) 0), length-replicate {A = ℕ} (frames - pages) 0, low.size, enough.0) in
+pub made_sound : {parts : Parts} {count : ℕ} → (1 ≤ parts.pages) × (parts.pages ≤ MAX_PAGES) → (1 ≤ count) × (count ≤ MAX_SLOTS) → (2 * parts.pages ≤ parts.frames) × (parts.frames ≤ MAX_FRAMES_PER_PAGE * parts.pages) → parts.held ≡ 0 → parts.pool ≡ replicate (parts.frames * PAGE) 0 → IsRow 0 parts.pages parts.live → parts.counts ≡ replicate parts.frames 0 → IsRow parts.pages parts.frames parts.free → parts.frames ≤ parts.reserved → AreBlank count parts.pages parts.slots
+    → IsSound parts
+made_sound {parts = parts} few numbered enough empty bytes low zeros high room blank =
+    let none : table_numbers parts.slots ≡ [] = blank_numbers parts.pages parts.slots blank.each in
+    let size : length parts.counts ≡ parts.frames = ap length zeros ∙ length-replicate parts.frames 0 in
+    let rest = replicate {A = ℕ} (parts.frames - parts.pages) 0 in
+    let many : length (parts.live ++ rest) ≡ parts.frames = omega (arith, length-append parts.live rest, length-replicate {A = ℕ} (parts.frames - parts.pages) 0, low.size, enough.0) in
     record {
-      few = few;
-      enough = enough;
-      numbered = (omega (arith, blank.size, numbered.0), omega (arith, blank.size, numbered.1));
-      pool_size = ap length bytes ∙ length-replicate (frames * PAGE) 0 ∙ (let e : frames * PAGE ≡ PAGE * frames = omega arith in e);
-      counts_size = size;
-      reserved_room = room;
-      homes = homes;
-      homes_size = many;
-      live_table = record {
-        size = low.size ∙ (let e : pages - 0 ≡ pages = omega arith in e);
-        below = λ page less. omega (arith, low.each page (omega (arith, low.size)), many, enough.0);
-        home = λ page less.
-            let inside : page < length live = omega (arith, low.size) in
-            let number : get_or live page 0 ≡ page = low.each page inside ∙ (let e : 0 + page ≡ page = omega arith in e) in
-            ap (λ n. get_or homes n 0) number ∙ get_or_append_left live (replicate {A = ℕ} (frames - pages) 0) 0 page inside ∙ number;
+      bounds = record { few = few; enough = enough };
+      pool_size = omega (arith, ap length bytes, length-replicate {A = ℕ} (parts.frames * PAGE) 0);
+      tables = record {
+        numbered = (omega (arith, blank.size, numbered.0), omega (arith, blank.size, numbered.1));
+        homes = parts.live ++ rest;
+        homes_size = many;
+        live_table = record {
+          size = omega (arith, low.size);
+          below = λ page less. omega (arith, low.each page (omega (arith, low.size)), many, enough.0);
+          home = λ page less.
+              let inside : page < length parts.live = omega (arith, low.size) in
+              let number : get_or parts.live page 0 ≡ page = omega (arith, low.each page inside) in
+              ap (λ n. get_or (parts.live ++ rest) n 0) number ∙ get_or_append_left parts.live rest 0 page inside ∙ number;
+        };
+        slot_tables = All-weaker (IsBlank parts.pages) (IsSlot parts.pages (parts.live ++ rest)) (λ slot h. record { size = h.1; table = λ saved. absurd (false≢true (sym h.0 ∙ saved)) }) parts.slots blank.each;
       };
-      slot_tables = All-weaker (IsBlank pages) (IsSlot pages homes) (λ slot h. record { size = h.1; table = λ saved. absurd (false≢true (sym h.0 ∙ saved)) }) slots blank.each;
-      counted = subst (Counts counts) (sym none) record { below = λ k less. absurd (omega arith); each = λ n less. ap (λ xs. get_or xs n 0) zeros ∙ get_or-replicate frames n 0 0 (omega (arith, size)) };
-      stack = first_stack pages frames live free counts low high (omega (arith, enough.0)) zeros;
-      held_count = sym (ap different none);
-      room = omega (arith, enough.0);
+      accounts = record { counts_size = size; counted = subst (Counts parts.counts) (sym none) record { each = λ n. ap (λ xs. get_or xs n 0) zeros ∙ get_or-zeros parts.frames n }; held_count = empty ∙ sym (ap different none); room = omega (arith, empty, enough.0) };
+      reserved_room = room;
+      stack = first_stack parts.pages parts.frames parts.live parts.free parts.counts low high (omega (arith, enough.0)) zeros;
     }
 
-pub made_is : (pages frames count : ℕ) (pool live counts free : List ℕ) (reserved : ℕ) (slots : List Slot) → IsSound pages frames 0 pool live counts free reserved slots → pool ≡ replicate (frames * PAGE) 0 → IsRow pages frames free → AreBlank count pages slots → IsMade pages count frames (pages_of pages frames pool live slots)
-made_is pages frames count pool live counts free reserved slots so bytes high blank =
-    let below : AreBelow frames live = table_below pages frames so.homes live so.live_table so.homes_size in
-    let size : length (contents pool live) ≡ PAGE * length live = length-contents frames pool live so.pool_size below in
-    let zeros : length (replicate {A = ℕ} (PAGE * pages) 0) ≡ PAGE * pages = length-replicate (PAGE * pages) 0 in
+pub made_is : {parts : Parts} {count : ℕ} → IsSound parts → parts.pool ≡ replicate (parts.frames * PAGE) 0 → IsRow parts.pages parts.frames parts.free → AreBlank count parts.pages parts.slots → IsMade parts.pages count parts.frames (pages_of parts)
+made_is {parts = parts} so bytes high blank =
+    let live = parts.live in
     record {
       pages_are = refl;
       frames_are = refl;
-      zeros = same_number_lists (contents pool live) (replicate (PAGE * pages) 0) (omega (arith, so.live_table.size))
+      zeros = same_number_lists (contents parts.pool live) (replicate (PAGE * parts.pages) 0) (omega (arith, length-contents parts.frames parts.pool live so.pool_size (live_below so), length-replicate {A = ℕ} (PAGE * parts.pages) 0, so.tables.live_table.size))
           (λ k less.
-          let number : get_or live (k / PAGE) 0 < frames = below (k / PAGE) (omega arith) in
-          let place : PAGE * get_or live (k / PAGE) 0 + k % PAGE < frames * PAGE = omega arith in
-          get_or-contents frames pool live k so.pool_size below (omega arith)
+          get_or-contents parts.frames parts.pool live k so.pool_size (live_below so) (omega (arith, length-contents parts.frames parts.pool live so.pool_size (live_below so)))
           ∙ ap (λ xs. get_or xs (PAGE * get_or live (k / PAGE) 0 + k % PAGE) 0) bytes
-          ∙ get_or-replicate (frames * PAGE) (PAGE * get_or live (k / PAGE) 0 + k % PAGE) 0 0 place
-          ∙ sym (get_or-replicate (PAGE * pages) k 0 0 (omega (arith, so.live_table.size))));
-      empty = blank_seen pages pool slots blank.each ∙ ap (λ n. replicate n None) blank.size;
-      used = omega (arith, used-sum pages frames 0 pool live counts free reserved slots so, high.size, so.enough);
+          ∙ get_or-zeros (parts.frames * PAGE) (PAGE * get_or live (k / PAGE) 0 + k % PAGE) ∙ sym (get_or-zeros (PAGE * parts.pages) k));
+      empty = blank_seen parts.pages parts.pool parts.slots blank.each ∙ ap (λ n. replicate n None) blank.size;
+      used = omega (arith, used-sum so, high.size, so.bounds.enough);
     }

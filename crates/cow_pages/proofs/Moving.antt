@@ -1,7 +1,6 @@
 -- The moves of pages that are kept.
-use Rattle.cow_pages.proofs.Terms.{All, IsSome, List, ap, arith, false, get_or, inl, inr, length, refl, replicate, set, subst, sym, true, ℕ, ◌%◌, ◌+◌, ◌<◌, ◌∙◌, ◌≡◌, ◌≤◌, cases_eq, cases_lt, false≢true, get_or-replicate, get_or-set_other, get_or-set_same, length-replicate, length-set, All-get_or, All-set, All-weaker, MOST, RECENT, Slot, Pages, slot_at, AreBlank, AreInside, AreLogged, AreMoved, IsKept, IsLogged, IsLoggedSince, IsSlot, IsSound, pages_of}
-use Rattle.cow_pages.proofs.Stores.{slot_within, slot_saved}
-use Rattle.cow_pages.proofs.Slots.{slot_table}
+use Rattle.cow_pages.proofs.Terms.{All, IsSome, List, ap, arith, false, get_or, inl, inr, length, refl, replicate, set, subst, sym, true, ℕ, ◌%◌, ◌+◌, ◌<◌, ◌∙◌, ◌≡◌, ◌≤◌, cases_eq, cases_lt, false≢true, get_or-replicate, get_or-set_other, get_or-set_same, length-replicate, length-set, All-get_or, All-set, All-weaker, MOST, RECENT, Slot, Pages, slot_at, AreBlank, AreInside, AreLogged, AreMoved, IsKept, IsLogged, IsLoggedSince, IsSlot, IsSound, Parts}
+use Rattle.cow_pages.proofs.Stores.{HasSlot, slot_is}
 use Rattle.cow_pages.proofs.Making.{IsBlank}
 
 inside_more : (pages page i : ℕ) (recent : List ℕ) → AreInside pages recent → page < pages → AreInside pages (set recent i page)
@@ -40,8 +39,8 @@ one_moved pages count after page fresh recent live slot kept rise still so = rec
 }
 
 -- a page has moved
-pub logged_moved : (pages count after page fresh : ℕ) (recent live next line : List ℕ) (slots : List Slot) → AreLogged pages count recent live slots → page < pages → (count < MOST → after ≡ count + 1) → (MOST ≤ count → after ≡ count) → next ≡ set recent (count % RECENT) page → line ≡ set live page fresh → AreLogged pages after next line slots
-logged_moved pages count after page fresh recent live next line slots so less rise still made moved =
+pub logged_moved : {pages count after page : ℕ} {recent live next line : List ℕ} {slots : List Slot} (fresh : ℕ) → AreLogged pages count recent live slots → page < pages → (count < MOST → after ≡ count + 1) → (MOST ≤ count → after ≡ count) → next ≡ set recent (count % RECENT) page → line ≡ set live page fresh → AreLogged pages after next line slots
+logged_moved {pages = pages} {count = count} {after = after} {page = page} {recent = recent} {live = live} {line = line} {slots = slots} fresh so less rise still made moved =
     subst (λ xs. AreLogged pages after xs line slots) (sym made)
     (subst (λ xs. AreLogged pages after (set recent (count % RECENT) page) xs slots) (sym moved) record {
       inside = inside_more pages page (count % RECENT) recent so.inside less;
@@ -63,32 +62,32 @@ one_lost count after recent live other slot rise still so = record {
       ];
 }
 
-pub logged_lost : (pages count after : ℕ) (recent live next line : List ℕ) (slots : List Slot) → AreLogged pages count recent live slots → (count < MOST → count + RECENT < after) → (MOST ≤ count → after ≡ count) → next ≡ recent → AreLogged pages after next line slots
-logged_lost pages count after recent live next line slots so rise still same =
+pub logged_lost : {pages count after : ℕ} {recent live next line : List ℕ} {slots : List Slot} → AreLogged pages count recent live slots → (count < MOST → count + RECENT < after) → (MOST ≤ count → after ≡ count) → next ≡ recent → AreLogged pages after next line slots
+logged_lost {pages = pages} {count = count} {after = after} {recent = recent} {live = live} {line = line} {slots = slots} so rise still same =
     subst (λ xs. AreLogged pages after xs line slots) (sym same) record {
       inside = so.inside;
       each = All-weaker (IsLogged count recent live) (IsLogged after recent line) (λ slot one. one_lost count after recent live line slot rise still one) slots so.each;
     }
 
 -- a slot holds the live table
-pub logged_saved : (pages count : ℕ) (recent live : List ℕ) (slots : List Slot) (i : ℕ) (next : Slot) → AreLogged pages count recent live slots → next.seen ≡ count → next.table.items ≡ live → AreLogged pages count recent live (set slots i next)
-logged_saved pages count recent live slots i next so seen table = record {
+pub logged_saved : {pages count : ℕ} {recent live : List ℕ} {slots : List Slot} (i : ℕ) (next : Slot) → AreLogged pages count recent live slots → next.seen ≡ count → next.table.items ≡ live → AreLogged pages count recent live (set slots i next)
+logged_saved {count = count} {recent = recent} {live = live} {slots = slots} i next so seen table = record {
   inside = so.inside;
   each = All-set (IsLogged count recent live) slots i next
       record { seen = λ saved. omega (arith, seen); moved = λ saved few short k inside other. absurd (other (ap (λ xs. get_or xs k 0) table)) } so.each;
 }
 
 -- a slot holds nothing
-pub logged_released : (pages count : ℕ) (recent live : List ℕ) (slots : List Slot) (i : ℕ) (next : Slot) → AreLogged pages count recent live slots → next.saved ≡ false → AreLogged pages count recent live (set slots i next)
-logged_released pages count recent live slots i next so unsaved = record {
+pub logged_released : {pages count : ℕ} {recent live : List ℕ} {slots : List Slot} (i : ℕ) (next : Slot) → AreLogged pages count recent live slots → next.saved ≡ false → AreLogged pages count recent live (set slots i next)
+logged_released {count = count} {recent = recent} {live = live} {slots = slots} i next so unsaved = record {
   inside = so.inside;
   each = All-set (IsLogged count recent live) slots i next
       record { seen = λ saved. absurd (false≢true (sym unsaved ∙ saved)); moved = λ saved few short k inside other. absurd (false≢true (sym unsaved ∙ saved)) } so.each;
 }
 
 -- no slot holds anything
-pub logged_made : (pages size count : ℕ) (recent live : List ℕ) (slots : List Slot) → 1 ≤ pages → recent ≡ replicate RECENT 0 → AreBlank size pages slots → AreLogged pages count recent live slots
-logged_made pages size count recent live slots some zeros blank =
+pub logged_made : {pages size count : ℕ} {recent live : List ℕ} {slots : List Slot} → 1 ≤ pages → recent ≡ replicate RECENT 0 → AreBlank size pages slots → AreLogged pages count recent live slots
+logged_made {pages = pages} {count = count} {recent = recent} {live = live} {slots = slots} some zeros blank =
     let many : length recent ≡ RECENT = ap length zeros ∙ length-replicate {A = ℕ} RECENT 0 in
     record {
       inside = record {
@@ -102,16 +101,11 @@ logged_made pages size count recent live slots some zeros blank =
     }
 
 -- what a save over a slot asks of the moves
-pub over_moves : (pages frames held : ℕ) (pool live counts free : List ℕ) (reserved : ℕ) (slots : List Slot) (count : ℕ) (recent : List ℕ) (store : Pages) (i : ℕ) (table line : List ℕ) (slot : Slot) → IsKept pages frames held pool live counts free reserved slots count recent → pages_of pages frames pool live slots ≡ store → IsSome (slot_at store i) → table ≡ slot.table.items → line ≡ live → slot ≡ get_or slots i slot → IsLoggedSince slot.seen count recent table line
-over_moves pages frames held pool live counts free reserved slots count recent store i table line slot so seen some first second is =
-    let here : IsSome (slot_at (pages_of pages frames pool live slots) i) = subst (λ s. IsSome (slot_at s i)) (sym seen) some in
-    let less : i < length slots = slot_within pages frames pool live slots i here in
-    let saved : slot.saved ≡ true = slot_saved pages frames pool live slots i slot is here in
-    let one : IsSlot pages so.sound.homes slot = slot_table pages so.sound.homes slots i slot so.sound.slot_tables less is in
-    let log : IsLogged count recent live slot = subst (IsLogged count recent live) (sym is) (All-get_or (IsLogged count recent live) slots i slot less so.logged.each) in
-    let size : length table ≡ pages = ap length first ∙ one.size in
-    record {
-      inside = subst (λ n. AreInside n recent) (sym size) so.logged.inside;
-      order = log.seen saved;
-      moved = subst (λ xs. AreMoved count recent slot.seen table xs) (sym second) (subst (λ xs. AreMoved count recent slot.seen xs live) (sym first) (log.moved saved));
+pub over_moves : {parts : Parts} {count i : ℕ} {recent table line : List ℕ} {slot : Slot} → IsKept parts count recent → HasSlot parts i slot → table ≡ slot.table.items → line ≡ parts.live → IsLoggedSince slot.seen count recent table line
+over_moves {parts = parts} {count = count} {recent = recent} {slot = slot} so at first second =
+    let log : IsLogged count recent parts.live slot = subst (IsLogged count recent parts.live) (sym at.is) (All-get_or (IsLogged count recent parts.live) parts.slots _ slot at.less so.logged.each) in
+    rw (first, second) record {
+      inside = subst (λ n. AreInside n recent) (sym (slot_is so.sound at).size) so.logged.inside;
+      order = log.seen at.saved;
+      moved = log.moved at.saved;
     }

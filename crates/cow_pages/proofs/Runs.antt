@@ -1,8 +1,10 @@
 -- Writes, and several one after the other.
-use Rattle.cow_pages.proofs.Terms.{List, Some, [], ap, arith, cond, drop, false, get_or, inl, inr, length, nat_le, nat_lt, refl, set, slice_get, subst, suc, sym, take, true, zero, ℕ, ◌%◌, ◌&&◌, ◌*◌, ◌++◌, ◌+◌, ◌-◌, ◌/◌, ◌<◌, ◌∙◌, ◌∷◌, ◌≡◌, ◌≤◌, and_from, and_parts, cases_Bool, cases_eq, cases_lt, false_from_ne_true, le-leb, le-ltb, leb-true, lt-ltb, ltb-true, or_parts, get_or_default, length-append, length-drop, length-set, length-take-le, take_at, slice_get-get_or, PAGE, Slot, IsLawful, Pages, different, has, saved_numbers, used_of, IsFree, NumberAfter, Owns, Writes, copied_pages, is_shared, put_at, reaches, IsSound, contents, pages_of, table_numbers}
-use Rattle.cow_pages.proofs.Counting.{AreBelow, has-append}
+use Rattle.cow_pages.proofs.Terms.{List, Some, [], ap, arith, cond, drop, false, get_or, inl, inr, length, nat_le, nat_lt, refl, set, slice_get, subst, suc, sym, take, true, zero, ℕ, ◌%◌, ◌&&◌, ◌*◌, ◌++◌, ◌+◌, ◌-◌, ◌/◌, ◌<◌, ◌∙◌, ◌∷◌, ◌≡◌, ◌≤◌, and_from, and_parts, cases_Bool, cases_eq, cases_lt, false_from_ne_true, le-leb, le-ltb, leb-true, lt-ltb, ltb-true, or_parts, get_or_default, length-append, length-drop, length-set, length-take-le, take_at, slice_get-get_or, PAGE, Slot, IsLawful, Pages, different, has, saved_numbers, used_of, IsFree, NumberAfter, Owns, Writes, copied_pages, is_shared, put_at, reaches, IsSound, Parts, contents, pages_of, table_numbers}
+use Rattle.cow_pages.proofs.Counting.{has-append}
+use Rattle.cow_pages.proofs.Walks.{table_home}
+pub use Rattle.cow_pages.proofs.Slots.{refill}
 use Rattle.cow_pages.proofs.Frames.{length-put_at, contents-put_here, contents-put_apart, part-put_at, set-put_at, get_or-contents, length-contents, run-contents}
-use Rattle.cow_pages.proofs.Stores.{saved_numbers-is, table_below, table_once, lawful}
+use Rattle.cow_pages.proofs.Stores.{live_below, saved_numbers-is, lawful}
 use Rattle.cow_pages.proofs.Copying.{slots_same, not-at}
 
 -- a page that has a frame of its own is in no slot
@@ -19,23 +21,8 @@ owned-apart old new page so =
     ]
 
 -- bytes are written into the pool
-pub put_sound : (pages frames held : ℕ) (pool after live counts free : List ℕ) (reserved : ℕ) (slots : List Slot) → IsSound pages frames held pool live counts free reserved slots → length after ≡ length pool → IsSound pages frames held after live counts free reserved slots
-put_sound pages frames held pool after live counts free reserved slots so size = record {
-  few = so.few;
-  enough = so.enough;
-  numbered = so.numbered;
-  pool_size = size ∙ so.pool_size;
-  counts_size = so.counts_size;
-  reserved_room = so.reserved_room;
-  homes = so.homes;
-  homes_size = so.homes_size;
-  live_table = so.live_table;
-  slot_tables = so.slot_tables;
-  counted = so.counted;
-  stack = so.stack;
-  held_count = so.held_count;
-  room = so.room;
-}
+pub put_sound : {parts : Parts} {after : List ℕ} → IsSound parts → length after ≡ length parts.pool → IsSound (record parts { pool = after })
+put_sound so size = record { bounds = so.bounds; pool_size = size ∙ so.pool_size; tables = so.tables; accounts = so.accounts; reserved_room = so.reserved_room; stack = so.stack }
 
 -- a write within one page reaches that page alone
 pub reaches-here : (at count : ℕ) → 0 < count → at % PAGE + count ≤ PAGE → reaches at count (at / PAGE) ≡ true
@@ -113,116 +100,95 @@ owned_write old mid new at bytes some within inside so pages frames slots number
           same ∙ so.used ∙ ap (λ n. used_of old + n) (sym one));
     }
 
--- the pool's bytes behind a place, read as those of the live space
-pub byte_is : (pages frames held : ℕ) (pool live counts free : List ℕ) (reserved : ℕ) (slots : List Slot) (store : Pages) (at place x : ℕ) → IsSound pages frames held pool live counts free reserved slots → pages_of pages frames pool live slots ≡ store → at < PAGE * store.pages → place ≡ PAGE * get_or store.live.numbers (at / PAGE) 0 + at % PAGE → x ≡ get_or pool place x → slice_get store.live.bytes at ≡ Some x
-byte_is pages frames held pool live counts free reserved slots store at place x so is inside there read =
-    let below : AreBelow frames live = table_below pages frames so.homes live so.live_table so.homes_size in
-    let near : at < PAGE * pages = subst (λ s. at < PAGE * s.pages) (sym is) inside in
-    let where' : place ≡ PAGE * get_or live (at / PAGE) 0 + at % PAGE = subst (λ s. place ≡ PAGE * get_or s.live.numbers (at / PAGE) 0 + at % PAGE) (sym is) there in
-    let number : get_or live (at / PAGE) 0 < frames = below (at / PAGE) (omega (arith, so.live_table.size)) in
-    let whole : length (contents pool live) ≡ PAGE * length live = length-contents frames pool live so.pool_size below in
-    let within : at < length (contents pool live) = omega (arith, so.live_table.size) in
-    subst (λ s. slice_get s.live.bytes at ≡ Some x) is
-    (slice_get-get_or (contents pool live) at 0 within
-    ∙ ap Some (get_or-contents frames pool live at so.pool_size below (omega arith) ∙ ap (λ n. get_or pool n 0) (sym where') ∙ get_or_default pool place 0 x (omega (arith, so.pool_size)) ∙ sym read))
+-- a place of the pool is that of an address of the live space
+pub record StandsIn (parts : Parts) (at place : ℕ) : Type 0 where
+  pub so : IsSound parts
+  pub inside : at < PAGE * parts.pages
+  pub there : place ≡ PAGE * get_or parts.live (at / PAGE) 0 + at % PAGE
 
-pub run_is : (pages frames held : ℕ) (pool live counts free : List ℕ) (reserved : ℕ) (slots : List Slot) (store : Pages) (at count place : ℕ) → IsSound pages frames held pool live counts free reserved slots → pages_of pages frames pool live slots ≡ store → at < PAGE * store.pages → at % PAGE + count ≤ PAGE → place ≡ PAGE * get_or store.live.numbers (at / PAGE) 0 + at % PAGE → take count (drop place pool) ≡ take count (drop at store.live.bytes)
-run_is pages frames held pool live counts free reserved slots store at count place so is inside within there =
-    let below : AreBelow frames live = table_below pages frames so.homes live so.live_table so.homes_size in
-    let near : at < PAGE * pages = subst (λ s. at < PAGE * s.pages) (sym is) inside in
-    let where' : place ≡ PAGE * get_or live (at / PAGE) 0 + at % PAGE = subst (λ s. place ≡ PAGE * get_or s.live.numbers (at / PAGE) 0 + at % PAGE) (sym is) there in
-    subst (λ s. take count (drop place pool) ≡ take count (drop at s.live.bytes)) is
-    (ap (λ n. take count (drop n pool)) where' ∙ sym (run-contents frames pool live at count so.pool_size below (omega (arith, so.live_table.size)) within))
+pub stands_in : {parts : Parts} {store : Pages} {at place : ℕ} → IsSound parts → pages_of parts ≡ store → at < PAGE * store.pages → place ≡ PAGE * get_or store.live.numbers (at / PAGE) 0 + at % PAGE → StandsIn parts at place
+stands_in {at = at} {place = place} so seen inside there =
+    record { so = so; inside = subst (λ s. at < PAGE * s.pages) (sym seen) inside; there = subst (λ s. place ≡ PAGE * get_or s.live.numbers (at / PAGE) 0 + at % PAGE) (sym seen) there }
+
+-- the pool's bytes behind a place, read as those of the live space
+pub byte_is : {parts : Parts} {store : Pages} {at place x : ℕ} → StandsIn parts at place → pages_of parts ≡ store → x ≡ get_or parts.pool place x → slice_get store.live.bytes at ≡ Some x
+byte_is {parts = parts} {at = at} {place = place} {x = x} s seen read =
+    let so = s.so in
+    let bytes = contents parts.pool parts.live in
+    let whole : length bytes ≡ PAGE * length parts.live = length-contents parts.frames parts.pool parts.live so.pool_size (live_below so) in
+    let number : get_or parts.live (at / PAGE) 0 < parts.frames = live_below so (at / PAGE) (omega (arith, so.tables.live_table.size, s.inside)) in
+    subst (λ s. slice_get s.live.bytes at ≡ Some x) seen
+    (slice_get-get_or bytes at 0 (omega (arith, so.tables.live_table.size, s.inside))
+    ∙ ap Some (get_or-contents parts.frames parts.pool parts.live at so.pool_size (live_below so) (omega (arith, so.tables.live_table.size, s.inside)) ∙ ap (λ n. get_or parts.pool n 0) (sym s.there) ∙ get_or_default parts.pool place 0 x (omega (arith, so.pool_size, s.there)) ∙ sym read))
+
+pub run_is : {parts : Parts} {store : Pages} {at place : ℕ} (count : ℕ) → StandsIn parts at place → pages_of parts ≡ store → at % PAGE + count ≤ PAGE → take count (drop place parts.pool) ≡ take count (drop at store.live.bytes)
+run_is {parts = parts} {at = at} {place = place} count s seen within =
+    subst (λ s. take count (drop place parts.pool) ≡ take count (drop at s.live.bytes)) seen
+    (ap (λ n. take count (drop n parts.pool)) s.there ∙ sym (run-contents parts.frames parts.pool parts.live at count s.so.pool_size (live_below s.so) (omega (arith, s.so.tables.live_table.size, s.inside)) within))
+
+-- a place of a page that was given a frame of its own
+pub record OwnsIn (parts : Parts) (old : Pages) (at place : ℕ) : Type 0 where
+  pub owns : Owns old (pages_of parts) (at / PAGE)
+  pub stands : StandsIn parts at place
+
+pub owns_in : {parts : Parts} {old mid : Pages} {at place : ℕ} → IsSound parts → pages_of parts ≡ mid → Owns old mid (at / PAGE) → place ≡ PAGE * get_or mid.live.numbers (at / PAGE) 0 + at % PAGE → at < PAGE * old.pages → OwnsIn parts old at place
+owns_in {old = old} {at = at} so seen owns there inside =
+    record { owns = subst (λ s. Owns old s (at / PAGE)) (sym seen) owns; stands = stands_in so seen (omega (arith, inside, owns.pages)) there }
+
+-- it has room for what is written within its page
+pub place_room : {parts : Parts} {at place : ℕ} (count : ℕ) → StandsIn parts at place → at % PAGE + count ≤ PAGE → place + count ≤ length parts.pool
+place_room {at = at} count s within = omega (arith, s.so.pool_size, s.there, within, live_below s.so (at / PAGE) (omega (arith, s.so.tables.live_table.size, s.inside)))
 
 -- the store after bytes were written behind a place of the pool
-pub put_done : (pages frames held : ℕ) (pool after live counts free : List ℕ) (reserved : ℕ) (slots : List Slot) (old mid : Pages) (at place : ℕ) (bytes : List ℕ) → IsSound pages frames held pool live counts free reserved slots → pages_of pages frames pool live slots ≡ mid → Owns old mid (at / PAGE) → place ≡ PAGE * get_or mid.live.numbers (at / PAGE) 0 + at % PAGE → after ≡ put_at place bytes pool → 0 < length bytes → at % PAGE + length bytes ≤ PAGE → at < PAGE * old.pages → Writes old (pages_of pages frames after live slots) at bytes
-put_done pages frames held pool after live counts free reserved slots old mid at place bytes so is owns there e some within inside =
-    let mine : Owns old (pages_of pages frames pool live slots) (at / PAGE) = subst (λ s. Owns old s (at / PAGE)) (sym is) owns in
-    let where' : place ≡ PAGE * get_or live (at / PAGE) 0 + at % PAGE = subst (λ s. place ≡ PAGE * get_or s.live.numbers (at / PAGE) 0 + at % PAGE) (sym is) there in
-    let below : AreBelow frames live = table_below pages frames so.homes live so.live_table so.homes_size in
-    let near : at < PAGE * length live = omega (arith, so.live_table.size, mine.pages) in
-    let n = get_or live (at / PAGE) 0 in
-    let number : n < frames = below (at / PAGE) (omega arith) in
-    let none : has n (table_numbers slots) ≡ false = ap (has n) (sym (saved_numbers-is pool slots)) ∙ owned-apart old (pages_of pages frames pool live slots) (at / PAGE) mine in
-    let written : after ≡ put_at (PAGE * n + at % PAGE) bytes pool = e ∙ ap (λ m. put_at m bytes pool) where' in
-    subst (λ xs. Writes old (pages_of pages frames xs live slots) at bytes) (sym written)
-    (owned_write old (pages_of pages frames pool live slots) (pages_of pages frames (put_at (PAGE * n + at % PAGE) bytes pool) live slots) at bytes some within inside mine refl refl
-    (slots_same pages frames n so.homes pool (put_at (PAGE * n + at % PAGE) bytes pool) slots so.homes_size so.slot_tables none (λ table under gone. contents-put_apart frames n (at % PAGE) bytes pool table so.pool_size under number within (not-at n table gone)))
+put_done : {parts : Parts} {old : Pages} {at place : ℕ} {after bytes : List ℕ} → OwnsIn parts old at place → after ≡ put_at place bytes parts.pool → 0 < length bytes → at % PAGE + length bytes ≤ PAGE → Writes old (pages_of (record parts { pool = after })) at bytes
+put_done {parts = parts} {old = old} {at = at} {bytes = bytes} o e some within =
+    let so = o.stands.so in
+    let n = get_or parts.live (at / PAGE) 0 in
+    let near : at < PAGE * length parts.live = omega (arith, so.tables.live_table.size, o.stands.inside) in
+    let none : has n (table_numbers parts.slots) ≡ false = ap (has n) (sym (saved_numbers-is parts.pool parts.slots)) ∙ owned-apart old (pages_of parts) (at / PAGE) o.owns in
+    let pool = put_at (PAGE * n + at % PAGE) bytes parts.pool in
+    subst (λ xs. Writes old (pages_of (record parts { pool = xs })) at bytes) (sym (e ∙ ap (λ m. put_at m bytes parts.pool) o.stands.there))
+    (owned_write old (pages_of parts) (pages_of (record parts { pool = pool })) at bytes some within (omega (arith, o.stands.inside, o.owns.pages)) o.owns refl refl
+    (slots_same parts.pages parts.frames n so.tables.homes parts.pool pool parts.slots so.tables.homes_size so.tables.slot_tables none (λ table under gone. contents-put_apart parts.frames n (at % PAGE) bytes parts.pool table so.pool_size under (live_below so (at / PAGE) (omega arith)) within (not-at n table gone)))
     refl
-    (contents-put_here frames bytes pool live at so.pool_size below (table_once pages so.homes live so.live_table) near within))
+    (contents-put_here parts.frames bytes parts.pool parts.live at so.pool_size (live_below so) (table_home so.tables.live_table so.tables.live_table) near within))
 
-pub used_one : (old new : Pages) (at : ℕ) (bytes : List ℕ) → Writes old new at bytes → 0 < length bytes → at % PAGE + length bytes ≤ PAGE → at < PAGE * old.pages → used_of new ≡ used_of old + cond (is_shared old (at / PAGE)) 1 0
-used_one old new at bytes so some within inside =
-    let near : nat_lt (at / PAGE) old.pages ≡ true = lt-ltb (at / PAGE) old.pages (omega arith) in
-    so.used ∙ ap (λ n. used_of old + n) (copied_one old at (length bytes) some within old.pages ∙ ap (λ b. cond (b && is_shared old (at / PAGE)) 1 0) near)
-
--- a list of the same length written whole, as a vector's slice is
-pub refill : (n : ℕ) (xs ys : List ℕ) → length ys ≡ n → take n (ys ++ drop (length ys) xs) ≡ ys
-refill n xs ys size = take_at ys (drop (length ys) xs) n size
-
--- a place of the pool has room for what is written within its page
-pub place_room : (pages frames held : ℕ) (pool live counts free : List ℕ) (reserved : ℕ) (slots : List Slot) (old mid : Pages) (at place count : ℕ) → IsSound pages frames held pool live counts free reserved slots → pages_of pages frames pool live slots ≡ mid → Owns old mid (at / PAGE) → place ≡ PAGE * get_or mid.live.numbers (at / PAGE) 0 + at % PAGE → at % PAGE + count ≤ PAGE → at < PAGE * old.pages → place + count ≤ length pool
-place_room pages frames held pool live counts free reserved slots old mid at place count so is owns there within inside =
-    let mine : Owns old (pages_of pages frames pool live slots) (at / PAGE) = subst (λ s. Owns old s (at / PAGE)) (sym is) owns in
-    let where' : place ≡ PAGE * get_or live (at / PAGE) 0 + at % PAGE = subst (λ s. place ≡ PAGE * get_or s.live.numbers (at / PAGE) 0 + at % PAGE) (sym is) there in
-    let number : get_or live (at / PAGE) 0 < frames = table_below pages frames so.homes live so.live_table so.homes_size (at / PAGE) (omega (arith, so.live_table.size, mine.pages)) in
-    omega (arith, so.pool_size, number)
+pub used_one : {old new : Pages} {at : ℕ} {bytes : List ℕ} → Writes old new at bytes → 0 < length bytes → at % PAGE + length bytes ≤ PAGE → at < PAGE * old.pages → used_of new ≡ used_of old + cond (is_shared old (at / PAGE)) 1 0
+used_one {old = old} {at = at} {bytes = bytes} so some within inside =
+    so.used ∙ ap (λ n. used_of old + n) (copied_one old at (length bytes) some within old.pages ∙ ap (λ b. cond (b && is_shared old (at / PAGE)) 1 0) (lt-ltb (at / PAGE) old.pages (omega (arith, inside))))
 
 -- the store after one byte, or several, were written
-pub byte_done : (pages frames held : ℕ) (pool live counts free : List ℕ) (reserved : ℕ) (slots : List Slot) (old mid : Pages) (at place byte : ℕ) → IsSound pages frames held pool live counts free reserved slots → pages_of pages frames pool live slots ≡ mid → Owns old mid (at / PAGE) → place ≡ PAGE * get_or mid.live.numbers (at / PAGE) 0 + at % PAGE → at < PAGE * old.pages → Writes old (pages_of pages frames (set pool place byte) live slots) at (byte ∷ [])
-byte_done pages frames held pool live counts free reserved slots old mid at place byte so is owns there inside =
+pub byte_done : {parts : Parts} {old : Pages} {at place : ℕ} (byte : ℕ) → OwnsIn parts old at place → Writes old (pages_of (record parts { pool = set parts.pool place byte })) at (byte ∷ [])
+byte_done {parts = parts} {at = at} {place = place} byte o =
     let within : at % PAGE + 1 ≤ PAGE = omega arith in
-    put_done pages frames held pool (set pool place byte) live counts free reserved slots old mid at place (byte ∷ []) so is owns there
-    (set-put_at pool place byte (omega (arith, place_room pages frames held pool live counts free reserved slots old mid at place 1 so is owns there within inside)))
-    (omega arith) within inside
+    put_done o (set-put_at parts.pool place byte (omega (arith, place_room 1 o.stands within))) (omega arith) within
 
--- the pool's vector after a part of its slice was written
-pub part_pool : (n place count : ℕ) (pool bytes whole part : List ℕ) → n ≡ length pool → place + length bytes ≤ length pool → whole ≡ pool → part ≡ bytes → count ≡ length bytes → take n (take place whole ++ (part ++ drop count (drop place whole)) ++ drop (length (take place whole ++ (part ++ drop count (drop place whole)))) pool) ≡ put_at place bytes pool
-part_pool n place count pool bytes whole part size room is same many =
+pub byte_lawful : {parts : Parts} (place byte : ℕ) → IsSound parts → IsLawful (pages_of (record parts { pool = set parts.pool place byte }))
+byte_lawful {parts = parts} place byte so = lawful (put_sound so (length-set parts.pool place byte)) refl
+
+pub part_done : {parts : Parts} {old : Pages} {at place n count : ℕ} {whole part : List ℕ} (bytes : List ℕ) → OwnsIn parts old at place → 0 < length bytes → at % PAGE + length bytes ≤ PAGE → n ≡ length parts.pool → whole ≡ parts.pool → part ≡ bytes → count ≡ length bytes
+    → Writes old (pages_of (record parts { pool = take n (take place whole ++ (part ++ drop count (drop place whole)) ++ drop (length (take place whole ++ (part ++ drop count (drop place whole)))) parts.pool) })) at bytes
+part_done {parts = parts} {place = place} {n = n} {count = count} {whole = whole} {part = part} bytes o some within size full same many =
+    let pool = parts.pool in
     let written : List ℕ = take place whole ++ (part ++ drop count (drop place whole)) in
     let e : written ≡ put_at place bytes pool =
-    ap (λ xs. take place xs ++ (part ++ drop count (drop place xs))) is
-    ∙ ap (λ xs. take place pool ++ (xs ++ drop count (drop place pool))) same
-    ∙ part-put_at pool bytes place count (sym many) in
-    take_at written (drop (length written) pool) n (ap length e ∙ length-put_at place bytes pool room ∙ sym size) ∙ e
+    ap (λ xs. take place xs ++ (part ++ drop count (drop place xs))) full ∙ ap (λ xs. take place pool ++ (xs ++ drop count (drop place pool))) same ∙ part-put_at pool bytes place count (sym many) in
+    put_done o (take_at written (drop (length written) pool) n (ap length e ∙ length-put_at place bytes pool (place_room (length bytes) o.stands within) ∙ sym size) ∙ e) some within
 
--- the store then
-pub part_done : (pages frames held : ℕ) (pool live counts free : List ℕ) (reserved : ℕ) (slots : List Slot) (old mid : Pages) (at place n count : ℕ) (bytes whole part : List ℕ) → IsSound pages frames held pool live counts free reserved slots → pages_of pages frames pool live slots ≡ mid → Owns old mid (at / PAGE) → place ≡ PAGE * get_or mid.live.numbers (at / PAGE) 0 + at % PAGE → 0 < length bytes → at % PAGE + length bytes ≤ PAGE → at < PAGE * old.pages → n ≡ length pool → whole ≡ pool → part ≡ bytes → count ≡ length bytes → Writes old (pages_of pages frames (take n (take place whole ++ (part ++ drop count (drop place whole)) ++ drop (length (take place whole ++ (part ++ drop count (drop place whole)))) pool)) live slots) at bytes
-part_done pages frames held pool live counts free reserved slots old mid at place n count bytes whole part so is owns there some within inside size full same many =
-    put_done pages frames held pool (take n (take place whole ++ (part ++ drop count (drop place whole)) ++ drop (length (take place whole ++ (part ++ drop count (drop place whole)))) pool)) live counts free reserved slots old mid at place bytes so is owns there
-    (part_pool n place count pool bytes whole part size (place_room pages frames held pool live counts free reserved slots old mid at place (length bytes) so is owns there within inside) full same many)
-    some within inside
-
-pub part_lawful : (pages frames held : ℕ) (pool live counts free : List ℕ) (reserved : ℕ) (slots : List Slot) (n : ℕ) (written : List ℕ) → IsSound pages frames held pool live counts free reserved slots → n ≡ length pool → IsLawful (pages_of pages frames (take n (written ++ drop (length written) pool)) live slots)
-part_lawful pages frames held pool live counts free reserved slots n written so size =
-    let room : n ≤ length (written ++ drop (length written) pool) = omega (arith, length-append written (drop (length written) pool), length-drop (length written) pool) in
-    let same : length (take n (written ++ drop (length written) pool)) ≡ length pool = length-take-le n (written ++ drop (length written) pool) room ∙ size in
-    lawful pages frames held (take n (written ++ drop (length written) pool)) live counts free reserved slots _ (put_sound pages frames held pool (take n (written ++ drop (length written) pool)) live counts free reserved slots so same) refl
-
-pub byte_lawful : (pages frames held : ℕ) (pool live counts free : List ℕ) (reserved : ℕ) (slots : List Slot) (place byte : ℕ) → IsSound pages frames held pool live counts free reserved slots → IsLawful (pages_of pages frames (set pool place byte) live slots)
-byte_lawful pages frames held pool live counts free reserved slots place byte so =
-    lawful pages frames held (set pool place byte) live counts free reserved slots _ (put_sound pages frames held pool (set pool place byte) live counts free reserved slots so (length-set pool place byte)) refl
+pub part_lawful : {parts : Parts} {n : ℕ} (written : List ℕ) → IsSound parts → n ≡ length parts.pool → IsLawful (pages_of (record parts { pool = take n (written ++ drop (length written) parts.pool) }))
+part_lawful {parts = parts} {n = n} written so size =
+    let whole = written ++ drop (length written) parts.pool in
+    let room : n ≤ length whole = omega (arith, length-append written (drop (length written) parts.pool), length-drop (length written) parts.pool) in
+    lawful (put_sound so (length-take-le n whole room ∙ size)) refl
 
 -- the store after a run within a page was copied to one within a page that has a frame of its own
-pub copied_done : (pages frames held : ℕ) (pool live counts free : List ℕ) (reserved : ℕ) (slots : List Slot) (old mid : Pages) (from to count source target n : ℕ) (whole written : List ℕ) → IsSound pages frames held pool live counts free reserved slots → pages_of pages frames pool live slots ≡ mid → Owns old mid (to / PAGE)
-    → target ≡ PAGE * get_or mid.live.numbers (to / PAGE) 0 + to % PAGE → source ≡ PAGE * get_or mid.live.numbers (from / PAGE) 0 + from % PAGE → 0 < count → from < PAGE * old.pages → from % PAGE + count ≤ PAGE → to < PAGE * old.pages → to % PAGE + count ≤ PAGE
-    → n ≡ length pool → whole ≡ pool → written ≡ take target whole ++ take count (drop source whole) ++ drop (target + count) whole
-    → Writes old (pages_of pages frames (take n (written ++ drop (length written) pool)) live slots) to (take count (drop from old.live.bytes))
-copied_done pages frames held pool live counts free reserved slots old mid from to count source target n whole written so is owns there where' some inside within near fits size full copied =
+pub copied_done : {parts : Parts} {old : Pages} {from to count source target n : ℕ} {whole written : List ℕ} → OwnsIn parts old to target → StandsIn parts from source → 0 < count → from % PAGE + count ≤ PAGE → to % PAGE + count ≤ PAGE → n ≡ length parts.pool → whole ≡ parts.pool → written ≡ take target whole ++ take count (drop source whole) ++ drop (target + count) whole
+    → Writes old (pages_of (record parts { pool = take n (written ++ drop (length written) parts.pool) })) to (take count (drop from old.live.bytes))
+copied_done {parts = parts} {old = old} {from = from} {to = to} {count = count} {source = source} {target = target} {n = n} {written = written} o s some within fits size full copied =
+    let pool = parts.pool in
     let bytes : List ℕ = take count (drop source pool) in
-    let early : from < PAGE * mid.pages = omega (arith, owns.pages, inside) in
-    let read : bytes ≡ take count (drop from mid.live.bytes) = run_is pages frames held pool live counts free reserved slots mid from count source so is early within where' in
-    let same : bytes ≡ take count (drop from old.live.bytes) = read ∙ ap (λ xs. take count (drop from xs)) owns.bytes in
-    let space : length mid.live.bytes ≡ PAGE * mid.pages = ((lawful pages frames held pool live counts free reserved slots mid so is).spaces mid.live (inl refl)).bytes in
-    let many : length bytes ≡ count =
-    ap length read ∙ length-take-le count (drop from mid.live.bytes) (omega (arith, space, early, within, length-drop from mid.live.bytes)) in
-    let room : target + length bytes ≤ length pool =
-    subst (λ k. target + k ≤ length pool) (sym many) (place_room pages frames held pool live counts free reserved slots old mid to target count so is owns there fits near) in
-    let put : written ≡ put_at target bytes pool =
-    copied
-    ∙ ap (λ xs. take target xs ++ take count (drop source xs) ++ drop (target + count) xs) full
-    ∙ ap (λ k. take target pool ++ bytes ++ drop (target + k) pool) (sym many) in
-    let whole' : take n (written ++ drop (length written) pool) ≡ put_at target bytes pool =
-    take_at written (drop (length written) pool) n (ap length put ∙ length-put_at target bytes pool room ∙ sym size) ∙ put in
-    subst (Writes old (pages_of pages frames (take n (written ++ drop (length written) pool)) live slots) to) same
-    (put_done pages frames held pool (take n (written ++ drop (length written) pool)) live counts free reserved slots old mid to target bytes so is owns there whole' (omega (arith, many, some)) (omega (arith, many, fits)) near)
+    let same : bytes ≡ take count (drop from old.live.bytes) = run_is count s refl within ∙ ap (λ xs. take count (drop from xs)) o.owns.bytes in
+    let many : length bytes ≡ count = length-take-le count (drop source pool) (omega (arith, length-drop source pool, place_room count s within)) in
+    let put : written ≡ put_at target bytes pool = copied ∙ ap (λ xs. take target xs ++ take count (drop source xs) ++ drop (target + count) xs) full ∙ ap (λ k. take target pool ++ bytes ++ drop (target + k) pool) (sym many) in
+    subst (Writes old (pages_of (record parts { pool = take n (written ++ drop (length written) pool) })) to) same
+    (put_done o (take_at written (drop (length written) pool) n (ap length put ∙ length-put_at target bytes pool (omega (arith, many, place_room count o.stands fits)) ∙ sym size) ∙ put) (omega (arith, many, some)) (omega (arith, many, fits)))

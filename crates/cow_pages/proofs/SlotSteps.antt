@@ -1,167 +1,151 @@
--- What the calls of `save`, `release` and `restore` leave, from what their parts say.
-use Rattle.cow_pages.proofs.Terms.{Bool, IsSome, List, None, Some, ap, arith, cond, drop, false, get_or, length, refl, set, subst, sym, take, true, ℕ, ◌++◌, ◌+◌, ◌-◌, ◌<◌, ◌^◌, ◌∙◌, ◌≡◌, ◌≤◌, length-map, Slot, IsLawful, Pages, Space, different, held_of, slot_at, used_of, Counts, IsSlot, IsSound, IsStack, IsTable, pages_of, places, slot_space, space_of, table_numbers}
-use Rattle.cow_pages.proofs.Stores.{saved_numbers-is, table_home, used-sum, held-is, lawful, slot_at-is, slot_within, slot_saved}
-use Rattle.cow_pages.proofs.Slots.{save_sound, save_fits, save_few, slots_set, saved_space, unsaved_space, release_counts, release_held, release_sound, slot_counted, slot_table, slot_used, restore_sound}
-use Rattle.cow_pages.proofs.Runs.{refill}
+-- What the calls of `save`, `release`, `save_over` and `restore` ask of their parts, and what they leave.
+use Rattle.cow_pages.proofs.Terms.{Bool, IsSome, List, None, Some, [], ap, arith, cond, drop, false, get_or, inl, inr, length, map, nat_lt, refl, set, subst, sym, take, true, ℕ, ◌++◌, ◌+◌, ◌-◌, ◌<◌, ◌||◌, ◌∙◌, ◌≡◌, ◌≤◌, cases_Bool, false≢true, length-map, Slot, Pages, Space, different, has, slot_at, used_of, CanCount, CanGiveUp, CanUncount, Counts, IsRenewed, IsSlot, IsSound, IsStack, IsTable, Parts, Recounts, pages_of, places, slot_numbers, slot_space, space_of, table_numbers}
+use Rattle.cow_pages.proofs.Counting.{has-get_or, places-append, places-le-one, places-none, places-some}
+use Rattle.cow_pages.proofs.Walks.{by_live, counts_alike, stack_same, table_home}
+use Rattle.cow_pages.proofs.Stores.{HasSlot, slot_at-is, slot_here, slot_is, used-is, used-sum}
+use Rattle.cow_pages.proofs.Slots.{Turning, emptied, live_room, others, refill, saved_slot, slot_in, slot_out, slots_few, turned_counts, turned_held, turned_sound, turning}
 
 -- a table written whole with a list of its length
-pub refilled : (n : ℕ) (table part from whole live : List ℕ) → n ≡ length table → length part ≡ length whole → whole ≡ table → part ≡ from → from ≡ live → take n (part ++ drop (length part) table) ≡ live
-refilled n table part from whole live size same is copy source =
-    refill n table part (same ∙ ap length is ∙ sym size) ∙ copy ∙ source
+pub refilled : {n : ℕ} {table part from whole live : List ℕ} → n ≡ length table → length part ≡ length whole → whole ≡ table → part ≡ from → from ≡ live → take n (part ++ drop (length part) table) ≡ live
+refilled {n = n} {table = table} {part = part} size same is copy source = refill n table part (same ∙ ap length is ∙ sym size) ∙ copy ∙ source
 
--- an empty slot isn't saved
-none_unsaved : (b : Bool) (space : Space) → cond b (Some space) None ≡ None → b ≡ false
-none_unsaved true space e = cc
-none_unsaved false space e = refl
+-- an empty slot has no numbers
+none_numbers : (b : Bool) (table : List ℕ) (space : Space) → cond b (Some space) None ≡ None → cond b table [] ≡ []
+none_numbers true table space e = cc
+none_numbers false table space e = refl
 
--- what `save` is called with, and what its parts say
-pub record Saving (pages frames held : ℕ) (pool live counts free : List ℕ) (reserved : ℕ) (slots : List Slot) (store : Pages) (i added : ℕ) (after : List ℕ) (next : Slot) : Type 0 where
-  pub so : IsSound pages frames held pool live counts free reserved slots
-  pub seen : pages_of pages frames pool live slots ≡ store
-  pub size : length after ≡ length counts
-  pub counted : Counts after (live ++ table_numbers slots)
-  pub rise : added + different (table_numbers slots) ≡ different (live ++ table_numbers slots)
-  pub less : i < length slots
-  pub slot : Slot
-  pub is : slot ≡ get_or slots i slot
-  pub unsaved : slot.saved ≡ false
-  pub saved : next.saved ≡ true
-  pub table : next.table.items ≡ live
-  pub room : used_of (pages_of pages frames pool live slots) + pages ≤ frames
-
-pub saving : (pages frames held : ℕ) (pool live counts free : List ℕ) (reserved : ℕ) (slots : List Slot) (store : Pages) (i added n : ℕ) (was table now : List ℕ) (slot next : Slot) → IsSound pages frames held pool live counts free reserved slots → pages_of pages frames pool live slots ≡ store → i < length store.slots → slot_at store i ≡ None → used_of store + store.pages ≤ store.frames → was ≡ counts → table ≡ live → length now ≡ length was → ((numbers : List ℕ) → Counts was numbers → Counts now (table ++ numbers)) → ((numbers : List ℕ) → Counts was numbers → added + different numbers ≡ different (table ++ numbers)) → n ≡ length counts → slot ≡ get_or slots i slot → next.saved ≡ true → next.table.items ≡ live → Saving pages frames held pool live counts free reserved slots store i added (take n (now ++ drop (length now) counts)) next
-saving pages frames held pool live counts free reserved slots store i added n was table now slot next so seen there empty room first second size counting rising whole is saved same =
-    let inside : i < length slots = subst (λ k. i < k) (length-map slots (slot_space pool)) (subst (λ s. i < length s.slots) (sym seen) there) in
-    let none : slot_space pool slot ≡ None = sym (slot_at-is pages frames pool live slots i slot inside is) ∙ subst (λ s. slot_at s i ≡ None) (sym seen) empty in
-    let before : Counts was (table_numbers slots) = subst (λ xs. Counts xs (table_numbers slots)) (sym first) so.counted in
-    let e : take n (now ++ drop (length now) counts) ≡ now = refill n counts now (size ∙ ap length first ∙ sym whole) in
-    record {
-      so = so;
-      seen = seen;
-      size = ap length e ∙ size ∙ ap length first;
-      counted = subst (λ xs. Counts xs (live ++ table_numbers slots)) (sym e) (subst (λ xs. Counts now (xs ++ table_numbers slots)) second (counting (table_numbers slots) before));
-      rise = rising (table_numbers slots) before ∙ ap (λ xs. different (xs ++ table_numbers slots)) second;
-      less = inside;
-      slot = slot;
-      is = is;
-      unsaved = none_unsaved slot.saved (space_of pool slot.table.items) none;
-      saved = saved;
-      table = same;
-      room = subst (λ s. used_of s + s.pages ≤ s.frames) (sym seen) room;
-    }
-
-pub saving_sound : (pages frames held : ℕ) (pool live counts free : List ℕ) (reserved : ℕ) (slots : List Slot) (store : Pages) (i added : ℕ) (after : List ℕ) (next : Slot) → Saving pages frames held pool live counts free reserved slots store i added after next → IsSound pages frames (held + added) pool live after free reserved (set slots i next)
-saving_sound pages frames held pool live counts free reserved slots store i added after next s =
-    save_sound pages frames held added pool live counts after free reserved slots i s.slot next s.so s.size s.counted s.rise s.less s.is s.unsaved s.saved s.table s.room
-
-pub saving_view : (pages frames held : ℕ) (pool live counts free : List ℕ) (reserved : ℕ) (slots : List Slot) (store : Pages) (i added : ℕ) (after : List ℕ) (next : Slot) → Saving pages frames held pool live counts free reserved slots store i added after next → pages_of pages frames pool live (set slots i next) ≡ record { pages = store.pages; frames = store.frames; live = store.live; slots = set store.slots i (Some store.live) }
-saving_view pages frames held pool live counts free reserved slots store i added after next s =
-    slots_set pages frames pool live slots i next (Some (space_of pool live)) (saved_space pool live next s.saved s.table)
-    ∙ ap (λ v. record { pages = v.pages; frames = v.frames; live = v.live; slots = set v.slots i (Some v.live) }) s.seen
-
-pub saving_used : (pages frames held : ℕ) (pool live counts free : List ℕ) (reserved : ℕ) (slots : List Slot) (store : Pages) (i added : ℕ) (after : List ℕ) (next : Slot) → Saving pages frames held pool live counts free reserved slots store i added after next → used_of (pages_of pages frames pool live (set slots i next)) ≡ used_of store
-saving_used pages frames held pool live counts free reserved slots store i added after next s =
-    omega (arith, used-sum pages frames held pool live counts free reserved slots s.so, used-sum pages frames (held + added) pool live after free reserved (set slots i next) (saving_sound pages frames held pool live counts free reserved slots store i added after next s), ap used_of s.seen)
-
-pub saving_held : (pages frames held : ℕ) (pool live counts free : List ℕ) (reserved : ℕ) (slots : List Slot) (store : Pages) (i added : ℕ) (after : List ℕ) (next : Slot) → Saving pages frames held pool live counts free reserved slots store i added after next → held_of (pages_of pages frames pool live (set slots i next)) ≡ used_of store
-saving_held pages frames held pool live counts free reserved slots store i added after next s =
-    let used : used_of (pages_of pages frames pool live slots) ≡ different (live ++ table_numbers slots) = ap (λ xs. different (live ++ xs)) (saved_numbers-is pool slots) in
-    sym (held-is pages frames (held + added) pool live after free reserved (set slots i next) (saving_sound pages frames held pool live counts free reserved slots store i added after next s))
-    ∙ ap (λ n. n + added) s.so.held_count ∙ omega (arith, s.rise) ∙ sym used ∙ ap used_of s.seen
-
-pub saving_lawful : (pages frames held : ℕ) (pool live counts free : List ℕ) (reserved : ℕ) (slots : List Slot) (store : Pages) (i added : ℕ) (after : List ℕ) (next : Slot) → Saving pages frames held pool live counts free reserved slots store i added after next → IsLawful (pages_of pages frames pool live (set slots i next))
-saving_lawful pages frames held pool live counts free reserved slots store i added after next s =
-    lawful pages frames (held + added) pool live after free reserved (set slots i next) _ (saving_sound pages frames held pool live counts free reserved slots store i added after next s) refl
-
--- there is room in the counts for the live table
-pub saving_few : (pages frames held : ℕ) (pool live counts free : List ℕ) (reserved : ℕ) (slots : List Slot) (was table : List ℕ) → IsSound pages frames held pool live counts free reserved slots → was ≡ counts → table ≡ live → (n : ℕ) → get_or was n 0 + places n table < 256
-saving_few pages frames held pool live counts free reserved slots was table so first second n =
-    subst (λ xs. get_or xs n 0 + places n table < 256) (sym first) (subst (λ xs. get_or counts n 0 + places n xs < 256) (sym second) (save_few pages frames held pool live counts free reserved slots so n))
+-- what counting the live table asks
+pub saving_fits : {parts : Parts} {was table : List ℕ} → IsSound parts → was ≡ parts.counts → table ≡ parts.live → CanCount was table
+saving_fits {parts = parts} {was = was} so first second =
+    subst (CanCount was) (sym second) (subst (λ xs. CanCount xs parts.live) (sym first) record {
+      below = λ k less. omega (arith, so.tables.live_table.below k (omega (arith, so.tables.live_table.size)), so.tables.homes_size, so.accounts.counts_size);
+      numbers = table_numbers parts.slots;
+      counted = so.accounts.counted;
+      few = λ n. omega (arith, slots_few so n, places-le-one n parts.live (table_home so.tables.live_table so.tables.live_table));
+    })
 
 -- the sum of the held frames fits
-pub saving_fits : (pages frames held : ℕ) (pool live counts free : List ℕ) (reserved : ℕ) (slots : List Slot) (added : ℕ) (was table : List ℕ) → IsSound pages frames held pool live counts free reserved slots → was ≡ counts → table ≡ live → ((numbers : List ℕ) → Counts was numbers → added + different numbers ≡ different (table ++ numbers)) → held + added < 2 ^ 32
-saving_fits pages frames held pool live counts free reserved slots added was table so first second rising =
-    let before : Counts was (table_numbers slots) = subst (λ xs. Counts xs (table_numbers slots)) (sym first) so.counted in
-    let rise : added + different (table_numbers slots) ≡ different (live ++ table_numbers slots) = rising (table_numbers slots) before ∙ ap (λ xs. different (xs ++ table_numbers slots)) second in
-    omega (arith, save_fits pages frames held added pool live counts free reserved slots so rise, so.enough, so.few)
+pub saving_sum : {parts : Parts} {was table now : List ℕ} {added : ℕ} → IsSound parts → was ≡ parts.counts → table ≡ parts.live → Recounts was [] now table added 0 → parts.held + added ≤ parts.frames
+saving_sum {parts = parts} so first second walk =
+    omega (arith, walk.turn (table_numbers parts.slots) (subst (λ xs. Counts xs (table_numbers parts.slots)) (sym first) so.accounts.counted), ap (λ xs. different (xs ++ table_numbers parts.slots)) second, so.accounts.held_count, used-is parts, used-sum so)
 
--- what `release` is called with, and what its parts say
-pub record Releasing (pages frames held : ℕ) (pool live counts free : List ℕ) (reserved : ℕ) (slots : List Slot) (store : Pages) (i removed : ℕ) (after left : List ℕ) (reserve : ℕ) (next : Slot) : Type 0 where
-  pub so : IsSound pages frames held pool live counts free reserved slots
-  pub seen : pages_of pages frames pool live slots ≡ store
-  pub size : length after ≡ length counts
-  pub counted : Counts after (table_numbers (set slots i next))
-  pub table : List ℕ
-  pub fall : removed + different (table_numbers (set slots i next)) ≡ different (table ++ table_numbers (set slots i next))
-  pub was : held ≡ different (table ++ table_numbers (set slots i next))
-  pub unsaved : next.saved ≡ false
-  pub many : length next.table.items ≡ pages
-  pub stack : IsStack after live left
-  pub room : reserve ≡ reserved
+-- the live table in a slot
+live_slot : {parts : Parts} (next : Slot) (so : IsSound parts) → next.table.items ≡ parts.live → IsSlot parts.pages so.tables.homes next
+live_slot {parts = parts} next so table = record { size = ap length table ∙ so.tables.live_table.size; table = λ _. subst (IsTable parts.pages so.tables.homes) (sym table) so.tables.live_table }
 
-pub releasing : (pages frames held : ℕ) (pool live counts free : List ℕ) (reserved : ℕ) (slots : List Slot) (store : Pages) (i removed n reserve : ℕ) (was table line now left : List ℕ) (slot next : Slot) → IsSound pages frames held pool live counts free reserved slots → pages_of pages frames pool live slots ≡ store → IsSome (slot_at store i) → was ≡ counts → table ≡ slot.table.items → line ≡ live → length now ≡ length was → ((numbers : List ℕ) → Counts was (table ++ numbers) → Counts now numbers) → ((numbers : List ℕ) → Counts was (table ++ numbers) → removed + different numbers ≡ different (table ++ numbers)) → IsStack now line left → reserve ≡ reserved → n ≡ length counts → slot ≡ get_or slots i slot → next.saved ≡ false → next.table.items ≡ slot.table.items → Releasing pages frames held pool live counts free reserved slots store i removed (take n (now ++ drop (length now) counts)) left reserve next
-releasing pages frames held pool live counts free reserved slots store i removed n reserve was table line now left slot next so seen some first second third size counting falling stack room whole is unsaved same =
-    let here : IsSome (slot_at (pages_of pages frames pool live slots) i) = subst (λ s. IsSome (slot_at s i)) (sym seen) some in
-    let less : i < length slots = slot_within pages frames pool live slots i here in
-    let saved : slot.saved ≡ true = slot_saved pages frames pool live slots i slot is here in
-    let one : IsSlot pages so.homes slot = slot_table pages so.homes slots i slot so.slot_tables less is in
-    let home : IsTable pages so.homes table = subst (IsTable pages so.homes) (sym second) (one.table saved) in
-    let many : length next.table.items ≡ pages = ap length same ∙ one.size in
-    let all : Counts counts (table ++ table_numbers (set slots i next)) = release_counts pages frames held pool live counts free reserved slots i slot next table so less is saved (sym second) unsaved many home in
-    let before : Counts was (table ++ table_numbers (set slots i next)) = subst (λ xs. Counts xs (table ++ table_numbers (set slots i next))) (sym first) all in
-    let e : take n (now ++ drop (length now) counts) ≡ now = refill n counts now (size ∙ ap length first ∙ sym whole) in
-    record {
-      so = so;
-      seen = seen;
-      size = ap length e ∙ size ∙ ap length first;
-      counted = subst (λ xs. Counts xs (table_numbers (set slots i next))) (sym e) (counting (table_numbers (set slots i next)) before);
-      table = table;
-      fall = falling (table_numbers (set slots i next)) before;
-      was = release_held pages frames held pool live counts free reserved slots i slot next table so less is saved (sym second) unsaved all;
-      unsaved = unsaved;
-      many = many;
-      stack = subst (λ xs. IsStack xs live left) (sym e) (subst (λ xs. IsStack now xs left) third stack);
-      room = room;
-    }
+none_here : {store : Pages} {i : ℕ} {slot : Slot} (parts : Parts) → pages_of parts ≡ store → slot_at store i ≡ None → i < length parts.slots → slot ≡ get_or parts.slots i slot → slot_numbers slot ≡ []
+none_here {i = i} {slot = slot} parts seen empty less is =
+    none_numbers slot.saved slot.table.items (space_of parts.pool slot.table.items) (sym (slot_at-is parts.pool parts.slots i slot less is) ∙ subst (λ s. slot_at s i ≡ None) (sym seen) empty)
 
-pub releasing_sound : (pages frames held : ℕ) (pool live counts free : List ℕ) (reserved : ℕ) (slots : List Slot) (store : Pages) (i removed : ℕ) (after left : List ℕ) (reserve : ℕ) (next : Slot) → Releasing pages frames held pool live counts free reserved slots store i removed after left reserve next → IsSound pages frames (held - removed) pool live after left reserve (set slots i next)
-releasing_sound pages frames held pool live counts free reserved slots store i removed after left reserve next s =
-    release_sound pages frames held removed pool live counts after free left reserved reserve slots i next s.table s.so s.size s.counted s.fall s.was s.unsaved s.many s.stack s.room
+pub saving : {parts : Parts} {store : Pages} {i added n : ℕ} {was table now : List ℕ} {slot : Slot} (next : Slot) → IsSound parts → pages_of parts ≡ store → i < length store.slots → slot_at store i ≡ None → slot ≡ get_or parts.slots i slot → was ≡ parts.counts → length now ≡ length was → n ≡ length parts.counts → table ≡ parts.live → Recounts was [] now table added 0 → next.saved ≡ true → next.table.items ≡ parts.live
+    → Turning parts i added 0 (take n (now ++ drop (length now) parts.counts)) next
+saving {parts = parts} {i = i} next so seen there empty is first size whole second walk saved same =
+    let less : i < length parts.slots = subst (λ k. i < k) (length-map parts.slots (slot_space parts.pool)) (subst (λ s. i < length s.slots) (sym seen) there) in
+    turning next so less is (live_slot next so same) first size whole (sym (none_here parts seen empty less is)) (second ∙ sym (saved_slot next saved ∙ same)) walk
 
-pub releasing_fits : (pages frames held : ℕ) (pool live counts free : List ℕ) (reserved : ℕ) (slots : List Slot) (store : Pages) (i removed : ℕ) (after left : List ℕ) (reserve : ℕ) (next : Slot) → Releasing pages frames held pool live counts free reserved slots store i removed after left reserve next → removed ≤ held
-releasing_fits pages frames held pool live counts free reserved slots store i removed after left reserve next s = omega (arith, s.fall, s.was)
+-- the fields after `save`
+pub saving_sound : {parts : Parts} {store : Pages} {i added : ℕ} {after : List ℕ} {next : Slot} → Turning parts i added 0 after next → slot_numbers next ≡ parts.live → pages_of parts ≡ store → slot_at store i ≡ None → used_of store + store.pages ≤ store.frames
+    → IsSound (record parts { held = parts.held + added; counts = after; slots = set parts.slots i next })
+saving_sound {parts = parts} {i = i} {added = added} {after = after} {next = next} t is seen empty room =
+    turned_sound (parts.held + added) parts.reserved t
+    (stack_same t.so.stack t.size
+    (λ n under.
+    elim (cases_Bool (has n parts.live)) [
+      | inl live ↦ by_live _ _ live ∙ sym (by_live _ _ live)
+      | inr gone ↦
+          (let same : get_or after n 0 ≡ get_or parts.counts n 0 =
+          omega (
+            arith,
+            (turned_counts t).each n,
+            t.so.accounts.counted.each n,
+            slot_in parts.slots i t.slot next t.less t.is n,
+            slot_out parts.slots i t.slot t.less t.is n,
+            ap (places n) is,
+            ap (places n) (none_here parts seen empty t.less t.is),
+            places-none n parts.live gone,
+            places-append n (slot_numbers next) (others parts.slots i t.slot),
+            places-append n (slot_numbers t.slot) (others parts.slots i t.slot),
+          ) in
+          ap (λ m. nat_lt 0 m || has n parts.live) same)
+    ]))
+    refl (omega arith) (omega (arith, turned_held t, live_room t is seen room))
 
-pub releasing_view : (pages frames held : ℕ) (pool live counts free : List ℕ) (reserved : ℕ) (slots : List Slot) (store : Pages) (i removed : ℕ) (after left : List ℕ) (reserve : ℕ) (next : Slot) → Releasing pages frames held pool live counts free reserved slots store i removed after left reserve next → pages_of pages frames pool live (set slots i next) ≡ record { pages = store.pages; frames = store.frames; live = store.live; slots = set store.slots i None }
-releasing_view pages frames held pool live counts free reserved slots store i removed after left reserve next s =
-    slots_set pages frames pool live slots i next None (unsaved_space pool next s.unsaved)
-    ∙ ap (λ v. record { pages = v.pages; frames = v.frames; live = v.live; slots = set v.slots i None }) s.seen
+-- what is used stays, since no frame is taken or given back
+pub saving_used : {parts : Parts} {store : Pages} {held : ℕ} {after : List ℕ} (i : ℕ) (next : Slot) → IsSound parts → IsSound (record parts { held = held; counts = after; slots = set parts.slots i next }) → pages_of parts ≡ store → used_of (pages_of (record parts { slots = set parts.slots i next })) ≡ used_of store
+saving_used i next so new seen = omega (arith, used-sum so, used-sum new, ap used_of seen)
 
-pub releasing_lawful : (pages frames held : ℕ) (pool live counts free : List ℕ) (reserved : ℕ) (slots : List Slot) (store : Pages) (i removed : ℕ) (after left : List ℕ) (reserve : ℕ) (next : Slot) → Releasing pages frames held pool live counts free reserved slots store i removed after left reserve next → IsLawful (pages_of pages frames pool live (set slots i next))
-releasing_lawful pages frames held pool live counts free reserved slots store i removed after left reserve next s =
-    lawful pages frames (held - removed) pool live after left reserve (set slots i next) _ (releasing_sound pages frames held pool live counts free reserved slots store i removed after left reserve next s) refl
+-- the live table and the free frames fit the counts
+abbrev live_gives : {parts : Parts} → IsSound parts → CanGiveUp parts.counts parts.live parts.free
+live_gives {parts = parts} so = record {
+  homes = so.tables.homes;
+  many = so.tables.homes_size ∙ sym so.accounts.counts_size;
+  live_is = subst (λ n. IsTable n so.tables.homes parts.live) (sym so.tables.live_table.size) so.tables.live_table;
+  stack = so.stack;
+}
 
--- what `release` asks of its walk
-pub releasing_counted : (pages frames held : ℕ) (pool live counts free : List ℕ) (reserved : ℕ) (slots : List Slot) (store : Pages) (i : ℕ) (was table : List ℕ) (slot : Slot) → IsSound pages frames held pool live counts free reserved slots → pages_of pages frames pool live slots ≡ store → IsSome (slot_at store i) → was ≡ counts → table ≡ slot.table.items → slot ≡ get_or slots i slot → (n : ℕ) → n < length was → places n table ≤ get_or was n 0
-releasing_counted pages frames held pool live counts free reserved slots store i was table slot so seen some first second is n under =
-    let here : IsSome (slot_at (pages_of pages frames pool live slots) i) = subst (λ s. IsSome (slot_at s i)) (sym seen) some in
-    let less : i < length slots = slot_within pages frames pool live slots i here in
-    let saved : slot.saved ≡ true = slot_saved pages frames pool live slots i slot is here in
-    subst (λ xs. places n table ≤ get_or xs n 0) (sym first) (subst (λ xs. places n xs ≤ get_or counts n 0) (sym second)
-    (slot_counted pages frames held pool live counts free reserved slots i slot so less is saved n (subst (λ xs. n < length xs) first under)))
+-- the table of a saved slot is counted, beside those of the others
+abbrev counted_slot : {parts : Parts} {i : ℕ} {slot : Slot} (so : IsSound parts) → HasSlot parts i slot → CanUncount parts.counts slot.table.items parts.live parts.free
+counted_slot {parts = parts} {i = i} {slot = slot} so at = record {
+  gives = live_gives so;
+  table_is = subst (λ n. IsTable n so.tables.homes slot.table.items) (sym so.tables.live_table.size) ((slot_is so at).table at.saved);
+  numbers = others parts.slots i slot;
+  counted = counts_alike so.accounts.counted (λ n. slot_out parts.slots i slot at.less at.is n ∙ ap (λ xs. places n (xs ++ others parts.slots i slot)) (saved_slot slot at.saved));
+}
 
-pub releasing_home : (pages frames held : ℕ) (pool live counts free : List ℕ) (reserved : ℕ) (slots : List Slot) (store : Pages) (i : ℕ) (table line : List ℕ) (slot : Slot) → IsSound pages frames held pool live counts free reserved slots → pages_of pages frames pool live slots ≡ store → IsSome (slot_at store i) → table ≡ slot.table.items → line ≡ live → slot ≡ get_or slots i slot → (k j : ℕ) → k < length table → j < length line → get_or table k 0 ≡ get_or line j 0 → k ≡ j
-releasing_home pages frames held pool live counts free reserved slots store i table line slot so seen some second third is =
-    let here : IsSome (slot_at (pages_of pages frames pool live slots) i) = subst (λ s. IsSome (slot_at s i)) (sym seen) some in
-    let less : i < length slots = slot_within pages frames pool live slots i here in
-    let saved : slot.saved ≡ true = slot_saved pages frames pool live slots i slot is here in
-    let one : IsSlot pages so.homes slot = slot_table pages so.homes slots i slot so.slot_tables less is in
-    table_home pages so.homes table line (subst (IsTable pages so.homes) (sym second) (one.table saved)) (subst (IsTable pages so.homes) (sym third) so.live_table)
+-- what the walks of `release`, `save_over` and `restore` ask
+pub releasing_fits : {parts : Parts} {i : ℕ} {was table line : List ℕ} {slot : Slot} → IsSound parts → HasSlot parts i slot → was ≡ parts.counts → table ≡ slot.table.items → line ≡ parts.live → CanUncount was table line parts.free
+releasing_fits so at first second third = rw (first, second, third) (counted_slot so at)
+
+pub over_fits : {parts : Parts} {i : ℕ} {was table line : List ℕ} {slot : Slot} → IsSound parts → HasSlot parts i slot → was ≡ parts.counts → table ≡ slot.table.items → line ≡ parts.live → IsRenewed was table line parts.free
+over_fits {parts = parts} {i = i} {slot = slot} so at first second third = rw (first, second, third) record {
+  fits = counted_slot so at;
+  few = λ n. omega (arith, slots_few so n, slot_out parts.slots i slot at.less at.is n, places-append n (slot_numbers slot) (others parts.slots i slot));
+}
+
+pub restoring_fits : {parts : Parts} {was line : List ℕ} → IsSound parts → was ≡ parts.counts → line ≡ parts.live → CanGiveUp was line parts.free
+restoring_fits so first second = rw (first, second) (live_gives so)
+
+pub releasing : {parts : Parts} {i removed n : ℕ} {was table now : List ℕ} {slot : Slot} → IsSound parts → HasSlot parts i slot → was ≡ parts.counts → length now ≡ length was → n ≡ length parts.counts → table ≡ slot.table.items → Recounts was table now [] 0 removed → Turning parts i 0 removed (take n (now ++ drop (length now) parts.counts)) (emptied slot)
+releasing {slot = slot} so at first size whole second walk =
+    turning (emptied slot) so at.less at.is record { size = (slot_is so at).size; table = λ saved. absurd (false≢true saved) } first size whole (second ∙ sym (saved_slot slot at.saved)) refl walk
+
+pub saving_over : {parts : Parts} {i added removed n : ℕ} {was table now line : List ℕ} {slot : Slot} (next : Slot) → IsSound parts → HasSlot parts i slot → was ≡ parts.counts → length now ≡ length was → n ≡ length parts.counts → table ≡ slot.table.items → line ≡ parts.live → Recounts was table now line added removed → next.saved ≡ slot.saved → next.table.items ≡ parts.live
+    → Turning parts i added removed (take n (now ++ drop (length now) parts.counts)) next
+saving_over {slot = slot} next so at first size whole second third walk like same =
+    turning next so at.less at.is (live_slot next so same) first size whole (second ∙ sym (saved_slot slot at.saved)) (third ∙ sym (saved_slot next (like ∙ at.saved) ∙ same)) walk
+
+-- the stack that a walk leaves
+pub refilled_stack : {parts : Parts} {n : ℕ} {was now line left : List ℕ} → IsSound parts → was ≡ parts.counts → length now ≡ length was → n ≡ length parts.counts → line ≡ parts.live → IsStack now line left → IsStack (take n (now ++ drop (length now) parts.counts)) parts.live left
+refilled_stack {parts = parts} {n = n} {now = now} {left = left} so first size whole third stack =
+    subst (λ xs. IsStack xs parts.live left) (sym (refill n parts.counts now (size ∙ ap length first ∙ sym whole))) (subst (λ xs. IsStack now xs left) third stack)
+
+-- the fields after `release`, and after `save_over`
+pub releasing_sound : {parts : Parts} {i removed reserve : ℕ} {after left : List ℕ} {next : Slot} → Turning parts i 0 removed after next → IsStack after parts.live left → reserve ≡ parts.reserved
+    → IsSound (record parts { held = parts.held - removed; counts = after; free = left; reserved = reserve; slots = set parts.slots i next })
+releasing_sound {parts = parts} {removed = removed} {reserve = reserve} t stack same = turned_sound (parts.held - removed) reserve t stack same (omega (arith, turned_held t)) (omega (arith, t.so.accounts.room))
+
+pub over_sound : {parts : Parts} {store : Pages} {i added removed reserve : ℕ} {after left : List ℕ} {next : Slot} → Turning parts i added removed after next → slot_numbers next ≡ parts.live → IsStack after parts.live left → reserve ≡ parts.reserved → pages_of parts ≡ store → used_of store + store.pages ≤ store.frames
+    → IsSound (record parts { held = parts.held + added - removed; counts = after; free = left; reserved = reserve; slots = set parts.slots i next })
+over_sound {parts = parts} {added = added} {removed = removed} {reserve = reserve} t is stack same seen room =
+    turned_sound (parts.held + added - removed) reserve t stack same (omega (arith, turned_held t)) (omega (arith, turned_held t, live_room t is seen room))
+
+-- a slot that holds the live space
+pub live_space : {parts : Parts} {store : Pages} (next : Slot) → IsSound parts → next.saved ≡ true → next.table.items ≡ parts.live → pages_of parts ≡ store → slot_space parts.pool next ≡ Some store.live
+live_space {parts = parts} next so saved table seen =
+    ap (λ b. cond b (Some (space_of parts.pool next.table.items)) None) saved ∙ ap (λ xs. Some (space_of parts.pool xs)) table ∙ ap (λ (s : Pages). Some s.live) seen
 
 -- the fields after `restore`
-pub restoring : (pages frames held : ℕ) (pool live counts free left : List ℕ) (reserved reserve : ℕ) (slots : List Slot) (store : Pages) (i : ℕ) (was written : List ℕ) (slot : Slot) → IsSound pages frames held pool live counts free reserved slots → pages_of pages frames pool live slots ≡ store → IsSome (slot_at store i) → was ≡ counts → slot ≡ get_or slots i slot → written ≡ slot.table.items → ((other : List ℕ) → ((k : ℕ) → k < length other → 0 < get_or was (get_or other k 0) 0) → IsStack was other left) → reserve ≡ reserved → IsSound pages frames held pool written counts left reserve slots
-restoring pages frames held pool live counts free left reserved reserve slots store i was written slot so seen some first is same giving room =
-    let here : IsSome (slot_at (pages_of pages frames pool live slots) i) = subst (λ s. IsSome (slot_at s i)) (sym seen) some in
-    let less : i < length slots = slot_within pages frames pool live slots i here in
-    let saved : slot.saved ≡ true = slot_saved pages frames pool live slots i slot is here in
-    let stack : IsStack was slot.table.items left = giving slot.table.items (λ k inside. subst (λ xs. 0 < get_or xs (get_or slot.table.items k 0) 0) (sym first) (slot_used pages frames held pool live counts free reserved slots i slot so less is saved k inside)) in
-    restore_sound pages frames held pool live counts free left reserved reserve slots i slot written so less is saved same (subst (λ xs. IsStack counts xs left) (sym same) (subst (λ xs. IsStack xs slot.table.items left) first stack)) room
+pub restoring : {parts : Parts} {i reserve : ℕ} {was written left : List ℕ} {slot : Slot} → IsSound parts → HasSlot parts i slot → was ≡ parts.counts → written ≡ slot.table.items → ((other : List ℕ) → ((k : ℕ) → k < length other → 0 < get_or was (get_or other k 0) 0) → IsStack was other left) → reserve ≡ parts.reserved → IsSound (record parts { live = written; free = left; reserved = reserve })
+restoring {parts = parts} {i = i} {was = was} {written = written} {left = left} {slot = slot} so at first same giving room =
+    let used : (k : ℕ) → k < length slot.table.items → 0 < get_or was (get_or slot.table.items k 0) 0 =
+    λ k inside.
+    let n = get_or slot.table.items k 0 in
+    omega (arith, ap (λ xs. get_or xs n 0) first, so.accounts.counted.each n, slot_out parts.slots i slot at.less at.is n, ap (places n) (saved_slot slot at.saved), places-append n (slot_numbers slot) (others parts.slots i slot), places-some n slot.table.items (has-get_or slot.table.items k inside)) in
+    record {
+      bounds = so.bounds;
+      pool_size = so.pool_size;
+      tables = record { numbered = so.tables.numbered; homes = so.tables.homes; homes_size = so.tables.homes_size; live_table = subst (IsTable parts.pages so.tables.homes) (sym same) ((slot_is so at).table at.saved); slot_tables = so.tables.slot_tables };
+      accounts = so.accounts;
+      reserved_room = omega (arith, so.reserved_room, room);
+      stack = subst (λ xs. IsStack parts.counts xs left) (sym same) (subst (λ xs. IsStack xs slot.table.items left) first (giving slot.table.items used));
+    }

@@ -1,8 +1,9 @@
 -- What the fields of a store say of what it holds.
-use Rattle.cow_pages.proofs.Terms.{All, Bool, IsSome, List, None, Some, [], ap, arith, cond, drop, false, get_or, inl, inr, length, map, nat_lt, refl, subst, suc, sym, take, true, zero, ℕ, ◌%◌, ◌*◌, ◌++◌, ◌+◌, ◌/◌, ◌<◌, ◌||◌, ◌∙◌, ◌∷◌, ◌≡◌, ◌≤◌, cases_lt, false≢true, get_or-map, get_or_past, get_or_read, length-map, All-head, All-tail, cond_some, PAGE, Slot, Agree, IsLawful, IsSpace, Pages, Space, Stands, different, has, held_of, page_of, saved_numbers, slot_at, used_of, is_shared, Counts, IsSlot, IsSound, IsTable, pages_of, slot_space, space_of, table_numbers}
-use Rattle.cow_pages.proofs.Counting.{AreBelow, has-append, has-is, length-free}
-use Rattle.cow_pages.proofs.Walks.{below_append, in_use}
-use Rattle.cow_pages.proofs.Frames.{IsOnce, length-contents, run-contents}
+use Rattle.std.proofs.Math.Bool.{or_comm}
+use Rattle.cow_pages.proofs.Terms.{All, Bool, IsSome, List, None, Some, [], ap, arith, cond, drop, false, get_or, inl, inr, length, map, nat_lt, refl, subst, suc, sym, take, true, zero, ℕ, ◌%◌, ◌*◌, ◌++◌, ◌+◌, ◌/◌, ◌<◌, ◌||◌, ◌∙◌, ◌∷◌, ◌≡◌, ◌≤◌, cases_lt, false≢true, get_or-map, get_or_past, get_or_read, length-map, All-get_or, All-head, All-tail, cond_some, PAGE, MAX_FRAMES_PER_PAGE, MAX_PAGES, Slot, Agree, IsLawful, IsSpace, Pages, Space, Stands, different, has, held_of, page_of, saved_numbers, slot_at, used_of, is_shared, Counts, IsSlot, IsSound, IsTable, Parts, pages_of, slot_space, space_of, table_numbers}
+use Rattle.cow_pages.proofs.Counting.{AreBelow, below_append, has-append, has-get_or, has-is, length-free, places-some}
+use Rattle.cow_pages.proofs.Walks.{counted_below, in_use, table_home}
+use Rattle.cow_pages.proofs.Frames.{length-contents, run-contents}
 
 pub saved_numbers-is : (pool : List ℕ) (slots : List Slot) → saved_numbers (map (slot_space pool) slots) ≡ table_numbers slots
 saved_numbers-is pool [] = refl
@@ -12,130 +13,133 @@ saved_numbers-is pool (slot ∷ slots) =
       | false ↦ saved_numbers-is pool slots
     ]
 
-pub table_below : (pages frames : ℕ) (homes table : List ℕ) → IsTable pages homes table → length homes ≡ frames → AreBelow frames table
-table_below pages frames homes table so size = λ k less. subst (λ n. get_or table k 0 < n) size (so.below k (omega (arith, so.size)))
+-- the counts of used and held frames
+pub used-is : (parts : Parts) → used_of (pages_of parts) ≡ different (parts.live ++ table_numbers parts.slots)
+used-is parts = ap (λ xs. different (parts.live ++ xs)) (saved_numbers-is parts.pool parts.slots)
 
--- a frame has one place in all tables
-pub table_home : (pages : ℕ) (homes table other : List ℕ) → IsTable pages homes table → IsTable pages homes other → (k j : ℕ) → k < length table → j < length other → get_or table k 0 ≡ get_or other j 0 → k ≡ j
-table_home pages homes table other so too k j lk lj e =
-    sym (so.home k (omega (arith, so.size))) ∙ ap (λ n. get_or homes n 0) e ∙ too.home j (omega (arith, too.size))
+pub held-is : {parts : Parts} → IsSound parts → parts.held ≡ held_of (pages_of parts)
+held-is {parts = parts} so = so.accounts.held_count ∙ ap different (sym (saved_numbers-is parts.pool parts.slots))
 
-pub table_once : (pages : ℕ) (homes table : List ℕ) → IsTable pages homes table → IsOnce table
-table_once pages homes table so = table_home pages homes table table so so
+pub table_below : {pages frames : ℕ} {homes table : List ℕ} → IsTable pages homes table → length homes ≡ frames → AreBelow frames table
+table_below so size k less = omega (arith, so.below k (omega (arith, so.size)), size)
 
--- what a slot is seen as
-pub slot_at-is : (pages frames : ℕ) (pool live : List ℕ) (slots : List Slot) (i : ℕ) (slot : Slot) → i < length slots → slot ≡ get_or slots i slot → slot_at (pages_of pages frames pool live slots) i ≡ slot_space pool slot
-slot_at-is pages frames pool live slots i slot less is = get_or-map (slot_space pool) slots i slot None less ∙ ap (slot_space pool) (sym is)
+pub live_below : {parts : Parts} → IsSound parts → AreBelow parts.frames parts.live
+live_below so = table_below so.tables.live_table so.tables.homes_size
 
-pub slot_within : (pages frames : ℕ) (pool live : List ℕ) (slots : List Slot) (i : ℕ) → IsSome (slot_at (pages_of pages frames pool live slots) i) → i < length slots
-slot_within pages frames pool live slots i some =
-    elim (cases_lt i (length slots)) [
-      | inl less ↦ less
-      | inr past ↦ absurd (false≢true (subst IsSome (get_or_past (map (slot_space pool) slots) i None (omega (arith, length-map slots (slot_space pool)))) some))
-    ]
+-- a saved slot at a place of the tables
+pub record HasSlot (parts : Parts) (i : ℕ) (slot : Slot) : Type 0 where
+  pub less : i < length parts.slots
+  pub is : slot ≡ get_or parts.slots i slot
+  pub saved : slot.saved ≡ true
 
 some_saved : (b : Bool) (space : Space) → IsSome (cond b (Some space) None) → b ≡ true
 some_saved true space h = refl
 some_saved false space h = absurd (false≢true h)
 
-pub slot_saved : (pages frames : ℕ) (pool live : List ℕ) (slots : List Slot) (i : ℕ) (slot : Slot) → slot ≡ get_or slots i slot → IsSome (slot_at (pages_of pages frames pool live slots) i) → slot.saved ≡ true
-slot_saved pages frames pool live slots i slot is some =
-    some_saved slot.saved (space_of pool slot.table.items)
-    (subst IsSome (slot_at-is pages frames pool live slots i slot (slot_within pages frames pool live slots i some) is) some)
+pub slot_within : (pool : List ℕ) (slots : List Slot) (i : ℕ) → IsSome (get_or (map (slot_space pool) slots) i None) → i < length slots
+slot_within pool slots i some =
+    elim (cases_lt i (length slots)) [
+      | inl less ↦ less
+      | inr past ↦ absurd (false≢true (subst IsSome (get_or_past (map (slot_space pool) slots) i None (omega (arith, length-map slots (slot_space pool)))) some))
+    ]
+
+-- what a slot is seen as
+pub slot_at-is : (pool : List ℕ) (slots : List Slot) (i : ℕ) (slot : Slot) → i < length slots → slot ≡ get_or slots i slot → get_or (map (slot_space pool) slots) i None ≡ slot_space pool slot
+slot_at-is pool slots i slot less is = get_or-map (slot_space pool) slots i slot None less ∙ ap (slot_space pool) (sym is)
+
+pub slot_here : {parts : Parts} {store : Pages} {i : ℕ} {slot : Slot} → IsSound parts → pages_of parts ≡ store → IsSome (slot_at store i) → slot ≡ get_or parts.slots i slot → HasSlot parts i slot
+slot_here {parts = parts} {i = i} {slot = slot} so seen some is =
+    let here : IsSome (slot_at (pages_of parts) i) = subst (λ s. IsSome (slot_at s i)) (sym seen) some in
+    let less : i < length parts.slots = slot_within parts.pool parts.slots i here in
+    record { less = less; is = is; saved = some_saved slot.saved (space_of parts.pool slot.table.items) (subst IsSome (slot_at-is parts.pool parts.slots i slot less is) here) }
+
+pub slot_is : {parts : Parts} {i : ℕ} {slot : Slot} (so : IsSound parts) → HasSlot parts i slot → IsSlot parts.pages so.tables.homes slot
+slot_is {parts = parts} {i = i} {slot = slot} so at = subst (IsSlot parts.pages so.tables.homes) (sym at.is) (All-get_or (IsSlot parts.pages so.tables.homes) parts.slots i slot at.less so.tables.slot_tables)
 
 table_found : (pages : ℕ) (pool homes : List ℕ) (space : Space) (slots : List Slot) (i : ℕ) → i < length slots → get_or (map (slot_space pool) slots) i None ≡ Some space → All (IsSlot pages homes) slots → (table : List ℕ) × (IsTable pages homes table) × (space ≡ space_of pool table)
 table_found pages pool homes space [] i less e all = absurd (omega arith)
 table_found pages pool homes space (slot ∷ slots) zero less e all =
     let h = cond_some slot.saved (space_of pool slot.table.items) space e in
-    let one : IsSlot pages homes slot = All-head (IsSlot pages homes) slot slots all in
-    (slot.table.items, one.table h.0, sym h.1)
+    (slot.table.items, (All-head (IsSlot pages homes) slot slots all).table h.0, sym h.1)
 table_found pages pool homes space (slot ∷ slots) (suc i) less e all = table_found pages pool homes space slots i (omega arith) e (All-tail (IsSlot pages homes) slot slots all)
 
 -- the table in which a space stands
-table_of : (pages frames held : ℕ) (pool live counts free : List ℕ) (reserved : ℕ) (slots : List Slot) (so : IsSound pages frames held pool live counts free reserved slots) (space : Space) → Stands (pages_of pages frames pool live slots) space → (table : List ℕ) × (IsTable pages so.homes table) × (space ≡ space_of pool table)
-table_of pages frames held pool live counts free reserved slots so space stands =
+table_of : {parts : Parts} (so : IsSound parts) (space : Space) → Stands (pages_of parts) space → (table : List ℕ) × (IsTable parts.pages so.tables.homes table) × (space ≡ space_of parts.pool table)
+table_of {parts = parts} so space stands =
     elim stands [
-      | inl is ↦ (live, so.live_table, is)
-      | inr there ↦
-          (let i = there.0 in
-          let some : IsSome (slot_at (pages_of pages frames pool live slots) i) = subst IsSome (sym there.1) refl in
-          let less : i < length slots = slot_within pages frames pool live slots i some in
-          table_found pages pool so.homes space slots i less there.1 so.slot_tables)
+      | inl is ↦ (parts.live, so.tables.live_table, is)
+      | inr there ↦ table_found parts.pages parts.pool so.tables.homes space parts.slots there.0 (slot_within parts.pool parts.slots there.0 (subst IsSome (sym there.1) refl)) there.1 so.tables.slot_tables
     ]
-
-space_is : (pages frames : ℕ) (pool homes table : List ℕ) → length pool ≡ PAGE * frames → length homes ≡ frames → IsTable pages homes table → IsSpace pages frames (space_of pool table)
-space_is pages frames pool homes table size many so = record {
-  numbers = so.size;
-  below = λ page less. subst (λ n. get_or table page 0 < n) many (so.below page less);
-  bytes = length-contents frames pool table size (table_below pages frames homes table so many) ∙ ap (λ n. PAGE * n) so.size;
-}
 
 page_is : (pages frames : ℕ) (pool homes table : List ℕ) (page : ℕ) → length pool ≡ PAGE * frames → length homes ≡ frames → IsTable pages homes table → page < length table → page_of (space_of pool table) page ≡ take PAGE (drop (PAGE * get_or table page 0 + 0) pool)
 page_is pages frames pool homes table page size many so less =
     let here : PAGE * page / PAGE ≡ page = omega arith in
     let start : PAGE * page % PAGE ≡ 0 = omega arith in
-    run-contents frames pool table (PAGE * page) PAGE size (table_below pages frames homes table so many) (omega arith) (omega arith)
+    run-contents frames pool table (PAGE * page) PAGE size (table_below so many) (omega arith) (omega arith)
     ∙ ap (λ p. take PAGE (drop (PAGE * get_or table p 0 + PAGE * page % PAGE) pool)) here
     ∙ ap (λ n. take PAGE (drop (PAGE * get_or table page 0 + n) pool)) start
 
 agree_is : (pages frames : ℕ) (pool homes table other : List ℕ) → length pool ≡ PAGE * frames → length homes ≡ frames → IsTable pages homes table → IsTable pages homes other → Agree (space_of pool table) (space_of pool other)
 agree_is pages frames pool homes table other size many so too = λ page place lp lq e. (
-  table_home pages homes table other so too page place lp lq e,
-  page_is pages frames pool homes table page size many so lp
-      ∙ ap (λ n. take PAGE (drop (PAGE * n + 0) pool)) e
-      ∙ sym (page_is pages frames pool homes other place size many too lq),
+  table_home so too page place lp lq e,
+  page_is pages frames pool homes table page size many so lp ∙ ap (λ n. take PAGE (drop (PAGE * n + 0) pool)) e ∙ sym (page_is pages frames pool homes other place size many too lq),
 )
 
--- the counts of held and used frames
-pub held-is : (pages frames held : ℕ) (pool live counts free : List ℕ) (reserved : ℕ) (slots : List Slot) → IsSound pages frames held pool live counts free reserved slots → held ≡ held_of (pages_of pages frames pool live slots)
-held-is pages frames held pool live counts free reserved slots so = so.held_count ∙ ap different (sym (saved_numbers-is pool slots))
+pub use-has : {counts numbers : List ℕ} (live : List ℕ) (n : ℕ) → Counts counts numbers → in_use counts live n ≡ has n (live ++ numbers)
+use-has {numbers = numbers} live n so =
+    ap (λ b. b || has n live) (ap (nat_lt 0) (so.each n) ∙ sym (has-is n numbers)) ∙ or_comm (has n numbers) (has n live) ∙ sym (has-append n live numbers)
 
-or_comm : (a b : Bool) → (a || b) ≡ (b || a)
-or_comm true true = refl
-or_comm true false = refl
-or_comm false true = refl
-or_comm false false = refl
+counts_below : {counts numbers : List ℕ} → Counts counts numbers → AreBelow (length counts) numbers
+counts_below {counts = counts} {numbers = numbers} so k less = counted_below counts (get_or numbers k 0) (omega (arith, so.each (get_or numbers k 0), places-some (get_or numbers k 0) numbers (has-get_or numbers k less)))
 
-pub use-has : (live counts free : List ℕ) (frames : ℕ) (slots : List Slot) (n : ℕ) → Counts counts (table_numbers slots) → n < length counts → in_use counts live n ≡ has n (live ++ table_numbers slots)
-use-has live counts free frames slots n so less =
-    let a : nat_lt 0 (get_or counts n 0) ≡ has n (table_numbers slots) = ap (nat_lt 0) (so.each n less) ∙ sym (has-is n (table_numbers slots)) in
-    ap (λ b. b || has n live) a ∙ or_comm (has n (table_numbers slots)) (has n live) ∙ sym (has-append n live (table_numbers slots))
-
-pub used-sum : (pages frames held : ℕ) (pool live counts free : List ℕ) (reserved : ℕ) (slots : List Slot) → IsSound pages frames held pool live counts free reserved slots → length free + used_of (pages_of pages frames pool live slots) ≡ frames
-used-sum pages frames held pool live counts free reserved slots so =
-    subst (λ xs. length free + different (live ++ xs) ≡ frames) (sym (saved_numbers-is pool slots))
-    (length-free frames free (live ++ table_numbers slots)
-    (subst (λ n. AreBelow n free) so.counts_size so.stack.below)
-    (below_append frames live (table_numbers slots) (table_below pages frames so.homes live so.live_table so.homes_size) (subst (λ n. AreBelow n (table_numbers slots)) so.counts_size so.counted.below))
-    (λ n less.
-    let near : n < length counts = omega (arith, so.counts_size) in
-    so.stack.each n near ∙ ap (λ b. cond b 0 1) (use-has live counts free frames slots n so.counted near)))
+pub used-sum : {parts : Parts} → IsSound parts → length parts.free + used_of (pages_of parts) ≡ parts.frames
+used-sum {parts = parts} so =
+    let each : (n : ℕ) → n < parts.frames → _ = λ n less. so.stack.each n (omega (arith, so.accounts.counts_size)) ∙ ap (λ b. cond b 0 1) (use-has parts.live n so.accounts.counted) in
+    omega (
+      arith,
+      used-is parts,
+      length-free parts.frames parts.free (parts.live ++ table_numbers parts.slots) (subst (λ n. AreBelow n parts.free) so.accounts.counts_size so.stack.below)
+          (below_append parts.frames parts.live (table_numbers parts.slots) (live_below so) (subst (λ n. AreBelow n (table_numbers parts.slots)) so.accounts.counts_size (counts_below so.accounts.counted))) each,
+    )
 
 -- what holds of every store
-pub lawful : (pages frames held : ℕ) (pool live counts free : List ℕ) (reserved : ℕ) (slots : List Slot) (store : Pages) → IsSound pages frames held pool live counts free reserved slots → pages_of pages frames pool live slots ≡ store → IsLawful store
-lawful pages frames held pool live counts free reserved slots store so is =
+pub lawful : {parts : Parts} {store : Pages} → IsSound parts → pages_of parts ≡ store → IsLawful store
+lawful {parts = parts} so is =
     subst IsLawful is record {
-      few = so.few.1;
-      enough = so.enough.1;
-      used = omega (arith, used-sum pages frames held pool live counts free reserved slots so);
-      room = subst (λ xs. different xs + pages ≤ frames) (sym (saved_numbers-is pool slots)) (subst (λ n. n + pages ≤ frames) so.held_count so.room);
+      few = so.bounds.few.1;
+      enough = so.bounds.enough.1;
+      used = omega (arith, used-sum so);
+      room = omega (arith, held-is so, so.accounts.room);
       spaces = λ space stands.
-          let found = table_of pages frames held pool live counts free reserved slots so space stands in
-          subst (IsSpace pages frames) (sym found.2) (space_is pages frames pool so.homes found.0 so.pool_size so.homes_size found.1);
+          let found = table_of so space stands in
+          subst (IsSpace parts.pages parts.frames) (sym found.2) record {
+            numbers = found.1.size;
+            below = λ page less. omega (arith, found.1.below page less, so.tables.homes_size);
+            bytes = length-contents parts.frames parts.pool found.0 so.pool_size (table_below found.1 so.tables.homes_size) ∙ ap (λ n. PAGE * n) found.1.size;
+          };
       agree = λ one other stands too.
-          let first = table_of pages frames held pool live counts free reserved slots so one stands in
-          let second = table_of pages frames held pool live counts free reserved slots so other too in
-          subst (λ s. Agree s other) (sym first.2) (subst (Agree (space_of pool first.0)) (sym second.2) (agree_is pages frames pool so.homes first.0 second.0 so.pool_size so.homes_size first.1 second.1));
+          let first = table_of so one stands in
+          let second = table_of so other too in
+          subst (λ s. Agree s other) (sym first.2) (subst (Agree (space_of parts.pool first.0)) (sym second.2) (agree_is parts.pages parts.frames parts.pool so.tables.homes first.0 second.0 so.pool_size so.tables.homes_size first.1 second.1));
     }
 
 -- whether a page is shared is what its count says
-pub shared-is : (pages frames held : ℕ) (pool live counts free : List ℕ) (reserved : ℕ) (slots : List Slot) (page : ℕ) → IsSound pages frames held pool live counts free reserved slots → page < pages → is_shared (pages_of pages frames pool live slots) page ≡ nat_lt 0 (get_or counts (get_or live page 0) 0)
-shared-is pages frames held pool live counts free reserved slots page so less =
-    let n = get_or live page 0 in
-    let near : n < length counts = omega (arith, so.counts_size, so.homes_size, so.live_table.below page less) in
-    ap (has n) (saved_numbers-is pool slots) ∙ has-is n (table_numbers slots) ∙ ap (nat_lt 0) (sym (so.counted.each n near))
+pub shared-is : {parts : Parts} (page : ℕ) → IsSound parts → is_shared (pages_of parts) page ≡ nat_lt 0 (get_or parts.counts (get_or parts.live page 0) 0)
+shared-is {parts = parts} page so =
+    let n = get_or parts.live page 0 in
+    ap (has n) (saved_numbers-is parts.pool parts.slots) ∙ has-is n (table_numbers parts.slots) ∙ ap (nat_lt 0) (sym (so.accounts.counted.each n))
 
--- the count of a page's frame, as it is read
-pub count_read : (counts live : List ℕ) (page frame count : ℕ) → page < length live → frame < length counts → frame ≡ get_or live page frame → count ≡ get_or counts frame count → count ≡ get_or counts (get_or live page 0) 0
-count_read counts live page frame count inside near one other =
-    get_or_read counts frame count near other 0 ∙ ap (λ n. get_or counts n 0) (get_or_read live page frame inside one 0)
+-- the frame of an address's page, as it is read, and whether it is shared
+pub frame_read : {parts : Parts} {store : Pages} {at frame : ℕ} → IsSound parts → pages_of parts ≡ store → at < PAGE * store.pages → frame ≡ get_or parts.live (at / PAGE) frame → (frame ≡ get_or parts.live (at / PAGE) 0) × (frame < parts.frames) × (frame < MAX_FRAMES_PER_PAGE * MAX_PAGES)
+frame_read {parts = parts} {at = at} {frame = frame} so seen inside read =
+    let near : at < PAGE * parts.pages = subst (λ s. at < PAGE * s.pages) (sym seen) inside in
+    let page : at / PAGE < length parts.live = omega (arith, so.tables.live_table.size) in
+    let is : frame ≡ get_or parts.live (at / PAGE) 0 = get_or_read parts.live (at / PAGE) frame page read 0 in
+    let less : frame < parts.frames = omega (arith, live_below so (at / PAGE) page) in
+    (is, less, omega (arith, so.bounds.enough.1, so.bounds.few.1))
+
+pub shared_read : {parts : Parts} {store : Pages} {at frame count : ℕ} → IsSound parts → pages_of parts ≡ store → at < PAGE * store.pages → frame ≡ get_or parts.live (at / PAGE) frame → count ≡ get_or parts.counts frame count → is_shared store (at / PAGE) ≡ nat_lt 0 count
+shared_read {parts = parts} {at = at} {frame = frame} {count = count} so seen inside first second =
+    let one = frame_read so seen inside first in
+    let is : count ≡ get_or parts.counts (get_or parts.live (at / PAGE) 0) 0 = get_or_read parts.counts frame count (omega (arith, one, so.accounts.counts_size)) second 0 ∙ ap (λ n. get_or parts.counts n 0) one.0 in
+    subst (λ s. is_shared s (at / PAGE) ≡ nat_lt 0 count) seen (shared-is (at / PAGE) so ∙ ap (nat_lt 0) (sym is))

@@ -13,4 +13,4 @@ pub use Rattle.cow_pages.specs.declared.store.TheConstants.{MAX_FRAMES_PER_PAGE,
 pub use Rattle.cow_pages.specs.Pages.{Agree, IsLawful, IsMade, IsSpace, Pages, Space, Stands, different, has, held_of, page_of, saved_numbers, slot_at, used_of}
 pub use Rattle.cow_pages.specs.Writes.{IsFree, NumberAfter, Owns, Writes, copied_pages, is_shared, put_at, reaches}
 pub use Rattle.cow_pages.specs.Little.{little_bytes, little_number}
-pub use Rattle.cow_pages.specs.Pool.{AreBlank, AreInside, AreLogged, AreMoved, Counts, IsKept, IsLogged, IsLoggedSince, IsRenewed, IsRow, IsSlot, IsSound, IsStack, IsTable, Recounts, SameUpTo, StandFrom, StaySame, contents, pages_of, places, slot_numbers, slot_space, space_of, table_numbers}
+pub use Rattle.cow_pages.specs.Pool.{AreBlank, AreInside, AreLogged, AreMoved, CanCount, CanGiveUp, CanUncount, Counts, IsKept, IsLogged, IsLoggedSince, IsRenewed, IsRow, IsSlot, IsSound, IsStack, IsTable, Parts, Recounts, SameUpTo, StandFrom, StaySame, contents, pages_of, places, slot_numbers, slot_space, space_of, table_numbers}

@@ -19,9 +19,39 @@ space_of pool numbers = record { numbers = numbers; bytes = contents pool number
 abbrev pub slot_space : List ℕ → Slot → Option Space
 slot_space pool slot = if slot.saved then Some (space_of pool slot.table.items) else None
 
--- the store of these tables
-abbrev pub pages_of : ℕ → ℕ → List ℕ → List ℕ → List Slot → Pages
-pages_of pages frames pool live slots = record { pages = pages; frames = frames; live = space_of pool live; slots = map (slot_space pool) slots }
+-- what the fields of a store hold: reserved is how many free frames there is room for
+pub record Parts : Type 0 where
+  pub pages : ℕ
+  pub frames : ℕ
+  pub held : ℕ
+  pub pool : List ℕ
+  pub live : List ℕ
+  pub counts : List ℕ
+  pub free : List ℕ
+  pub reserved : ℕ
+  pub slots : List Slot
+
+abbrev pub parts_of : (pages frames held : ℕ) (pool live counts free : List ℕ) (reserved : ℕ) (slots : List Slot) → Parts
+parts_of pages frames held pool live counts free reserved slots = record {
+  pages = pages;
+  frames = frames;
+  held = held;
+  pool = pool;
+  live = live;
+  counts = counts;
+  free = free;
+  reserved = reserved;
+  slots = slots;
+}
+
+-- what they are seen as
+abbrev pub pages_of : Parts → Pages
+pages_of parts = record {
+  pages = parts.pages;
+  frames = parts.frames;
+  live = space_of parts.pool parts.live;
+  slots = map (slot_space parts.pool) parts.slots;
+}
 
 -- the numbers that a slot keeps from use
 abbrev pub slot_numbers : Slot → List ℕ
@@ -37,34 +67,46 @@ abbrev pub places : ℕ → List ℕ → ℕ
 places n [] = 0
 places n (x ∷ xs) = (if x == n then 1 else 0) + places n xs
 
--- the counts say of each frame how many times a list has its number
+-- the counts say of each number how many times a list has it, and none is past their end
 pub record Counts (counts numbers : List ℕ) : Type 0 where
-  pub below : (k : ℕ) → k < length numbers → slice_index numbers k < length counts
-  pub each : (n : ℕ) → n < length counts → slice_index counts n ≡ places n numbers
+  pub each : (n : ℕ) → slice_index counts n ≡ places n numbers
 
 -- the free frames: each stands once, no other one stands, and none has a count or is live
 pub record IsStack (counts live free : List ℕ) : Type 0 where
   pub below : (k : ℕ) → k < length free → slice_index free k < length counts
   pub each : (n : ℕ) → n < length counts → places n free ≡ (if nat_lt 0 (slice_index counts n) || has n live then 0 else 1)
 
--- a table whose numbers the counts hold, and whose frames the live table has at no other place
-pub record CanUncount (counts table live : List ℕ) : Type 0 where
-  pub below : (k : ℕ) → k < length table → slice_index table k < length counts
-  pub counted : (n : ℕ) → n < length counts → places n table ≤ slice_index counts n
-  pub size : length live ≡ length table
-  pub home : (k j : ℕ) → k < length table → j < length live → slice_index table k ≡ slice_index live j → k ≡ j
+-- a table has a frame for each page, and each frame is that of one page in all tables
+pub record IsTable (pages : ℕ) (homes table : List ℕ) : Type 0 where
+  pub size : length table ≡ pages
+  pub below : (page : ℕ) → page < pages → slice_index table page < length homes
+  pub home : (page : ℕ) → page < pages → slice_index homes (slice_index table page) ≡ page
 
--- counts, a table, the live one and free frames that fit together: a number that both tables have stands at one place in both,
--- and a live one that the table hasn't can be counted once more
-pub record IsRenewed (counts table live free : List ℕ) : Type 0 where
-  pub size : length live ≡ length table
+-- a table that can be counted once more: the counts are those of some numbers, and have room
+pub record CanCount (counts table : List ℕ) : Type 0 where
   pub below : (k : ℕ) → k < length table → slice_index table k < length counts
-  pub live_below : (k : ℕ) → k < length live → slice_index live k < length counts
-  pub home : (k j : ℕ) → k < length table → j < length live → slice_index table k ≡ slice_index live j → k ≡ j
-  pub once : (k j : ℕ) → k < length live → j < length live → slice_index live k ≡ slice_index live j → k ≡ j
-  pub counted : (n : ℕ) → n < length counts → places n table ≤ slice_index counts n
-  pub few : (k : ℕ) → k < length live → (slice_index table k ≡ slice_index live k → ⊥) → slice_index counts (slice_index live k) < 255
+  pub numbers : List ℕ
+  pub counted : Counts counts numbers
+  pub few : (n : ℕ) → places n table + places n numbers < 256
+
+-- a live table and free frames that fit counts: each frame is that of one page
+pub record CanGiveUp (counts live free : List ℕ) : Type 0 where
+  pub homes : List ℕ
+  pub many : length homes ≡ length counts
+  pub live_is : IsTable (length live) homes live
   pub stack : IsStack counts live free
+
+-- a table that counts are those of, beside other numbers, with a live one: a frame is that of one page in both
+pub record CanUncount (counts table live free : List ℕ) : Type 0 where
+  pub gives : CanGiveUp counts live free
+  pub table_is : IsTable (length live) gives.homes table
+  pub numbers : List ℕ
+  pub counted : Counts counts (table ++ numbers)
+
+-- the same where a frame of the live table can be counted once more beside the other numbers
+pub record IsRenewed (counts table live free : List ℕ) : Type 0 where
+  pub fits : CanUncount counts table live free
+  pub few : (n : ℕ) → places n fits.numbers < 255
 
 -- the first so many entries of a table are the live ones
 abbrev pub SameUpTo : ℕ → List ℕ → List ℕ → Type 0
@@ -100,36 +142,43 @@ pub record AreInOrder (start end size : ℕ) : Type 0 where
 
 -- counts became those of another table, whatever numbers they count beside it: so many numbers have a count that had none,
 -- and so many have none that had one
-abbrev pub Recounts : List ℕ → List ℕ → List ℕ → List ℕ → ℕ → ℕ → Type 0
-Recounts counts table after next added removed = (numbers : List ℕ) → Counts counts (table ++ numbers) → (Counts after (next ++ numbers)) × (added + different (table ++ numbers) ≡ removed + different (next ++ numbers))
-
--- a table has a frame for each page, and each frame is that of one page in all tables
-pub record IsTable (pages : ℕ) (homes table : List ℕ) : Type 0 where
-  pub size : length table ≡ pages
-  pub below : (page : ℕ) → page < pages → slice_index table page < length homes
-  pub home : (page : ℕ) → page < pages → slice_index homes (slice_index table page) ≡ page
+pub record Recounts (counts table after next : List ℕ) (added removed : ℕ) : Type 0 where
+  pub counted : (numbers : List ℕ) → Counts counts (table ++ numbers) → Counts after (next ++ numbers)
+  pub turn : (numbers : List ℕ) → Counts counts (table ++ numbers) → added + different (table ++ numbers) ≡ removed + different (next ++ numbers)
 
 -- a slot has room for a table, and where it is saved it has one
 pub record IsSlot (pages : ℕ) (homes : List ℕ) (slot : Slot) : Type 0 where
   pub size : length slot.table.items ≡ pages
   pub table : slot.saved ≡ true → IsTable pages homes slot.table.items
 
--- the tables, counts and free frames fit together
-pub record IsSound (pages frames held : ℕ) (pool live counts free : List ℕ) (reserved : ℕ) (slots : List Slot) : Type 0 where
+-- pages and frames are as many as there may be
+pub record AreBounded (pages frames : ℕ) : Type 0 where
   pub few : (1 ≤ pages) × (pages ≤ MAX_PAGES)
   pub enough : (2 * pages ≤ frames) × (frames ≤ MAX_FRAMES_PER_PAGE * pages)
+
+-- the tables of the live space and of the slots: each frame is that of one page in all
+pub record AreTables (pages frames : ℕ) (live : List ℕ) (slots : List Slot) : Type 0 where
   pub numbered : (1 ≤ length slots) × (length slots ≤ MAX_SLOTS)
-  pub pool_size : length pool ≡ PAGE * frames
-  pub counts_size : length counts ≡ frames
-  pub reserved_room : frames ≤ reserved
   pub homes : List ℕ
   pub homes_size : length homes ≡ frames
   pub live_table : IsTable pages homes live
   pub slot_tables : All (IsSlot pages homes) slots
+
+-- the counts are those of the numbers of all slots, which leave a frame for each page
+pub record AreCounted (pages frames held : ℕ) (counts : List ℕ) (slots : List Slot) : Type 0 where
+  pub counts_size : length counts ≡ frames
   pub counted : Counts counts (table_numbers slots)
-  pub stack : IsStack counts live free
   pub held_count : held ≡ different (table_numbers slots)
   pub room : held + pages ≤ frames
+
+-- the tables, counts and free frames fit together
+pub record IsSound (parts : Parts) : Type 0 where
+  pub bounds : AreBounded parts.pages parts.frames
+  pub pool_size : length parts.pool ≡ PAGE * parts.frames
+  pub tables : AreTables parts.pages parts.frames parts.live parts.slots
+  pub accounts : AreCounted parts.pages parts.frames parts.held parts.counts parts.slots
+  pub reserved_room : parts.frames ≤ parts.reserved
+  pub stack : IsStack parts.counts parts.live parts.free
 
 -- a saved slot knows since which move its table is behind the live one
 pub record IsLogged (count : ℕ) (recent live : List ℕ) (slot : Slot) : Type 0 where
@@ -142,9 +191,9 @@ pub record AreLogged (pages count : ℕ) (recent live : List ℕ) (slots : List 
   pub each : All (IsLogged count recent live) slots
 
 -- what is kept of a store
-pub record IsKept (pages frames held : ℕ) (pool live counts free : List ℕ) (reserved : ℕ) (slots : List Slot) (count : ℕ) (recent : List ℕ) : Type 0 where
-  pub sound : IsSound pages frames held pool live counts free reserved slots
-  pub logged : AreLogged pages count recent live slots
+pub record IsKept (parts : Parts) (count : ℕ) (recent : List ℕ) : Type 0 where
+  pub sound : IsSound parts
+  pub logged : AreLogged parts.pages count recent parts.live parts.slots
 
 -- the numbers from one on, in order
 pub record IsRow (start end : ℕ) (row : List ℕ) : Type 0 where

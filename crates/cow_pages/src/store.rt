@@ -48,13 +48,13 @@ pub struct PageStore {
 impl Model for PageStore {
     ghost use Rattle.std.specs.Prelude.{vec_capacity};
     ghost use Rattle.cow_pages.specs.Pages.{Pages};
-    ghost use Rattle.cow_pages.specs.Pool.{pages_of, IsKept};
+    ghost use Rattle.cow_pages.specs.Pool.{parts_of, pages_of, IsKept};
 
     ghost Value = { Pages };
 
-    ghost view = { λ a. pages_of a.pages a.frames a.pool.items a.live.items a.slots.items };
+    ghost view = { λ a. pages_of (parts_of a.pages a.frames a.held a.pool.items a.live.items a.counts.items a.free.items (vec_capacity a.free) a.slots.items) };
 
-    ghost invariant = { λ a. IsKept a.pages a.frames a.held a.pool.items a.live.items a.counts.items a.free.items (vec_capacity a.free) a.slots.items a.moves.count a.moves.recent.items };
+    ghost invariant = { λ a. IsKept (parts_of a.pages a.frames a.held a.pool.items a.live.items a.counts.items a.free.items (vec_capacity a.free) a.slots.items) a.moves.count a.moves.recent.items };
 }
 
 impl PageStore {

@@ -1,7 +1,6 @@
 // Walks over a table of frames, which change counts and free frames.
 ghost use Rattle.std.specs.Prelude.{◌≡◌, ◌≢◌, ℕ, ◌+◌, ◌-◌, ◌*◌, ◌^◌, ◌<◌, ◌≤◌, List, [], ◌∷◌, ◌++◌, length, true, nat_lt, if◌then◌else◌, slice_index, slice_set, vec_capacity, IfOk};
-ghost use Rattle.cow_pages.specs.Pages.{different};
-ghost use Rattle.cow_pages.specs.Pool.{places, Counts, IsStack, IsRow, CanUncount, IsRenewed, Recounts, AreInOrder, AreInside, IsLoggedSince, StandFrom, SameUpTo, StaySame};
+ghost use Rattle.cow_pages.specs.Pool.{IsStack, IsRow, CanCount, CanUncount, CanGiveUp, IsRenewed, Recounts, AreInOrder, AreInside, IsLoggedSince, StandFrom, SameUpTo, StaySame};
 
 use crate::moves::{Moves, RECENT};
 use std::alloc::{AllocError, Global};
@@ -21,11 +20,9 @@ pub fn row(alloc: Global, room: u32, start: u32, end: u32) -> Result<Vec<u32>, A
 
 // Counts each number of a table once more. The answer says how many of them had no count.
 pub fn count_table(counts: &mut [u8], table: &[u32]) -> u32
-    requires below { (k : ℕ) → k < length table.now → slice_index table.now k < length counts.old }
-    requires few { (n : ℕ) → slice_index counts.old n + places n table.now < 256 }
+    requires fits { CanCount counts.old table.now }
     requires short { length table.now < 2 ^ 32 }
-    ensures counts { (numbers : List ℕ) → Counts counts.old numbers → Counts counts.new (table.now ++ numbers) }
-    ensures added { (numbers : List ℕ) → Counts counts.old numbers → result + different numbers ≡ different (table.now ++ numbers) }
+    ensures { Recounts counts.old [] counts.new table.now result 0 }
 {
     let mut added = 0;
     'entries: for number in table {
@@ -41,12 +38,10 @@ pub fn count_table(counts: &mut [u8], table: &[u32]) -> u32
 // Counts each number of a table once less, and gives back the frames that then have no count and
 // aren't in the live table. The answer says how many have no count.
 pub fn uncount_table(counts: &mut [u8], table: &[u32], live: &[u32], free: &mut Vec<u32>) -> u32
-    requires fits { CanUncount counts.old table.now live.now }
-    requires stack { IsStack counts.old live.now free.old.items }
+    requires fits { CanUncount counts.old table.now live.now free.old.items }
     requires reserved { length counts.old ≤ vec_capacity free.old }
     requires short { length table.now < 2 ^ 32 }
-    ensures counts { (numbers : List ℕ) → Counts counts.old (table.now ++ numbers) → Counts counts.new numbers }
-    ensures removed { (numbers : List ℕ) → Counts counts.old (table.now ++ numbers) → result + different numbers ≡ different (table.now ++ numbers) }
+    ensures counts { Recounts counts.old table.now counts.new [] 0 result }
     ensures stack { IsStack counts.new live.now free.new.items }
     ensures reserved { vec_capacity free.new ≡ vec_capacity free.old }
 {
@@ -272,9 +267,7 @@ fn uncount_frame(counts: &mut [u8], frame: u32, free: &mut Vec<u32>) -> u32
 
 // Gives back the frames of a live table that have no count.
 pub fn give_up(counts: &[u8], live: &[u32], free: &mut Vec<u32>)
-    requires below { (k : ℕ) → k < length live.now → slice_index live.now k < length counts.now }
-    requires home { (k j : ℕ) → k < length live.now → j < length live.now → slice_index live.now k ≡ slice_index live.now j → k ≡ j }
-    requires stack { IsStack counts.now live.now free.old.items }
+    requires fits { CanGiveUp counts.now live.now free.old.items }
     requires reserved { length counts.now ≤ vec_capacity free.old }
     ensures stack { (other : List ℕ) → ((k : ℕ) → k < length other → 0 < slice_index counts.now (slice_index other k)) → IsStack counts.now other free.new.items }
     ensures reserved { vec_capacity free.new ≡ vec_capacity free.old }

@@ -1,5 +1,5 @@
 use Rattle.cow_pages.proofs.Lemmas.{recounts_on, renewed_all, same_on, same_part}
-use Rattle.cow_pages.proofs.Terms.{arith, drop, subst, take, ◌+◌, ◌-◌, ◌≡◌, Recounts}
+use Rattle.cow_pages.proofs.Terms.{refl, arith, drop, subst, take, ◌+◌, ◌-◌, ◌≡◌, Recounts}
 use Rattle.cow_pages.proofs.tables.renew_all.Goals as goal
 use Rattle.cow_pages.specs.declared.tables.TheConstants.{BLOCK}
 
@@ -19,10 +19,10 @@ blocks-2-preserved c =
     }
 
 pub returns-clause-table : goal.returns-clause-table
-returns-clause-table c = renewed_all _ _ _ _ _ c.renew_part-rest.ensures.renewed (c.renew_part-rest.ensures.same c.blocks-2.invariant.same) (omega (arith, c.renew_part-rest.auto.table))
+returns-clause-table c = renewed_all _ c.renew_part-rest.ensures.renewed (c.renew_part-rest.ensures.same c.blocks-2.invariant.same) (omega (arith, c.renew_part-rest.auto.table))
 
 pub returns-clause-counts : goal.returns-clause-counts
 returns-clause-counts c =
-    let is = renewed_all _ _ _ _ _ c.renew_part-rest.ensures.renewed (c.renew_part-rest.ensures.same c.blocks-2.invariant.same) (omega (arith, c.renew_part-rest.auto.table)) in
+    let is = renewed_all _ c.renew_part-rest.ensures.renewed (c.renew_part-rest.ensures.same c.blocks-2.invariant.same) (omega (arith, c.renew_part-rest.auto.table)) in
     subst (λ xs. Recounts c.args.counts.now c.args.table.now c.renew_part-rest.new.counts xs (c.blocks-2.added + c.renew_part-rest.result.added) (c.blocks-2.removed + c.renew_part-rest.result.removed)) is
-    (recounts_on _ _ _ _ _ _ _ _ _ _ c.blocks-2.invariant.counts c.renew_part-rest.ensures.counts)
+    (recounts_on c.blocks-2.invariant.counts c.renew_part-rest.ensures.counts refl refl)

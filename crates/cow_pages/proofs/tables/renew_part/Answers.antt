@@ -1,5 +1,5 @@
 use Rattle.cow_pages.proofs.Lemmas.{recounts_none, recounts_on, same_more}
-use Rattle.cow_pages.proofs.Terms.{arith, ◌∙◌}
+use Rattle.cow_pages.proofs.Terms.{refl, arith, ◌∙◌}
 use Rattle.cow_pages.proofs.tables.renew_part.Goals as goal
 
 pub entries-preserved : goal.entries-preserved
@@ -8,7 +8,7 @@ entries-preserved c =
     record {
       renewed = one.renewed;
       same = λ first. same_more _ _ _ _ (c.entries.invariant.same first) one.kept one.same;
-      counts = recounts_on _ _ _ _ _ _ _ _ _ _ c.entries.invariant.counts one.counts;
+      counts = recounts_on c.entries.invariant.counts one.counts refl refl;
       added = omega (arith, one.few.0, c.entries.invariant.added);
       removed = omega (arith, one.few.1, c.entries.invariant.removed);
       reserved = one.reserved ∙ c.entries.invariant.reserved;

@@ -2,4 +2,4 @@ use Rattle.cow_pages.proofs.Lemmas.{lawful}
 use Rattle.cow_pages.proofs.store.PageStore.pages.Goals as goal
 
 pub returns-clause-lawful : goal.returns-clause-lawful
-returns-clause-lawful c = lawful _ _ _ _ _ _ _ _ _ _ c.self.invariant.sound c.self.view_is
+returns-clause-lawful c = lawful c.self.invariant.sound c.self.view_is

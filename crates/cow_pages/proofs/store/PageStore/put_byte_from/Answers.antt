@@ -1,8 +1,10 @@
-use Rattle.cow_pages.proofs.Lemmas.{stay_owns, byte_done, byte_lawful}
+use Rattle.cow_pages.proofs.Lemmas.{byte_done, byte_lawful, owns_in, stay_owns}
+use Rattle.cow_pages.proofs.Terms.{ap}
 use Rattle.cow_pages.proofs.store.PageStore.put_byte_from.Goals as goal
 
-pub returns-clause-writes : goal.returns-clause-writes
-returns-clause-writes c = byte_done _ _ _ _ _ _ _ _ _ _ _ _ _ _ c.self.invariant.sound c.self.view_is (stay_owns _ _ c.requires.own) c.requires.stands.place_is c.requires.stands.inside
-
-pub returns-clause-lawful : goal.returns-clause-lawful
-returns-clause-lawful c = byte_lawful _ _ _ _ _ _ _ _ _ _ _ c.self.invariant.sound
+pub returns : goal.returns
+returns c = record {
+  writes = byte_done _ (owns_in c.self.invariant.sound c.self.view_is (stay_owns _ _ c.requires.own) c.requires.stands.place_is c.requires.stands.inside);
+  numbers = ap (λ s. s.live.numbers) c.self.view_is;
+  lawful = byte_lawful _ _ c.self.invariant.sound;
+}

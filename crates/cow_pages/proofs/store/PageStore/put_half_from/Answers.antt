@@ -1,12 +1,14 @@
-use Rattle.cow_pages.proofs.Lemmas.{stay_owns, part_done, part_lawful}
-use Rattle.cow_pages.proofs.Terms.{arith, ◌+◌, ◌-◌, ◌∙◌, ◌≡◌, little_bytes}
+use Rattle.cow_pages.proofs.Lemmas.{owns_in, part_done, part_lawful, stay_owns}
+use Rattle.cow_pages.proofs.Terms.{ap, arith, ◌+◌, ◌-◌, ◌∙◌, ◌≡◌, little_bytes}
 use Rattle.cow_pages.proofs.store.PageStore.put_half_from.Goals as goal
 
-pub returns-clause-writes : goal.returns-clause-writes
-returns-clause-writes c =
+pub returns : goal.returns
+returns c =
     let place = c.args.place in
     let count : place + 2 - place ≡ 2 = omega arith in
-    part_done _ _ _ _ _ _ _ _ _ _ _ _ _ _ _ (little_bytes 2 c.args.value) _ _ c.self.invariant.sound c.self.view_is (stay_owns _ _ c.requires.own) c.requires.stands.place_is (omega arith) c.requires.stands.within c.requires.stands.inside c.self.inside.pool.ok.0 c.deref_mut.ensures.value (c.copy_from_slice.ensures.after ∙ c.half_bytes-bytes.ensures) count
-
-pub returns-clause-lawful : goal.returns-clause-lawful
-returns-clause-lawful c = part_lawful _ _ _ _ _ _ _ _ _ _ _ c.self.invariant.sound c.self.inside.pool.ok.0
+    let o = owns_in c.self.invariant.sound c.self.view_is (stay_owns _ _ c.requires.own) c.requires.stands.place_is c.requires.stands.inside in
+    record {
+      writes = part_done (little_bytes 2 c.args.value) o (omega arith) c.requires.stands.within c.self.inside.pool.ok.0 c.deref_mut.ensures.value (c.copy_from_slice.ensures.after ∙ c.half_bytes-bytes.ensures) count;
+      numbers = ap (λ s. s.live.numbers) c.self.view_is;
+      lawful = part_lawful _ c.self.invariant.sound c.self.inside.pool.ok.0;
+    }

@@ -1,4 +1,4 @@
-use Rattle.cow_pages.proofs.Lemmas.{lawful, run_is, mid_size, read_more}
+use Rattle.cow_pages.proofs.Lemmas.{lawful, run_is, stands_in, mid_size, read_more}
 use Rattle.cow_pages.proofs.Terms.{ap, arith, drop, length, sym, take, ◌++◌, ◌+◌, ◌-◌, ◌∙◌, ◌≡◌, ◌≤◌, length-drop, length-take-le}
 use Rattle.cow_pages.proofs.store.PageStore.read_run.Goals as goal
 
@@ -15,11 +15,11 @@ pages-preserved c =
     c.copy_from_slice.ensures.after
     ∙ ap (λ n. take n (drop place c.deref.result.now)) long
     ∙ ap (λ xs. take count (drop place xs)) c.deref.ensures.value
-    ∙ run_is _ _ _ _ _ _ _ _ _ _ (c.args.at + done) count place c.self.invariant.sound c.self.view_is (omega (arith, c.requires, c.pages.auto.buf)) (omega arith) c.place_of-place.ensures in
+    ∙ run_is count (stands_in {at = c.args.at + done} c.self.invariant.sound c.self.view_is (omega (arith, c.requires, c.pages.auto.buf)) c.place_of-place.ensures) c.self.view_is (omega arith) in
     record {
       within = omega (arith, mid_size c.pages.buf c.copy_from_slice.new.self done (done + count - done) (omega arith) (size ∙ sym wide));
       read = ap (λ n. take (done + count) (take done c.pages.buf ++ (c.copy_from_slice.new.self ++ drop n (drop done c.pages.buf)))) wide ∙ read_more _ _ _ _ _ _ c.pages.invariant.read part room size;
     }
 
 pub returns-clause-lawful : goal.returns-clause-lawful
-returns-clause-lawful c = lawful _ _ _ _ _ _ _ _ _ _ c.self.invariant.sound c.self.view_is
+returns-clause-lawful c = lawful c.self.invariant.sound c.self.view_is

@@ -1,4 +1,4 @@
-use Rattle.cow_pages.proofs.Lemmas.{run_is}
+use Rattle.cow_pages.proofs.Lemmas.{run_is, stands_in}
 use Rattle.cow_pages.proofs.Terms.{ap, arith, drop, take, ◌+◌, ◌-◌, ◌∙◌, ◌≡◌, little_number}
 use Rattle.cow_pages.proofs.store.PageStore.word_from.Goals as goal
 
@@ -10,4 +10,4 @@ returns c =
     ∙ ap little_number
     (ap (λ n. take n (drop place c.deref.result.now)) size
     ∙ ap (λ xs. take 4 (drop place xs)) c.deref.ensures.value
-    ∙ run_is _ _ _ _ _ _ _ _ _ _ _ _ _ c.self.invariant.sound c.self.view_is c.requires.inside c.requires.within c.requires.place_is)
+    ∙ run_is 4 (stands_in c.self.invariant.sound c.self.view_is c.requires.inside c.requires.place_is) c.self.view_is c.requires.within)

@@ -6,7 +6,7 @@ pub pages-init : goal.pages-init
 pages-init c = record {
   within = omega arith;
   writes = writes_nothing _ _;
-  lawful = lawful _ _ _ _ _ _ _ _ _ _ c.self.invariant.sound c.self.view_is;
+  lawful = lawful c.self.invariant.sound c.self.view_is;
 }
 
 pub pages-preserved : goal.pages-preserved
@@ -17,6 +17,6 @@ pages-preserved c =
     let room : done + count ≤ length c.args.bytes.now = omega arith in
     record {
       within = room;
-      writes = run_more _ _ _ _ done count c.args.bytes.now c.pages.invariant.writes (subst (λ n. Writes c.pages.self c.put_within.new.self (c.args.at + done) (take n (drop done c.args.bytes.now))) wide c.put_within.ensures.writes) (lawful _ _ _ _ _ _ _ _ _ _ c.self.invariant.sound c.self.view_is) c.pages.invariant.lawful room c.requires;
+      writes = run_more _ _ _ _ done count c.args.bytes.now c.pages.invariant.writes (subst (λ n. Writes c.pages.self c.put_within.new.self (c.args.at + done) (take n (drop done c.args.bytes.now))) wide c.put_within.ensures.writes) (lawful c.self.invariant.sound c.self.view_is) c.pages.invariant.lawful room c.requires;
       lawful = c.put_within.ensures.lawful;
     }
