@@ -232,7 +232,7 @@ moved_pool {parts = parts} {page = page} {fresh = fresh} {n = n} {written = writ
     ∙ ap (λ xs. take to xs ++ take PAGE (drop from xs) ++ drop (to + PAGE) xs) full
     ∙ ap (λ k. take to pool ++ take PAGE (drop k pool) ++ drop (to + PAGE) pool) start
     ∙ ap (λ k. take k pool ++ take PAGE (drop (PAGE * get_or parts.live page 0) pool) ++ drop (k + PAGE) pool) place
-    ∙ copy_within-copied parts.frames (get_or parts.live page 0) fresh pool m.so.pool_size f.old f.new in
+    ∙ copy_within-copied parts.frames (get_or parts.live page 0) fresh pool m.so.pool_size f.old in
     take_at written (drop (length written) pool) n (ap length e ∙ length-copied parts.frames (get_or parts.live page 0) fresh pool m.so.pool_size f.old f.new ∙ sym whole) ∙ e
 
 -- the fields of a store whose shared page has moved, and what it holds

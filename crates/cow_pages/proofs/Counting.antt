@@ -72,6 +72,9 @@ has-at n (x ∷ xs) is =
 pub has-nowhere : (n : ℕ) (xs : List ℕ) → ((k : ℕ) → k < length xs → get_or xs k 0 ≡ n → ⊥) → has n xs ≡ false
 has-nowhere n xs nowhere = false_from_ne_true (has n xs) (λ is. let found = has-at n xs is in nowhere found.0 found.1 found.2)
 
+has-below : (top n : ℕ) (xs : List ℕ) → AreBelow top xs → has n xs ≡ true → n < top
+has-below top n xs below is = let found = has-at n xs is in subst (λ m. m < top) found.2 (below found.0 found.1)
+
 -- a list whose elements stand at one place each has no number twice
 pub places-le-one : (n : ℕ) (xs : List ℕ) → ((k j : ℕ) → k < length xs → j < length xs → get_or xs k 0 ≡ get_or xs j 0 → k ≡ j) → places n xs ≤ 1
 places-le-one n [] once = omega arith
@@ -86,11 +89,6 @@ places-le-one n (x ∷ xs) once =
 abbrev pub occupied : ℕ → List ℕ → ℕ
 occupied zero xs = 0
 occupied (suc k) xs = occupied k xs + cond (has k xs) 1 0
-
--- how many elements below a limit a list has
-abbrev pub tally : ℕ → List ℕ → ℕ
-tally zero xs = 0
-tally (suc k) xs = tally k xs + places k xs
 
 occupied-nil : (k : ℕ) → occupied k [] ≡ 0
 occupied-nil zero = refl
@@ -135,16 +133,6 @@ different-occupied top (x ∷ xs) below =
     let first : occupied top (x ∷ xs) ≡ occupied top xs + cond (has x xs) 0 1 = occupied-cons top x xs (below_head top x xs below) in
     chosen (has x xs) (different xs) ∙ ap (λ n. n + cond (has x xs) 0 1) rest ∙ sym first
 
-occupied-same : (k : ℕ) (xs ys : List ℕ) → ((n : ℕ) → n < k → has n xs ≡ has n ys) → occupied k xs ≡ occupied k ys
-occupied-same zero xs ys same = refl
-occupied-same (suc k) xs ys same =
-    let fewer : occupied k xs ≡ occupied k ys = occupied-same k xs ys (λ n less. same n (omega arith)) in
-    ap (λ n. n + cond (has k xs) 1 0) fewer ∙ ap (λ b. occupied k ys + cond b 1 0) (same k (omega arith))
-
--- two lists with the same numbers have as many different ones
-pub different-same : (top : ℕ) (xs ys : List ℕ) → AreBelow top xs → AreBelow top ys → ((n : ℕ) → n < top → has n xs ≡ has n ys) → different xs ≡ different ys
-different-same top xs ys bx by same = different-occupied top xs bx ∙ occupied-same top xs ys same ∙ sym (different-occupied top ys by)
-
 -- a number above all of a list
 top_of : List ℕ → ℕ
 top_of [] = 0
@@ -170,6 +158,13 @@ pub different-le : (xs ys : List ℕ) → ((n : ℕ) → has n xs ≡ true → h
 different-le xs ys among =
     let turned : top_of ys + top_of xs ≡ top_of xs + top_of ys = omega arith in
     omega (arith, different-occupied _ xs (below_top (top_of ys) xs), different-occupied _ ys (subst (λ n. AreBelow n ys) turned (below_top (top_of xs) ys)), occupied-le (top_of xs + top_of ys) xs ys among)
+
+-- two lists with the same numbers have as many different ones
+pub different-same : (top : ℕ) (xs ys : List ℕ) → AreBelow top xs → AreBelow top ys → ((n : ℕ) → n < top → has n xs ≡ has n ys) → different xs ≡ different ys
+different-same top xs ys bx by same =
+    let one : different xs ≤ different ys = different-le xs ys (λ n is. sym (same n (has-below top n xs bx is)) ∙ is) in
+    let other : different ys ≤ different xs = different-le ys xs (λ n is. same n (has-below top n ys by is) ∙ is) in
+    omega arith
 
 -- lists in which each number stands as often
 abbrev pub Alike : List ℕ → List ℕ → Type 0
@@ -209,16 +204,13 @@ below_append top xs ys bx by k less =
       | inr later ↦ subst (λ n. n < top) (sym (get_or-append_right xs ys (length xs) k 0 refl later)) (by (k - length xs) (omega (arith, length-append xs ys)))
     ]
 
-one-left : (b : Bool) (n : ℕ) → n ≡ cond b 0 1 → n ≤ cond b 0 1
-one-left b n is = omega arith
-
 -- the free numbers and the different ones in use are all numbers below the limit
 pub length-free : (top : ℕ) (free xs : List ℕ) → AreBelow top free → AreBelow top xs → ((n : ℕ) → n < top → places n free ≡ cond (has n xs) 0 1) → length free + different xs ≡ top
 length-free top free xs bf bx each =
     let apart : (n : ℕ) → places n free ≤ cond (has n xs) 0 1 =
     λ n.
     elim (cases_Bool (has n free)) [
-      | inl is ↦ (let found = has-at n free is in omega (arith, each n (subst (λ m. m < top) found.2 (bf found.0 found.1))))
+      | inl is ↦ omega (arith, each n (has-below top n free bf is))
       | inr isnt ↦ omega (arith, places-none n free isnt)
     ] in
     let every : (n : ℕ) → n < top → has n (free ++ xs) ≡ true =
@@ -232,7 +224,7 @@ length-free top free xs bf bx each =
 -- a list that has no number twice, and one not at all, is shorter than the limit
 pub length-missing : (top m : ℕ) (free : List ℕ) → AreBelow top free → ((n : ℕ) → n < top → places n free ≤ 1) → m < top → places m free ≡ 0 → length free < top
 length-missing top m free below each less none =
-    let once : (n : ℕ) → places n free ≤ 1 = λ n. elim (cases_Bool (has n free)) [ inl is ↦ (let found = has-at n free is in each n (subst (λ m. m < top) found.2 (below found.0 found.1))) | inr isnt ↦ omega (arith, places-none n free isnt) ] in
+    let once : (n : ℕ) → places n free ≤ 1 = λ n. elim (cases_Bool (has n free)) [ inl is ↦ each n (has-below top n free below is) | inr isnt ↦ omega (arith, places-none n free isnt) ] in
     let apart : (n : ℕ) → places n free ≤ cond (has n (m ∷ [])) 0 1 =
     λ n.
     elim (cases_eq m n) [

@@ -1,5 +1,6 @@
 -- Bytes of frames: reading them, writing some, and copying a frame.
-use Rattle.cow_pages.proofs.Terms.{List, [], ap, arith, drop, get_or, inl, inr, length, refl, set, subst, suc, sym, take, ℕ, ◌%◌, ◌*◌, ◌++◌, ◌+◌, ◌-◌, ◌/◌, ◌<◌, ◌∙◌, ◌∷◌, ◌≡◌, ◌≤◌, ◌⊎◌, cases_eq, cases_lt, same_number_lists, append_assoc, drop-drop, get_or-append_right, get_or-drop, get_or-set_other, get_or-set_same, get_or-take, get_or_append_left, length-append, length-drop, length-set, length-take-le, set_split, PAGE, put_at, contents}
+use Rattle.std.proofs.Math.Seq.{drop-append-add, drop-append_seam}
+use Rattle.cow_pages.proofs.Terms.{List, [], ap, arith, cond, nat_lt, le-ltb, lt-ltb, take_at, drop, get_or, inl, inr, length, refl, set, subst, suc, sym, take, ℕ, ◌%◌, ◌*◌, ◌++◌, ◌+◌, ◌-◌, ◌/◌, ◌<◌, ◌∙◌, ◌∷◌, ◌≡◌, ◌≤◌, ◌⊎◌, cases_eq, cases_lt, same_number_lists, append_assoc, drop-drop, get_or-append_right, get_or-drop, get_or-set_other, get_or-set_same, get_or-take, get_or_append_left, length-append, length-drop, length-set, length-take-le, set_split, PAGE, put_at, contents}
 use Rattle.cow_pages.proofs.Counting.{AreBelow, below_tail, below_head}
 
 -- no number stands at two places of a list
@@ -49,37 +50,65 @@ part-put_at xs bytes at count size =
 -- two writes, one right behind the other
 pub put_at-put_at : (at : ℕ) (first second xs : List ℕ) → at + length first + length second ≤ length xs → put_at (at + length first) second (put_at at first xs) ≡ put_at at (first ++ second) xs
 put_at-put_at at first second xs room =
-    let size : length (first ++ second) ≡ length first + length second = length-append first second in
-    let inner : length (put_at at first xs) ≡ length xs = length-put_at at first xs (omega arith) in
-    let outer : length (put_at (at + length first) second (put_at at first xs)) ≡ length (put_at at first xs) = length-put_at (at + length first) second (put_at at first xs) (omega arith) in
-    let whole : length (put_at at (first ++ second) xs) ≡ length xs = length-put_at at (first ++ second) xs (omega arith) in
-    same_number_lists (put_at (at + length first) second (put_at at first xs)) (put_at at (first ++ second) xs) (outer ∙ inner ∙ sym whole)
-    (λ k less.
+    let front = take at xs ++ first in
+    let rest = drop (at + length first) xs in
+    let size : length front ≡ at + length first = front_size at first xs (omega arith) in
+    let long : at + length first + length second ≡ at + length (first ++ second) = omega (arith, length-append first second) in
+    let behind : drop (at + length first + length second) (front ++ rest) ≡ drop (at + length (first ++ second)) xs =
+    ap (λ n. drop (n + length second) (front ++ rest)) (sym size) ∙ drop-append-add front rest (length second) ∙ drop-drop (length second) (at + length first) xs ∙ ap (λ n. drop n xs) long in
+    ap (λ ys. ys ++ second ++ drop (at + length first + length second) (front ++ rest)) (take_at front rest (at + length first) size)
+    ∙ ap (λ ys. front ++ second ++ ys) behind
+    ∙ ap (λ ys. ys ++ drop (at + length (first ++ second)) xs) (append_assoc (take at xs) first second)
+
+-- what a write leaves at a place that had x
+abbrev written : (at : ℕ) (bytes : List ℕ) (x k : ℕ) → ℕ
+written at bytes x k = cond (nat_lt k at) x (cond (nat_lt k (at + length bytes)) (get_or bytes (k - at) 0) x)
+
+get_or-put_at : (at : ℕ) (bytes xs : List ℕ) (k : ℕ) → at + length bytes ≤ length xs → get_or (put_at at bytes xs) k 0 ≡ written at bytes (get_or xs k 0) k
+get_or-put_at at bytes xs k room =
     elim (cases_lt k at) [
-      | inl before ↦
-          (get_or-put_before (at + length first) second (put_at at first xs) k (omega arith) (omega arith) ∙ get_or-put_before at first xs k (omega arith) before ∙ sym (get_or-put_before at (first ++ second) xs k (omega arith) before))
+      | inl before ↦ rw (lt-ltb k at before) (get_or-put_before at bytes xs k room before)
       | inr from ↦
-          (elim (cases_lt k (at + length first)) [
-            | inl inside ↦
-                (get_or-put_before (at + length first) second (put_at at first xs) k (omega arith) inside
-                ∙ get_or-put_inside at first xs k (omega arith) from inside
-                ∙ sym (get_or_append_left first second 0 (k - at) (omega arith))
-                ∙ sym (get_or-put_inside at (first ++ second) xs k (omega arith) from (omega arith)))
-            | inr later ↦
-                (elim (cases_lt k (at + length first + length second)) [
-                  | inl inside ↦
-                      (let place : k - (at + length first) ≡ k - at - length first = omega arith in
-                      get_or-put_inside (at + length first) second (put_at at first xs) k (omega arith) later inside
-                      ∙ ap (λ n. get_or second n 0) place
-                      ∙ sym (get_or-append_right first second (length first) (k - at) 0 refl (omega arith))
-                      ∙ sym (get_or-put_inside at (first ++ second) xs k (omega arith) from (omega arith)))
-                  | inr behind ↦
-                      (get_or-put_behind (at + length first) second (put_at at first xs) k (omega arith) behind
-                      ∙ get_or-put_behind at first xs k (omega arith) later
-                      ∙ sym (get_or-put_behind at (first ++ second) xs k (omega arith) (omega arith)))
-                ])
-          ])
-    ])
+          elim (cases_lt k (at + length bytes)) [
+            | inl inside ↦ rw (le-ltb k at from, lt-ltb k (at + length bytes) inside) (get_or-put_inside at bytes xs k room from inside)
+            | inr behind ↦ rw (le-ltb k at from, le-ltb k (at + length bytes) behind) (get_or-put_behind at bytes xs k room behind)
+          ]
+    ]
+
+-- the same bytes written elsewhere leave the same there
+written-moved : (at from k j : ℕ) (bytes : List ℕ) (x : ℕ) → k + from ≡ j + at → written at bytes x k ≡ written from bytes x j
+written-moved at from k j bytes x far =
+    elim (cases_lt k at) [
+      | inl before ↦ rw (lt-ltb k at before, lt-ltb j from (omega arith)) refl
+      | inr later ↦
+          elim (cases_lt k (at + length bytes)) [
+            | inl inside ↦ (let e : k - at ≡ j - from = omega arith in rw (le-ltb k at later, le-ltb j from (omega arith), lt-ltb k (at + length bytes) inside, lt-ltb j (from + length bytes) (omega arith)) (ap (λ n. get_or bytes n 0) e))
+            | inr behind ↦ rw (le-ltb k at later, le-ltb j from (omega arith), le-ltb k (at + length bytes) behind, le-ltb j (from + length bytes) (omega arith)) refl
+          ]
+    ]
+
+written-else : (at k : ℕ) (bytes : List ℕ) (x : ℕ) → (k < at) ⊎ (at + length bytes ≤ k) → written at bytes x k ≡ x
+written-else at k bytes x apart =
+    elim apart [
+      | inl before ↦ rw (lt-ltb k at before) refl
+      | inr behind ↦ rw (le-ltb k at (omega arith), le-ltb k (at + length bytes) behind) refl
+    ]
+
+-- a run that shares no byte with a write reads as before it
+pub run-put_apart : (at from count : ℕ) (bytes xs : List ℕ) → at + length bytes ≤ length xs → from + count ≤ length xs → (from + count ≤ at) ⊎ (at + length bytes ≤ from) → take count (drop from (put_at at bytes xs)) ≡ take count (drop from xs)
+run-put_apart at from count bytes xs room inside apart =
+    let size : (ys : List ℕ) → from + count ≤ length ys → length (take count (drop from ys)) ≡ count = λ ys fits. length-take-le count (drop from ys) (omega (arith, length-drop from ys)) in
+    let read : (ys : List ℕ) (k : ℕ) → k < count → get_or (take count (drop from ys)) k 0 ≡ get_or ys (from + k) 0 = λ ys k near. get_or-take count (drop from ys) k 0 near ∙ get_or-drop from ys k 0 in
+    let one : length (take count (drop from (put_at at bytes xs))) ≡ count = size (put_at at bytes xs) (omega (arith, length-put_at at bytes xs room)) in
+    same_number_lists (take count (drop from (put_at at bytes xs))) (take count (drop from xs)) (one ∙ sym (size xs inside))
+    (λ k less.
+    let near : k < count = omega arith in
+    let clear : (from + k < at) ⊎ (at + length bytes ≤ from + k) = elim apart [ inl before ↦ inl (omega arith) | inr behind ↦ inr (omega arith) ] in
+    read (put_at at bytes xs) k near ∙ get_or-put_at at bytes xs (from + k) room ∙ written-else at (from + k) bytes (get_or xs (from + k) 0) clear ∙ sym (read xs k near))
+
+-- the bytes of a frame
+abbrev frame : List ℕ → ℕ → List ℕ
+frame pool n = take PAGE (drop (PAGE * n) pool)
 
 frame_size : (n : ℕ) (pool : List ℕ) → PAGE * n + PAGE ≤ length pool → length (take PAGE (drop (PAGE * n) pool)) ≡ PAGE
 frame_size n pool room = length-take-le PAGE (drop (PAGE * n) pool) (omega (arith, length-drop (PAGE * n) pool))
@@ -136,162 +165,89 @@ run-contents frames pool numbers at count size below inside within =
     ∙ ap (λ n. get_or pool n 0) place
     ∙ sym (get_or-take count (drop from pool) k 0 near ∙ get_or-drop from pool k 0))
 
--- a byte of another frame than the one that is written
-other_frame : (frames n m offset k : ℕ) (bytes pool : List ℕ) → length pool ≡ PAGE * frames → n < frames → offset + length bytes ≤ PAGE → (m ≡ n → ⊥) → k < PAGE → get_or (put_at (PAGE * n + offset) bytes pool) (PAGE * m + k) 0 ≡ get_or pool (PAGE * m + k) 0
-other_frame frames n m offset k bytes pool size inside within other less =
-    elim (cases_lt m n) [
-      | inl before ↦ get_or-put_before (PAGE * n + offset) bytes pool (PAGE * m + k) (omega arith) (omega arith)
-      | inr from ↦ get_or-put_behind (PAGE * n + offset) bytes pool (PAGE * m + k) (omega arith) (omega arith)
-    ]
+-- spaces whose frames have the same bytes
+contents-same : (pool after numbers others : List ℕ) → length others ≡ length numbers → ((k : ℕ) → k < length numbers → frame after (get_or others k 0) ≡ frame pool (get_or numbers k 0)) → contents after others ≡ contents pool numbers
+contents-same pool after [] [] long same = refl
+contents-same pool after [] (m ∷ others) long same = absurd (omega arith)
+contents-same pool after (n ∷ numbers) [] long same = absurd (omega arith)
+contents-same pool after (n ∷ numbers) (m ∷ others) long same =
+    ap (λ xs. xs ++ contents after others) (same 0 (omega arith)) ∙ ap (λ xs. frame pool n ++ xs) (contents-same pool after numbers others (omega arith) (λ k less. same (suc k) (omega arith)))
+
+-- another frame than the one that is written
+frame-apart : (frames n m at : ℕ) (bytes pool : List ℕ) → length pool ≡ PAGE * frames → n < frames → m < frames → PAGE * n ≤ at → at + length bytes ≤ PAGE * n + PAGE → (m ≡ n → ⊥) → frame (put_at at bytes pool) m ≡ frame pool m
+frame-apart frames n m at bytes pool size inside near low high other =
+    let apart : (PAGE * m + PAGE ≤ at) ⊎ (at + length bytes ≤ PAGE * m) = elim (cases_lt m n) [ inl before ↦ inl (omega arith) | inr from ↦ inr (omega arith) ] in
+    run-put_apart at (PAGE * m) PAGE bytes pool (omega arith) (omega arith) apart
 
 -- a write into a frame that no page has
-pub contents-put_apart : (frames n offset : ℕ) (bytes pool numbers : List ℕ) → length pool ≡ PAGE * frames → AreBelow frames numbers → n < frames → offset + length bytes ≤ PAGE → ((k : ℕ) → k < length numbers → get_or numbers k 0 ≡ n → ⊥) → contents (put_at (PAGE * n + offset) bytes pool) numbers ≡ contents pool numbers
-contents-put_apart frames n offset bytes pool numbers size below inside within apart =
-    let after = put_at (PAGE * n + offset) bytes pool in
-    let same : length after ≡ PAGE * frames = length-put_at (PAGE * n + offset) bytes pool (omega arith) ∙ size in
-    let one : length (contents after numbers) ≡ PAGE * length numbers = length-contents frames after numbers same below in
-    same_number_lists (contents after numbers) (contents pool numbers) (one ∙ sym (length-contents frames pool numbers size below))
-    (λ k less.
-    let near : k < PAGE * length numbers = omega arith in
-    let page : k / PAGE < length numbers = omega arith in
-    let rest : k % PAGE < PAGE = omega arith in
-    get_or-contents frames after numbers k same below near
-    ∙ other_frame frames n (get_or numbers (k / PAGE) 0) offset (k % PAGE) bytes pool size inside within (apart (k / PAGE) page) rest
-    ∙ sym (get_or-contents frames pool numbers k size below near))
+pub contents-put_apart : (frames n at : ℕ) (bytes pool numbers : List ℕ) → length pool ≡ PAGE * frames → AreBelow frames numbers → n < frames → PAGE * n ≤ at → at + length bytes ≤ PAGE * n + PAGE → ((k : ℕ) → k < length numbers → get_or numbers k 0 ≡ n → ⊥) → contents (put_at at bytes pool) numbers ≡ contents pool numbers
+contents-put_apart frames n at bytes pool numbers size below inside low high apart =
+    contents-same pool (put_at at bytes pool) numbers numbers refl (λ k less. frame-apart frames n (get_or numbers k 0) at bytes pool size inside (below k less) low high (apart k less))
 
 -- a write into the frame of one page
 pub contents-put_here : (frames : ℕ) (bytes pool numbers : List ℕ) (at : ℕ) → length pool ≡ PAGE * frames → AreBelow frames numbers → IsOnce numbers → at < PAGE * length numbers → at % PAGE + length bytes ≤ PAGE → contents (put_at (PAGE * get_or numbers (at / PAGE) 0 + at % PAGE) bytes pool) numbers ≡ put_at at bytes (contents pool numbers)
 contents-put_here frames bytes pool numbers at size below once inside within =
-    let page = at / PAGE in
-    let here : page < length numbers = omega arith in
-    let number : get_or numbers page 0 < frames = below page here in
-    let from = PAGE * get_or numbers page 0 + at % PAGE in
+    let n = get_or numbers (at / PAGE) 0 in
+    let number : n < frames = below (at / PAGE) (omega arith) in
+    let from = PAGE * n + at % PAGE in
     let after = put_at from bytes pool in
     let same : length after ≡ PAGE * frames = length-put_at from bytes pool (omega arith) ∙ size in
-    let one : length (contents after numbers) ≡ PAGE * length numbers = length-contents frames after numbers same below in
+    let many : length (contents after numbers) ≡ PAGE * length numbers = length-contents frames after numbers same below in
     let whole : length (contents pool numbers) ≡ PAGE * length numbers = length-contents frames pool numbers size below in
-    let other : length (put_at at bytes (contents pool numbers)) ≡ length (contents pool numbers) = length-put_at at bytes (contents pool numbers) (omega arith) in
-    same_number_lists (contents after numbers) (put_at at bytes (contents pool numbers)) (one ∙ sym whole ∙ sym other)
+    same_number_lists (contents after numbers) (put_at at bytes (contents pool numbers)) (many ∙ sym whole ∙ sym (length-put_at at bytes (contents pool numbers) (omega arith)))
     (λ k less.
     let near : k < PAGE * length numbers = omega arith in
-    let there : k / PAGE < length numbers = omega arith in
-    let rest : k % PAGE < PAGE = omega arith in
-    let read : get_or (contents after numbers) k 0 ≡ get_or after (PAGE * get_or numbers (k / PAGE) 0 + k % PAGE) 0 = get_or-contents frames after numbers k same below near in
-    let plain : get_or (contents pool numbers) k 0 ≡ get_or pool (PAGE * get_or numbers (k / PAGE) 0 + k % PAGE) 0 = get_or-contents frames pool numbers k size below near in
-    elim (cases_eq (k / PAGE) page) [
-      | inl is ↦
-          (let place : PAGE * get_or numbers (k / PAGE) 0 + k % PAGE ≡ PAGE * get_or numbers page 0 + k % PAGE = ap (λ p. PAGE * get_or numbers p 0 + k % PAGE) is in
-          elim (cases_lt k at) [
-            | inl before ↦
-                (read ∙ ap (λ n. get_or after n 0) place
-                ∙ get_or-put_before from bytes pool (PAGE * get_or numbers page 0 + k % PAGE) (omega arith) (omega arith)
-                ∙ sym (ap (λ n. get_or pool n 0) place) ∙ sym plain
-                ∙ sym (get_or-put_before at bytes (contents pool numbers) k (omega arith) before))
-            | inr later ↦
-                (elim (cases_lt k (at + length bytes)) [
-                  | inl inside ↦
-                      (let offset : PAGE * get_or numbers page 0 + k % PAGE - from ≡ k - at = omega arith in
-                      read ∙ ap (λ n. get_or after n 0) place
-                      ∙ get_or-put_inside from bytes pool (PAGE * get_or numbers page 0 + k % PAGE) (omega arith) (omega arith) (omega arith)
-                      ∙ ap (λ n. get_or bytes n 0) offset
-                      ∙ sym (get_or-put_inside at bytes (contents pool numbers) k (omega arith) later inside))
-                  | inr behind ↦
-                      (read ∙ ap (λ n. get_or after n 0) place
-                      ∙ get_or-put_behind from bytes pool (PAGE * get_or numbers page 0 + k % PAGE) (omega arith) (omega arith)
-                      ∙ sym (ap (λ n. get_or pool n 0) place) ∙ sym plain
-                      ∙ sym (get_or-put_behind at bytes (contents pool numbers) k (omega arith) behind))
-                ])
-          ])
+    let m = get_or numbers (k / PAGE) 0 in
+    let there : m < frames = below (k / PAGE) (omega arith) in
+    let x = get_or (contents pool numbers) k 0 in
+    let moved : written from bytes x (PAGE * m + k % PAGE) ≡ written at bytes x k =
+    elim (cases_eq (k / PAGE) (at / PAGE)) [
+      | inl is ↦ (let m_is : m ≡ n = ap (λ p. get_or numbers p 0) is in written-moved from at (PAGE * m + k % PAGE) k bytes x (omega arith))
       | inr apart ↦
-          (let unlike : get_or numbers (k / PAGE) 0 ≡ get_or numbers page 0 → ⊥ = λ e. apart (once (k / PAGE) page there here e) in
-          read
-          ∙ other_frame frames (get_or numbers page 0) (get_or numbers (k / PAGE) 0) (at % PAGE) (k % PAGE) bytes pool size number within unlike rest
-          ∙ sym plain
-          ∙ elim (cases_lt k at) [
-            | inl before ↦ sym (get_or-put_before at bytes (contents pool numbers) k (omega arith) before)
-            | inr later ↦ sym (get_or-put_behind at bytes (contents pool numbers) k (omega arith) (omega arith))
-          ])
-    ])
+          (let unlike : m ≡ n → ⊥ = λ e. apart (once (k / PAGE) (at / PAGE) (omega arith) (omega arith) e) in
+          let far : (PAGE * m + k % PAGE < from) ⊎ (from + length bytes ≤ PAGE * m + k % PAGE) = elim (cases_lt m n) [ inl before ↦ inl (omega arith) | inr behind ↦ inr (omega arith) ] in
+          let clear : (k < at) ⊎ (at + length bytes ≤ k) = elim (cases_lt k at) [ inl before ↦ inl before | inr behind ↦ inr (omega arith) ] in
+          written-else from (PAGE * m + k % PAGE) bytes x far ∙ sym (written-else at k bytes x clear))
+    ] in
+    get_or-contents frames after numbers k same below near
+    ∙ get_or-put_at from bytes pool (PAGE * m + k % PAGE) (omega arith)
+    ∙ ap (λ y. written from bytes y (PAGE * m + k % PAGE)) (sym (get_or-contents frames pool numbers k size below near))
+    ∙ moved
+    ∙ sym (get_or-put_at at bytes (contents pool numbers) k (omega arith)))
 
 -- the pool with one frame copied to another
 abbrev pub copied : List ℕ → ℕ → ℕ → List ℕ
-copied pool from to = put_at (PAGE * to) (take PAGE (drop (PAGE * from) pool)) pool
+copied pool from to = put_at (PAGE * to) (frame pool from) pool
 
-pub copy_within-copied : (frames from to : ℕ) (pool : List ℕ) → length pool ≡ PAGE * frames → from < frames → to < frames → take (PAGE * to) pool ++ take PAGE (drop (PAGE * from) pool) ++ drop (PAGE * to + PAGE) pool ≡ copied pool from to
-copy_within-copied frames from to pool size one other =
-    let frame : length (take PAGE (drop (PAGE * from) pool)) ≡ PAGE = frame_size from pool (omega arith) in
-    ap (λ n. take (PAGE * to) pool ++ take PAGE (drop (PAGE * from) pool) ++ drop (PAGE * to + n) pool) (sym frame)
+pub copy_within-copied : (frames from to : ℕ) (pool : List ℕ) → length pool ≡ PAGE * frames → from < frames → take (PAGE * to) pool ++ frame pool from ++ drop (PAGE * to + PAGE) pool ≡ copied pool from to
+copy_within-copied frames from to pool size one = ap (λ n. take (PAGE * to) pool ++ frame pool from ++ drop (PAGE * to + n) pool) (sym (frame_size from pool (omega arith)))
 
 pub length-copied : (frames from to : ℕ) (pool : List ℕ) → length pool ≡ PAGE * frames → from < frames → to < frames → length (copied pool from to) ≡ length pool
-length-copied frames from to pool size one other =
-    let frame : length (take PAGE (drop (PAGE * from) pool)) ≡ PAGE = frame_size from pool (omega arith) in
-    length-put_at (PAGE * to) (take PAGE (drop (PAGE * from) pool)) pool (omega arith)
+length-copied frames from to pool size one other = length-put_at (PAGE * to) (frame pool from) pool (omega (arith, frame_size from pool (omega arith)))
 
 pub contents-copied_apart : (frames from to : ℕ) (pool numbers : List ℕ) → length pool ≡ PAGE * frames → AreBelow frames numbers → from < frames → to < frames → ((k : ℕ) → k < length numbers → get_or numbers k 0 ≡ to → ⊥) → contents (copied pool from to) numbers ≡ contents pool numbers
 contents-copied_apart frames from to pool numbers size below one other apart =
-    let frame : length (take PAGE (drop (PAGE * from) pool)) ≡ PAGE = frame_size from pool (omega arith) in
-    let place : PAGE * to + 0 ≡ PAGE * to = omega arith in
-    ap (λ n. contents (put_at n (take PAGE (drop (PAGE * from) pool)) pool) numbers) (sym place)
-    ∙ contents-put_apart frames to 0 (take PAGE (drop (PAGE * from) pool)) pool numbers size below other (omega arith) apart
+    let many : length (frame pool from) ≡ PAGE = frame_size from pool (omega arith) in
+    contents-put_apart frames to (PAGE * to) (frame pool from) pool numbers size below other (omega arith) (omega arith) apart
 
 -- a page that moves to a copy of its frame has the same bytes there
 pub contents-copied : (frames page to : ℕ) (pool numbers : List ℕ) → length pool ≡ PAGE * frames → AreBelow frames numbers → page < length numbers → to < frames → ((k : ℕ) → k < length numbers → get_or numbers k 0 ≡ to → ⊥) → contents (copied pool (get_or numbers page 0) to) (set numbers page to) ≡ contents pool numbers
 contents-copied frames page to pool numbers size below here other apart =
     let from = get_or numbers page 0 in
     let number : from < frames = below page here in
-    let frame : length (take PAGE (drop (PAGE * from) pool)) ≡ PAGE = frame_size from pool (omega arith) in
-    let after = copied pool from to in
-    let same : length after ≡ PAGE * frames = length-copied frames from to pool size number other ∙ size in
-    let many : length (set numbers page to) ≡ length numbers = length-set numbers page to in
-    let below' : AreBelow frames (set numbers page to) =
-    λ k less.
+    let many : length (frame pool from) ≡ PAGE = frame_size from pool (omega arith) in
+    let front : length (take (PAGE * to) pool) ≡ PAGE * to = length-take-le (PAGE * to) pool (omega arith) in
+    let rest = drop (PAGE * to + length (frame pool from)) pool in
+    let new : frame (copied pool from to) to ≡ frame pool from =
+    ap (λ xs. take PAGE (drop (PAGE * to) xs)) (append_assoc (take (PAGE * to) pool) (frame pool from) rest)
+    ∙ ap (λ n. take PAGE (drop n (take (PAGE * to) pool ++ (frame pool from ++ rest)))) (sym front)
+    ∙ ap (take PAGE) (drop-append_seam (take (PAGE * to) pool) (frame pool from ++ rest))
+    ∙ take_at (frame pool from) rest PAGE many in
+    contents-same pool (copied pool from to) numbers (set numbers page to) (length-set numbers page to)
+    (λ k less.
     elim (cases_eq k page) [
-      | inl is ↦ subst (λ m. get_or (set numbers page to) m 0 < frames) (sym is) (subst (λ m. m < frames) (sym (get_or-set_same numbers page to 0 here)) other)
-      | inr isnt ↦ subst (λ m. m < frames) (sym (get_or-set_other numbers page k to 0 isnt)) (below k (omega arith))
-    ] in
-    let one : length (contents after (set numbers page to)) ≡ PAGE * length (set numbers page to) = length-contents frames after (set numbers page to) same below' in
-    let whole : length (contents pool numbers) ≡ PAGE * length numbers = length-contents frames pool numbers size below in
-    same_number_lists (contents after (set numbers page to)) (contents pool numbers) (omega arith)
-    (λ k less.
-    let near : k < PAGE * length numbers = omega arith in
-    let there : k / PAGE < length numbers = omega arith in
-    let rest : k % PAGE < PAGE = omega arith in
-    let read : get_or (contents after (set numbers page to)) k 0 ≡ get_or after (PAGE * get_or (set numbers page to) (k / PAGE) 0 + k % PAGE) 0 = get_or-contents frames after (set numbers page to) k same below' (omega arith) in
-    let plain : get_or (contents pool numbers) k 0 ≡ get_or pool (PAGE * get_or numbers (k / PAGE) 0 + k % PAGE) 0 = get_or-contents frames pool numbers k size below near in
-    elim (cases_eq (k / PAGE) page) [
-      | inl is ↦
-          (let at : get_or (set numbers page to) (k / PAGE) 0 ≡ to = ap (λ p. get_or (set numbers page to) p 0) is ∙ get_or-set_same numbers page to 0 here in
-          let offset : PAGE * to + k % PAGE - PAGE * to ≡ k % PAGE = omega arith in
-          read ∙ ap (λ n. get_or after (PAGE * n + k % PAGE) 0) at
-          ∙ get_or-put_inside (PAGE * to) (take PAGE (drop (PAGE * from) pool)) pool (PAGE * to + k % PAGE) (omega arith) (omega arith) (omega arith)
-          ∙ ap (λ n. get_or (take PAGE (drop (PAGE * from) pool)) n 0) offset
-          ∙ get_or-take PAGE (drop (PAGE * from) pool) (k % PAGE) 0 rest
-          ∙ get_or-drop (PAGE * from) pool (k % PAGE) 0
-          ∙ ap (λ p. get_or pool (PAGE * get_or numbers p 0 + k % PAGE) 0) (sym is)
-          ∙ sym plain)
+      | inl is ↦ subst (λ p. frame (copied pool from to) (get_or (set numbers page to) p 0) ≡ frame pool (get_or numbers p 0)) (sym is) (ap (frame (copied pool from to)) (get_or-set_same numbers page to 0 here) ∙ new)
       | inr isnt ↦
-          (let at : get_or (set numbers page to) (k / PAGE) 0 ≡ get_or numbers (k / PAGE) 0 = get_or-set_other numbers page (k / PAGE) to 0 isnt in
-          let place : PAGE * to + 0 ≡ PAGE * to = omega arith in
-          read ∙ ap (λ n. get_or after (PAGE * n + k % PAGE) 0) at
-          ∙ ap (λ n. get_or (put_at n (take PAGE (drop (PAGE * from) pool)) pool) (PAGE * get_or numbers (k / PAGE) 0 + k % PAGE) 0) (sym place)
-          ∙ other_frame frames to (get_or numbers (k / PAGE) 0) 0 (k % PAGE) (take PAGE (drop (PAGE * from) pool)) pool size other (omega arith) (apart (k / PAGE) there) rest
-          ∙ sym plain)
+          (ap (frame (copied pool from to)) (get_or-set_other numbers page k to 0 isnt)
+          ∙ frame-apart frames to (get_or numbers k 0) (PAGE * to) (frame pool from) pool size other (below k less) (omega arith) (omega arith) (apart k less))
     ])
-
--- a run that shares no byte with a write reads as before it
-pub run-put_apart : (at from count : ℕ) (bytes xs : List ℕ) → at + length bytes ≤ length xs → from + count ≤ length xs → (from + count ≤ at) ⊎ (at + length bytes ≤ from) → take count (drop from (put_at at bytes xs)) ≡ take count (drop from xs)
-run-put_apart at from count bytes xs room inside apart =
-    let one : length (take count (drop from (put_at at bytes xs))) ≡ count = length-take-le count (drop from (put_at at bytes xs)) (omega (arith, length-drop from (put_at at bytes xs), length-put_at at bytes xs room)) in
-    let other : length (take count (drop from xs)) ≡ count = length-take-le count (drop from xs) (omega (arith, length-drop from xs)) in
-    same_number_lists (take count (drop from (put_at at bytes xs))) (take count (drop from xs)) (one ∙ sym other)
-    (λ k less.
-    let near : k < count = omega arith in
-    let same : get_or (put_at at bytes xs) (from + k) 0 ≡ get_or xs (from + k) 0 =
-    elim apart [
-      | inl before ↦ get_or-put_before at bytes xs (from + k) room (omega arith)
-      | inr behind ↦ get_or-put_behind at bytes xs (from + k) room (omega arith)
-    ] in
-    get_or-take count (drop from (put_at at bytes xs)) k 0 near
-    ∙ get_or-drop from (put_at at bytes xs) k 0
-    ∙ same
-    ∙ sym (get_or-take count (drop from xs) k 0 near ∙ get_or-drop from xs k 0))

@@ -149,7 +149,7 @@ put_done {parts = parts} {old = old} {at = at} {bytes = bytes} o e some within =
     let pool = put_at (PAGE * n + at % PAGE) bytes parts.pool in
     subst (λ xs. Writes old (pages_of (record parts { pool = xs })) at bytes) (sym (e ∙ ap (λ m. put_at m bytes parts.pool) o.stands.there))
     (owned_write old (pages_of parts) (pages_of (record parts { pool = pool })) at bytes some within (omega (arith, o.stands.inside, o.owns.pages)) o.owns refl refl
-    (slots_same parts.pages parts.frames n so.tables.homes parts.pool pool parts.slots so.tables.homes_size so.tables.slot_tables none (λ table under gone. contents-put_apart parts.frames n (at % PAGE) bytes parts.pool table so.pool_size under (live_below so (at / PAGE) (omega arith)) within (not-at n table gone)))
+    (slots_same parts.pages parts.frames n so.tables.homes parts.pool pool parts.slots so.tables.homes_size so.tables.slot_tables none (λ table under gone. contents-put_apart parts.frames n (PAGE * n + at % PAGE) bytes parts.pool table so.pool_size under (live_below so (at / PAGE) (omega arith)) (omega arith) (omega (arith, within)) (not-at n table gone)))
     refl
     (contents-put_here parts.frames bytes parts.pool parts.live at so.pool_size (live_below so) (table_home so.tables.live_table so.tables.live_table) near within))
 
