@@ -29,8 +29,7 @@ top_below counts live rest fresh so =
     subst (λ n. n < length counts) (get_or_push rest fresh 0 (length rest) refl) (so.below (length rest) inside)
 
 free_test : (b : Bool) → 0 < cond b 0 1 → b ≡ false
-free_test true h = absurd (omega arith)
-free_test false h = refl
+free_test b some = grind arith
 
 pub top_unused : (counts live rest : List ℕ) (fresh : ℕ) → IsStack counts live (rest ++ fresh ∷ []) → in_use counts live fresh ≡ false
 top_unused counts live rest fresh so =

@@ -1,7 +1,8 @@
 -- How many times a number stands in a list, and how many different ones do.
+use Rattle.std.proofs.lemmas.Bool.Decides.{nat_tests}
 use Rattle.std.proofs.Math.Bool.{or_assoc}
 use Rattle.std.proofs.Math.ListN.{set}
-use Rattle.cow_pages.proofs.Terms.{Bool, List, [], ap, arith, cases_lt, get_or_append_left, get_or-append_right, length-append, le-ltb, ◌-◌, cond, drop, false, get_or, inl, inr, length, nat_lt, refl, subst, suc, sym, take, true, zero, ℕ, ◌++◌, ◌+◌, ◌<◌, ◌==◌, ◌||◌, ◌∙◌, ◌∷◌, ◌≡◌, ◌≤◌, cases_Bool, cases_eq, eq-eqb, eqb-true, false_from_ne_true, lt-ltb, ltb-false, ltb-true, ne_eqb, or_cases, or_left, or_right, take-append-drop, different, has, places}
+use Rattle.cow_pages.proofs.Terms.{common_steps, Bool, List, [], ap, arith, cases_lt, get_or_append_left, get_or-append_right, length-append, le-ltb, ◌-◌, cond, drop, false, get_or, inl, inr, length, nat_lt, refl, subst, suc, sym, take, true, zero, ℕ, ◌++◌, ◌+◌, ◌<◌, ◌==◌, ◌||◌, ◌∙◌, ◌∷◌, ◌≡◌, ◌≤◌, cases_Bool, cases_eq, eq-eqb, eqb-true, false_from_ne_true, lt-ltb, ltb-false, ltb-true, ne_eqb, or_cases, or_left, or_right, take-append-drop, different, has, places}
 
 -- each element of a list is below a number
 abbrev pub AreBelow : ℕ → List ℕ → Type 0
@@ -30,10 +31,10 @@ places-take-drop n i xs = sym (places-append n (take i xs) (drop i xs)) ∙ ap (
 
 -- a number stands once more in a list with it in front
 pub places-here : (x : ℕ) (xs : List ℕ) → places x (x ∷ xs) ≡ 1 + places x xs
-places-here x xs = ap (λ b. cond b 1 0 + places x xs) (eq-eqb x x refl)
+places-here x xs = grind (arith, nat_tests)
 
 pub places-there : (n x : ℕ) (xs : List ℕ) → (x ≡ n → ⊥) → places n (x ∷ xs) ≡ places n xs
-places-there n x xs other = let e : 0 + places n xs ≡ places n xs = omega arith in ap (λ b. cond b 1 0 + places n xs) (ne_eqb x n other) ∙ e
+places-there n x xs other = grind (arith, nat_tests)
 
 -- a number is in a list if it stands there at least once
 pub has-is : (n : ℕ) (xs : List ℕ) → has n xs ≡ nat_lt 0 (places n xs)
@@ -102,8 +103,7 @@ occupied-above (suc k) x xs above =
     rw other (ap (λ n. n + cond (has k xs) 1 0) fewer)
 
 turned : (b : Bool) (n : ℕ) → n + 1 ≡ n + cond b 1 0 + cond b 0 1
-turned true n = omega arith
-turned false n = omega arith
+turned b n = grind arith
 
 occupied-cons : (k x : ℕ) (xs : List ℕ) → x < k → occupied k (x ∷ xs) ≡ occupied k xs + cond (has x xs) 0 1
 occupied-cons zero x xs less = absurd (omega arith)
@@ -120,8 +120,7 @@ occupied-cons (suc k) x xs less =
     ]
 
 chosen : (b : Bool) (n : ℕ) → cond b n (n + 1) ≡ n + cond b 0 1
-chosen true n = omega arith
-chosen false n = refl
+chosen b n = grind arith
 
 pub different-front : (x : ℕ) (xs : List ℕ) → different (x ∷ xs) ≡ different xs + cond (nat_lt 0 (places x xs)) 0 1
 different-front x xs = ap (λ b. cond b (different xs) (different xs + 1)) (has-is x xs) ∙ chosen (nat_lt 0 (places x xs)) (different xs)
@@ -198,11 +197,7 @@ occupied-all (suc k) xs each =
     rw (each k (omega arith)) (omega arith)
 
 pub below_append : (top : ℕ) (xs ys : List ℕ) → AreBelow top xs → AreBelow top ys → AreBelow top (xs ++ ys)
-below_append top xs ys bx by k less =
-    elim (cases_lt k (length xs)) [
-      | inl first ↦ subst (λ n. n < top) (sym (get_or_append_left xs ys 0 k first)) (bx k first)
-      | inr later ↦ subst (λ n. n < top) (sym (get_or-append_right xs ys (length xs) k 0 refl later)) (by (k - length xs) (omega (arith, length-append xs ys)))
-    ]
+below_append top xs ys bx by k less = grind (arith, common_steps)
 
 -- the free numbers and the different ones in use are all numbers below the limit
 pub length-free : (top : ℕ) (free xs : List ℕ) → AreBelow top free → AreBelow top xs → ((n : ℕ) → n < top → places n free ≡ cond (has n xs) 0 1) → length free + different xs ≡ top

@@ -1,6 +1,7 @@
 -- Bytes of frames: reading them, writing some, and copying a frame.
+use Rattle.std.proofs.lemmas.Bool.Decides.{nat_tests}
 use Rattle.std.proofs.Math.Seq.{drop-append-add, drop-append_seam}
-use Rattle.cow_pages.proofs.Terms.{List, [], ap, arith, cond, nat_lt, le-ltb, lt-ltb, take_at, drop, get_or, inl, inr, length, refl, set, subst, suc, sym, take, ℕ, ◌%◌, ◌*◌, ◌++◌, ◌+◌, ◌-◌, ◌/◌, ◌<◌, ◌∙◌, ◌∷◌, ◌≡◌, ◌≤◌, ◌⊎◌, cases_eq, cases_lt, same_number_lists, append_assoc, drop-drop, get_or-append_right, get_or-drop, get_or-set_other, get_or-set_same, get_or-take, get_or_append_left, length-append, length-drop, length-set, length-take-le, set_split, PAGE, put_at, contents}
+use Rattle.cow_pages.proofs.Terms.{common_steps, List, [], ap, arith, cond, nat_lt, le-ltb, lt-ltb, take_at, drop, get_or, inl, inr, length, refl, set, subst, suc, sym, take, ℕ, ◌%◌, ◌*◌, ◌++◌, ◌+◌, ◌-◌, ◌/◌, ◌<◌, ◌∙◌, ◌∷◌, ◌≡◌, ◌≤◌, ◌⊎◌, cases_eq, cases_lt, same_number_lists, append_assoc, drop-drop, get_or-append_right, get_or-drop, get_or-set_other, get_or-set_same, get_or-take, get_or_append_left, length-append, length-drop, length-set, length-take-le, set_split, PAGE, put_at, contents}
 use Rattle.cow_pages.proofs.Counting.{AreBelow, below_tail, below_head}
 
 -- no number stands at two places of a list
@@ -8,32 +9,19 @@ abbrev pub IsOnce : List ℕ → Type 0
 IsOnce xs = (k j : ℕ) → k < length xs → j < length xs → get_or xs k 0 ≡ get_or xs j 0 → k ≡ j
 
 front_size : (at : ℕ) (bytes xs : List ℕ) → at + length bytes ≤ length xs → length (take at xs ++ bytes) ≡ at + length bytes
-front_size at bytes xs room =
-    let size : length (take at xs) ≡ at = length-take-le at xs (omega arith) in
-    length-append (take at xs) bytes ∙ ap (λ n. n + length bytes) size
+front_size at bytes xs room = grind (arith, common_steps)
 
 pub length-put_at : (at : ℕ) (bytes xs : List ℕ) → at + length bytes ≤ length xs → length (put_at at bytes xs) ≡ length xs
-length-put_at at bytes xs room =
-    omega (arith, length-append (take at xs ++ bytes) (drop (at + length bytes) xs), front_size at bytes xs room, length-drop (at + length bytes) xs)
+length-put_at at bytes xs room = grind (arith, common_steps)
 
 pub get_or-put_before : (at : ℕ) (bytes xs : List ℕ) (k : ℕ) → at + length bytes ≤ length xs → k < at → get_or (put_at at bytes xs) k 0 ≡ get_or xs k 0
-get_or-put_before at bytes xs k room less =
-    let size : length (take at xs) ≡ at = length-take-le at xs (omega arith) in
-    get_or_append_left (take at xs ++ bytes) (drop (at + length bytes) xs) 0 k (omega (arith, front_size at bytes xs room))
-    ∙ get_or_append_left (take at xs) bytes 0 k (omega arith)
-    ∙ get_or-take at xs k 0 less
+get_or-put_before at bytes xs k room less = grind (arith, common_steps)
 
 pub get_or-put_inside : (at : ℕ) (bytes xs : List ℕ) (k : ℕ) → at + length bytes ≤ length xs → at ≤ k → k < at + length bytes → get_or (put_at at bytes xs) k 0 ≡ get_or bytes (k - at) 0
-get_or-put_inside at bytes xs k room from less =
-    get_or_append_left (take at xs ++ bytes) (drop (at + length bytes) xs) 0 k (omega (arith, front_size at bytes xs room))
-    ∙ get_or-append_right (take at xs) bytes at k 0 (length-take-le at xs (omega arith)) from
+get_or-put_inside at bytes xs k room from less = grind (arith, common_steps)
 
 pub get_or-put_behind : (at : ℕ) (bytes xs : List ℕ) (k : ℕ) → at + length bytes ≤ length xs → at + length bytes ≤ k → get_or (put_at at bytes xs) k 0 ≡ get_or xs k 0
-get_or-put_behind at bytes xs k room from =
-    let place : at + length bytes + (k - (at + length bytes)) ≡ k = omega arith in
-    get_or-append_right (take at xs ++ bytes) (drop (at + length bytes) xs) (at + length bytes) k 0 (front_size at bytes xs room) from
-    ∙ get_or-drop (at + length bytes) xs (k - (at + length bytes)) 0
-    ∙ ap (λ n. get_or xs n 0) place
+get_or-put_behind at bytes xs k room from = grind (arith, common_steps)
 
 -- one byte written
 pub set-put_at : (xs : List ℕ) (at byte : ℕ) → at < length xs → set xs at byte ≡ put_at at (byte ∷ []) xs
@@ -43,9 +31,7 @@ set-put_at xs at byte less =
 
 -- a part written
 pub part-put_at : (xs bytes : List ℕ) (at count : ℕ) → length bytes ≡ count → take at xs ++ (bytes ++ drop count (drop at xs)) ≡ put_at at bytes xs
-part-put_at xs bytes at count size =
-    ap (λ ys. take at xs ++ (bytes ++ ys)) (drop-drop count at xs ∙ ap (λ n. drop (at + n) xs) (sym size))
-    ∙ sym (append_assoc (take at xs) bytes (drop (at + length bytes) xs))
+part-put_at xs bytes at count size = grind (arith, common_steps)
 
 -- two writes, one right behind the other
 pub put_at-put_at : (at : ℕ) (first second xs : List ℕ) → at + length first + length second ≤ length xs → put_at (at + length first) second (put_at at first xs) ≡ put_at at (first ++ second) xs
@@ -77,22 +63,10 @@ get_or-put_at at bytes xs k room =
 
 -- the same bytes written elsewhere leave the same there
 written-moved : (at from k j : ℕ) (bytes : List ℕ) (x : ℕ) → k + from ≡ j + at → written at bytes x k ≡ written from bytes x j
-written-moved at from k j bytes x far =
-    elim (cases_lt k at) [
-      | inl before ↦ rw (lt-ltb k at before, lt-ltb j from (omega arith)) refl
-      | inr later ↦
-          elim (cases_lt k (at + length bytes)) [
-            | inl inside ↦ (let e : k - at ≡ j - from = omega arith in rw (le-ltb k at later, le-ltb j from (omega arith), lt-ltb k (at + length bytes) inside, lt-ltb j (from + length bytes) (omega arith)) (ap (λ n. get_or bytes n 0) e))
-            | inr behind ↦ rw (le-ltb k at later, le-ltb j from (omega arith), le-ltb k (at + length bytes) behind, le-ltb j (from + length bytes) (omega arith)) refl
-          ]
-    ]
+written-moved at from k j bytes x far = grind (arith, nat_tests)
 
 written-else : (at k : ℕ) (bytes : List ℕ) (x : ℕ) → (k < at) ⊎ (at + length bytes ≤ k) → written at bytes x k ≡ x
-written-else at k bytes x apart =
-    elim apart [
-      | inl before ↦ rw (lt-ltb k at before) refl
-      | inr behind ↦ rw (le-ltb k at (omega arith), le-ltb k (at + length bytes) behind) refl
-    ]
+written-else at k bytes x apart = grind (arith, nat_tests)
 
 -- a run that shares no byte with a write reads as before it
 pub run-put_apart : (at from count : ℕ) (bytes xs : List ℕ) → at + length bytes ≤ length xs → from + count ≤ length xs → (from + count ≤ at) ⊎ (at + length bytes ≤ from) → take count (drop from (put_at at bytes xs)) ≡ take count (drop from xs)

@@ -15,26 +15,19 @@ inside_more pages page i recent so less = record {
 
 one_moved : (pages count after page fresh : ℕ) (recent live : List ℕ) (slot : Slot) → AreInside pages recent → (count < MOST → after ≡ count + 1) → (MOST ≤ count → after ≡ count) → IsLogged count recent live slot → IsLogged after (set recent (count % RECENT) page) (set live page fresh) slot
 one_moved pages count after page fresh recent live slot kept rise still so = record {
-  seen = λ saved.
-      elim (cases_lt count MOST) [
-        | inl under ↦ omega (arith, so.seen saved, rise under)
-        | inr past ↦ omega (arith, so.seen saved, still past)
-      ];
+  seen = λ saved. elim (cases_lt count MOST) [ inl under ↦ omega (arith, so.seen saved, rise under) | inr past ↦ omega (arith, so.seen saved, still past) ];
   moved = λ saved few short k inside other.
-      elim (cases_lt count MOST) [
-        | inl under ↦
-            (let up : after ≡ count + 1 = rise under in
-            elim (cases_eq page k) [
-              | inl here ↦ (count, so.seen saved, omega arith, get_or-set_same recent (count % RECENT) page 0 (omega (arith, kept.size)) ∙ here)
-              | inr away ↦
-                  (let back : get_or (set live page fresh) k 0 ≡ get_or live k 0 = get_or-set_other live page k fresh 0 (λ e. away (sym e)) in
-                  let found = so.moved saved under (omega arith) k (omega (arith, length-set live page fresh)) (λ e. other (e ∙ sym back)) in
-                  let from : slot.seen ≤ found.0 = found.1 in
-                  let to : found.0 < count = found.2 in
-                  let apart : found.0 % RECENT ≡ count % RECENT → ⊥ = λ e. omega arith in
-                  (found.0, from, omega arith, get_or-set_other recent (count % RECENT) (found.0 % RECENT) page 0 apart ∙ found.3))
-            ])
-        | inr past ↦ absurd (omega (arith, still past))
+      let under : count < MOST = elim (cases_lt count MOST) [ inl less ↦ less | inr past ↦ absurd (omega (arith, still past)) ] in
+      let up : after ≡ count + 1 = rise under in
+      elim (cases_eq page k) [
+        | inl here ↦ (count, so.seen saved, omega arith, get_or-set_same recent (count % RECENT) page 0 (omega (arith, kept.size)) ∙ here)
+        | inr away ↦
+            (let back : get_or (set live page fresh) k 0 ≡ get_or live k 0 = get_or-set_other live page k fresh 0 (λ e. away (sym e)) in
+            let found = so.moved saved under (omega arith) k (omega (arith, length-set live page fresh)) (λ e. other (e ∙ sym back)) in
+            let from : slot.seen ≤ found.0 = found.1 in
+            let to : found.0 < count = found.2 in
+            let apart : found.0 % RECENT ≡ count % RECENT → ⊥ = λ e. omega arith in
+            (found.0, from, omega arith, get_or-set_other recent (count % RECENT) (found.0 % RECENT) page 0 apart ∙ found.3))
       ];
 }
 
@@ -50,16 +43,8 @@ logged_moved {pages = pages} {count = count} {after = after} {page = page} {rece
 -- any page may have moved
 one_lost : (count after : ℕ) (recent live other : List ℕ) (slot : Slot) → (count < MOST → count + RECENT < after) → (MOST ≤ count → after ≡ count) → IsLogged count recent live slot → IsLogged after recent other slot
 one_lost count after recent live other slot rise still so = record {
-  seen = λ saved.
-      elim (cases_lt count MOST) [
-        | inl under ↦ omega (arith, so.seen saved, rise under)
-        | inr past ↦ omega (arith, so.seen saved, still past)
-      ];
-  moved = λ saved few short k inside other.
-      elim (cases_lt count MOST) [
-        | inl under ↦ absurd (omega (arith, so.seen saved, rise under))
-        | inr past ↦ absurd (omega (arith, still past))
-      ];
+  seen = λ saved. elim (cases_lt count MOST) [ inl under ↦ omega (arith, so.seen saved, rise under) | inr past ↦ omega (arith, so.seen saved, still past) ];
+  moved = λ saved few short k inside other. elim (cases_lt count MOST) [ inl under ↦ absurd (omega (arith, so.seen saved, rise under)) | inr past ↦ absurd (omega (arith, still past)) ];
 }
 
 pub logged_lost : {pages count after : ℕ} {recent live next line : List ℕ} {slots : List Slot} → AreLogged pages count recent live slots → (count < MOST → count + RECENT < after) → (MOST ≤ count → after ≡ count) → next ≡ recent → AreLogged pages after next line slots

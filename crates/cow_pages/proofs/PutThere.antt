@@ -1,6 +1,6 @@
 -- A part of a list that another part of it takes the place of.
 use Rattle.std.proofs.Common.{append_assoc, length-drop}
-use Rattle.cow_pages.proofs.Terms.{List, ap, arith, drop, length, sym, take, ℕ, ◌++◌, ◌+◌, ◌-◌, ◌∙◌, ◌≡◌, ◌≤◌, drop-drop, drop-take, length-take-le, take-append-drop, take-take}
+use Rattle.cow_pages.proofs.Terms.{common_steps, List, ap, arith, drop, length, sym, take, ℕ, ◌++◌, ◌+◌, ◌-◌, ◌∙◌, ◌≡◌, ◌≤◌, drop-drop, drop-take, length-take-le, take-append-drop, take-take}
 
 -- a part of a first part is that part of the whole
 part_of : (from n whole : ℕ) (xs : List ℕ) → from + n ≤ whole → take n (drop from (take whole xs)) ≡ take n (drop from xs)
@@ -47,6 +47,4 @@ put_before from to n count xs front back ys first second within many copied =
     ∙ sym (append_assoc (take to xs) (take n (drop from xs)) (drop (to + n) xs))
 
 pub part_length : (at n count : ℕ) (xs : List ℕ) → at + n ≤ length xs → count ≡ n → length (take count (drop at xs)) ≡ n
-part_length at n count xs enough many =
-    let rest = length-drop at xs in
-    ap (λ k. length (take k (drop at xs))) many ∙ length-take-le n (drop at xs) (omega (arith, enough, rest))
+part_length at n count xs enough many = grind (arith, common_steps)

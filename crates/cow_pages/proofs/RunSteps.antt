@@ -1,9 +1,9 @@
 -- A write right behind another one, and runs that are read page by page.
+use Rattle.std.proofs.lemmas.Bool.Decides.{nat_tests}
 use Rattle.std.proofs.Math.Seq.{take-add}
-use Rattle.cow_pages.proofs.Terms.{Bool, List, [], ap, arith, cond, drop, false, get_or, inl, inr, length, refl, replicate, subst, suc, sym, take, true, zero, ℕ, ◌&&◌, ◌*◌, ◌++◌, ◌+◌, ◌-◌, ◌/◌, ◌<◌, ◌||◌, ◌∙◌, ◌≡◌, ◌≤◌, ◌⊎◌, and_parts, cases_Bool, cases_lt, false_from_ne_true, false≢true, or_cases, or_left, or_parts, or_right, append-nil, append_assoc, drop-drop, length-append, length-drop, length-replicate, length-take-le, replicate-append-replicate, take-append-drop, take_at, PAGE, IsLawful, IsSpace, Pages, has, saved_numbers, used_of, IsFree, NumberAfter, Writes, copied_pages, is_shared, put_at, reaches}
+use Rattle.cow_pages.proofs.Terms.{common_steps, Bool, List, [], ap, arith, cond, drop, false, get_or, inl, inr, length, refl, replicate, subst, suc, sym, take, true, zero, ℕ, ◌&&◌, ◌*◌, ◌++◌, ◌+◌, ◌-◌, ◌/◌, ◌<◌, ◌||◌, ◌∙◌, ◌≡◌, ◌≤◌, ◌⊎◌, and_parts, cases_Bool, cases_lt, false_from_ne_true, false≢true, or_cases, or_left, or_parts, or_right, append-nil, append_assoc, drop-drop, length-append, length-drop, length-replicate, length-take-le, replicate-append-replicate, take-append-drop, take_at, PAGE, IsLawful, IsSpace, Pages, has, saved_numbers, used_of, IsFree, NumberAfter, Writes, copied_pages, is_shared, put_at, reaches}
 use Rattle.cow_pages.proofs.Counting.{has-append, has-get_or, has-at}
 use Rattle.cow_pages.proofs.Frames.{put_at-put_at, run-put_apart}
-use Rattle.cow_pages.proofs.Runs.{reached, reaching}
 
 copied_nothing : (store : Pages) (at pages : ℕ) → copied_pages store at 0 pages ≡ 0
 copied_nothing store at zero = refl
@@ -22,33 +22,9 @@ writes_nothing store at =
       used = none ∙ ap (λ n. used_of store + n) (sym (copied_nothing store at store.pages));
     }
 
-same_truth : (a b : Bool) → (a ≡ true → b ≡ true) → (b ≡ true → a ≡ true) → a ≡ b
-same_truth true true f g = refl
-same_truth true false f g = sym (f refl)
-same_truth false true f g = g refl
-same_truth false false f g = refl
-
 -- two writes reach what one of them reaches
 pub reaches-append : (at first second page : ℕ) → reaches at (first + second) page ≡ (reaches at first page || reaches (at + first) second page)
-reaches-append at first second page =
-    same_truth (reaches at (first + second) page) (reaches at first page || reaches (at + first) second page)
-    (λ h.
-    let r = reached at (first + second) page h in
-    elim (cases_lt 0 first) [
-      | inl some ↦
-          (elim (cases_lt ((at + first - 1) / PAGE) page) [
-            | inl later ↦ or_right (reaches at first page) (reaches (at + first) second page) (reaching (at + first) second page (omega (arith, r.0, r.1, r.2)) (omega (arith, r.0, r.1, r.2)) (omega (arith, r.0, r.1, r.2)))
-            | inr within ↦ or_left (reaches at first page) (reaches (at + first) second page) (reaching at first page some r.1 within)
-          ])
-      | inr none ↦
-          (let zero_first : first ≡ 0 = omega arith in
-          or_right (reaches at first page) (reaches (at + first) second page) (reaching (at + first) second page (omega (arith, r.0)) (omega (arith, r.1)) (omega (arith, r.2))))
-    ])
-    (λ h.
-    elim (or_cases (reaches at first page) (reaches (at + first) second page) h) [
-      | inl one ↦ (let r = reached at first page one in reaching at (first + second) page (omega (arith, r.0)) r.1 (omega (arith, r.2)))
-      | inr two ↦ (let r = reached (at + first) second page two in reaching at (first + second) page (omega (arith, r.0)) (omega (arith, r.1)) (omega (arith, r.2)))
-    ])
+reaches-append at first second page = grind (arith, nat_tests)
 
 -- a page that was copied isn't shared any more, and every other one is as it was
 pub shared_after : (old new : Pages) (at : ℕ) (bytes : List ℕ) (page : ℕ) → Writes old new at bytes → page < old.pages → is_shared new page ≡ cond (reaches at (length bytes) page && is_shared old page) false (is_shared old page)
@@ -98,14 +74,7 @@ both_numbers false false true old mid page n first second back = second ∙ firs
 both_numbers false false false old mid page n first second back = second ∙ first
 
 both_counts : (one two shared : Bool) → ◌≡◌ {A = ℕ} (cond ((one || two) && shared) 1 0) (cond (one && shared) 1 0 + cond (two && cond (one && shared) false shared) 1 0)
-both_counts true true true = refl
-both_counts true false true = refl
-both_counts true true false = refl
-both_counts true false false = refl
-both_counts false true true = refl
-both_counts false true false = refl
-both_counts false false true = refl
-both_counts false false false = refl
+both_counts one two shared = grind arith
 
 -- how many pages both copy
 copied-append : (old mid : Pages) (at second : ℕ) (bytes : List ℕ) (pages : ℕ) → Writes old mid at bytes → pages ≤ old.pages → copied_pages old at (length bytes + second) pages ≡ copied_pages old at (length bytes) pages + copied_pages mid (at + length bytes) second pages
@@ -163,18 +132,10 @@ zeros_more old mid new at done count so then before between room =
 
 -- the loop of a read: the bytes so far, and the next part
 pub read_more : (buf bytes part : List ℕ) (at done count : ℕ) → take done buf ≡ take done (drop at bytes) → part ≡ take count (drop (at + done) bytes) → done + count ≤ length buf → length part ≡ count → take (done + count) (take done buf ++ (part ++ drop count (drop done buf))) ≡ take (done + count) (drop at bytes)
-read_more buf bytes part at done count so is less size =
-    let front : length (take done buf) ≡ done = length-take-le done buf (omega arith) in
-    let both : length (take done buf ++ part) ≡ done + count = length-append (take done buf) part ∙ ap (λ n. n + length part) front ∙ ap (λ n. done + n) size in
-    ap (take (done + count)) (sym (append_assoc (take done buf) part (drop count (drop done buf))))
-    ∙ take_at (take done buf ++ part) (drop count (drop done buf)) (done + count) both
-    ∙ ap (λ xs. xs ++ part) so
-    ∙ ap (λ xs. take done (drop at bytes) ++ xs) (is ∙ ap (take count) (sym (drop-drop done at bytes)))
-    ∙ sym (take-add done count (drop at bytes))
+read_more buf bytes part at done count so is less size = grind (arith, common_steps, take-add)
 
 pub mid_size : (buf part : List ℕ) (done count : ℕ) → done + count ≤ length buf → length part ≡ count → length (take done buf ++ (part ++ drop count (drop done buf))) ≡ length buf
-mid_size buf part done count less size =
-    omega (arith, length-append (take done buf) (part ++ drop count (drop done buf)), length-append part (drop count (drop done buf)), length-drop count (drop done buf), length-drop done buf, length-take-le done buf (omega arith))
+mid_size buf part done count less size = grind (arith, common_steps)
 
 -- the loop of a copy: the bytes so far, and the next part, which is read where nothing was written
 pub copies_more : (old mid new : Pages) (from to done count all : ℕ) → Writes old mid to (take done (drop from old.live.bytes)) → Writes mid new (to + done) (take count (drop (from + done) mid.live.bytes)) → IsLawful old → IsLawful mid → done + count ≤ all → from + all ≤ PAGE * old.pages → to + all ≤ PAGE * old.pages → (from + all ≤ to) ⊎ (to + all ≤ from) → Writes old new to (take (done + count) (drop from old.live.bytes))

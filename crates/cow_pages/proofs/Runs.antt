@@ -1,5 +1,6 @@
 -- Writes, and several one after the other.
-use Rattle.cow_pages.proofs.Terms.{List, Some, [], ap, arith, cond, drop, false, get_or, inl, inr, length, nat_le, nat_lt, refl, set, slice_get, subst, suc, sym, take, true, zero, ℕ, ◌%◌, ◌&&◌, ◌*◌, ◌++◌, ◌+◌, ◌-◌, ◌/◌, ◌<◌, ◌∙◌, ◌∷◌, ◌≡◌, ◌≤◌, and_from, and_parts, cases_Bool, cases_eq, cases_lt, false_from_ne_true, le-leb, le-ltb, leb-true, lt-ltb, ltb-true, or_parts, get_or_default, length-append, length-drop, length-set, length-take-le, take_at, slice_get-get_or, PAGE, Slot, IsLawful, Pages, different, has, saved_numbers, used_of, IsFree, NumberAfter, Owns, Writes, copied_pages, is_shared, put_at, reaches, IsSound, Parts, contents, pages_of, table_numbers}
+use Rattle.std.proofs.lemmas.Bool.Decides.{nat_tests}
+use Rattle.cow_pages.proofs.Terms.{Bool, List, Some, [], ap, arith, cond, drop, false, get_or, inl, inr, length, nat_le, nat_lt, refl, set, slice_get, subst, suc, sym, take, true, zero, ℕ, ◌%◌, ◌&&◌, ◌*◌, ◌++◌, ◌+◌, ◌-◌, ◌/◌, ◌<◌, ◌∙◌, ◌∷◌, ◌≡◌, ◌≤◌, and_from, and_parts, cases_Bool, cases_eq, cases_lt, false_from_ne_true, le-leb, le-ltb, leb-true, lt-ltb, ltb-true, or_parts, get_or_default, length-append, length-drop, length-set, length-take-le, take_at, slice_get-get_or, PAGE, Slot, IsLawful, Pages, different, has, saved_numbers, used_of, IsFree, NumberAfter, Owns, Writes, copied_pages, is_shared, put_at, reaches, IsSound, Parts, contents, pages_of, table_numbers}
 use Rattle.cow_pages.proofs.Counting.{has-append}
 use Rattle.cow_pages.proofs.Walks.{table_home}
 pub use Rattle.cow_pages.proofs.Slots.{refill}
@@ -26,54 +27,28 @@ put_sound so size = record { bounds = so.bounds; pool_size = size ∙ so.pool_si
 
 -- a write within one page reaches that page alone
 pub reaches-here : (at count : ℕ) → 0 < count → at % PAGE + count ≤ PAGE → reaches at count (at / PAGE) ≡ true
-reaches-here at count some within =
-    and_from (nat_lt 0 count) (nat_le (at / PAGE) (at / PAGE) && nat_le (at / PAGE) ((at + count - 1) / PAGE)) (lt-ltb 0 count some)
-    (and_from (nat_le (at / PAGE) (at / PAGE)) (nat_le (at / PAGE) ((at + count - 1) / PAGE)) (le-leb (at / PAGE) (at / PAGE) (omega arith)) (le-leb (at / PAGE) ((at + count - 1) / PAGE) (omega arith)))
-
-pub reached : (at count page : ℕ) → reaches at count page ≡ true → (0 < count) × (at / PAGE ≤ page) × (page ≤ (at + count - 1) / PAGE)
-reached at count page h =
-    let a = and_parts (nat_lt 0 count) (nat_le (at / PAGE) page && nat_le page ((at + count - 1) / PAGE)) h in
-    let b = and_parts (nat_le (at / PAGE) page) (nat_le page ((at + count - 1) / PAGE)) a.1 in
-    (ltb-true 0 count a.0, leb-true (at / PAGE) page b.0, leb-true page ((at + count - 1) / PAGE) b.1)
-
-pub reaching : (at count page : ℕ) → 0 < count → at / PAGE ≤ page → page ≤ (at + count - 1) / PAGE → reaches at count page ≡ true
-reaching at count page some first last =
-    and_from (nat_lt 0 count) (nat_le (at / PAGE) page && nat_le page ((at + count - 1) / PAGE)) (lt-ltb 0 count some)
-    (and_from (nat_le (at / PAGE) page) (nat_le page ((at + count - 1) / PAGE)) (le-leb (at / PAGE) page first) (le-leb page ((at + count - 1) / PAGE) last))
+reaches-here at count some within = grind (arith, nat_tests)
 
 pub reaches-other : (at count page : ℕ) → at % PAGE + count ≤ PAGE → (page ≡ at / PAGE → ⊥) → reaches at count page ≡ false
-reaches-other at count page within other =
-    false_from_ne_true (reaches at count page) (λ h. let r = reached at count page h in other (omega (arith, r.0, r.1, r.2)))
-
-same_test : (a b : ℕ) → (a ≡ b → ⊥) → nat_lt a b ≡ nat_lt a (suc b)
-same_test a b other =
-    elim (cases_lt a b) [
-      | inl less ↦ lt-ltb a b less ∙ sym (lt-ltb a (suc b) (omega arith))
-      | inr past ↦ le-ltb a b past ∙ sym (le-ltb a (suc b) (omega arith))
-    ]
+reaches-other at count page within other = grind (arith, nat_tests)
 
 -- how many pages such a write copies
+copied_here : (n page : ℕ) (own : Bool) → n ≡ cond (nat_lt page page && own) 1 0 → n + cond own 1 0 ≡ cond (nat_lt page (suc page) && own) 1 0
+copied_here n page own fewer = grind (arith, nat_tests)
+
+copied_there : (n page last : ℕ) (own : Bool) → n ≡ cond (nat_lt page last && own) 1 0 → (last ≡ page → ⊥) → n + 0 ≡ cond (nat_lt page (suc last) && own) 1 0
+copied_there n page last own fewer other = grind (arith, nat_tests)
+
 pub copied_one : (store : Pages) (at count : ℕ) → 0 < count → at % PAGE + count ≤ PAGE → (pages : ℕ) → copied_pages store at count pages ≡ cond (nat_lt (at / PAGE) pages && is_shared store (at / PAGE)) 1 0
-copied_one store at count some within zero =
-    let far : nat_lt (at / PAGE) 0 ≡ false = le-ltb (at / PAGE) 0 (omega arith) in
-    sym (ap (λ b. cond (b && is_shared store (at / PAGE)) 1 0) far)
+copied_one store at count some within zero = sym (ap (λ b. cond (b && is_shared store (at / PAGE)) 1 0) (le-ltb (at / PAGE) 0 (omega arith)))
 copied_one store at count some within (suc pages) =
-    let fewer : copied_pages store at count pages ≡ cond (nat_lt (at / PAGE) pages && is_shared store (at / PAGE)) 1 0 = copied_one store at count some within pages in
-    elim (cases_eq pages (at / PAGE)) [
+    let page = at / PAGE in
+    let fewer : copied_pages store at count pages ≡ cond (nat_lt page pages && is_shared store page) 1 0 = copied_one store at count some within pages in
+    elim (cases_eq pages page) [
       | inl here ↦
-          (let far : nat_lt (at / PAGE) pages ≡ false = le-ltb (at / PAGE) pages (omega arith) in
-          let near : nat_lt (at / PAGE) (suc pages) ≡ true = lt-ltb (at / PAGE) (suc pages) (omega arith) in
-          let none : copied_pages store at count pages ≡ 0 = fewer ∙ ap (λ b. cond (b && is_shared store (at / PAGE)) 1 0) far in
-          let hit : reaches at count pages ≡ true = subst (λ p. reaches at count p ≡ true) (sym here) (reaches-here at count some within) in
-          let last : ◌≡◌ {A = ℕ} (cond (reaches at count pages && is_shared store pages) 1 0) (cond (is_shared store (at / PAGE)) 1 0) = ap (λ b. cond (b && is_shared store pages) 1 0) hit ∙ ap (λ p. cond (is_shared store p) 1 0) here in
-          let sum : copied_pages store at count pages + cond (reaches at count pages && is_shared store pages) 1 0 ≡ 0 + cond (is_shared store (at / PAGE)) 1 0 = ap (λ n. n + cond (reaches at count pages && is_shared store pages) 1 0) none ∙ ap (λ n. 0 + n) last in
-          let plain : (n : ℕ) → 0 + n ≡ n = λ n. omega arith in
-          sum ∙ plain (cond (is_shared store (at / PAGE)) 1 0) ∙ sym (ap (λ b. cond (b && is_shared store (at / PAGE)) 1 0) near))
-      | inr other ↦
-          (let miss : ◌≡◌ {A = ℕ} (cond (reaches at count pages && is_shared store pages) 1 0) 0 = ap (λ b. cond (b && is_shared store pages) 1 0) (reaches-other at count pages within other) in
-          let same : nat_lt (at / PAGE) pages ≡ nat_lt (at / PAGE) (suc pages) = same_test (at / PAGE) pages (λ e. other (sym e)) in
-          let sum : copied_pages store at count pages + cond (reaches at count pages && is_shared store pages) 1 0 ≡ cond (nat_lt (at / PAGE) pages && is_shared store (at / PAGE)) 1 0 = omega (arith, fewer, miss) in
-          sum ∙ ap (λ b. cond (b && is_shared store (at / PAGE)) 1 0) same)
+          subst (λ p. copied_pages store at count p ≡ cond (nat_lt page p && is_shared store page) 1 0 → copied_pages store at count p + cond (reaches at count p && is_shared store p) 1 0 ≡ cond (nat_lt page (suc p) && is_shared store page) 1 0) (sym here)
+          (λ e. rw (reaches-here at count some within) (copied_here (copied_pages store at count page) page (is_shared store page) e)) fewer
+      | inr other ↦ rw (reaches-other at count pages within other) (copied_there (copied_pages store at count pages) page pages (is_shared store page) fewer other)
     ]
 
 -- a page gets a frame of its own, and bytes are written there

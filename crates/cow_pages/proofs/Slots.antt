@@ -1,5 +1,5 @@
 -- The numbers of all slots, and what a change of one slot leaves of a store.
-use Rattle.cow_pages.proofs.Terms.{All, List, None, Option, Some, [], ap, arith, cond, drop, false, get_or, inl, inr, length, map, refl, set, subst, suc, sym, take, true, zero, ℕ, ◌++◌, ◌+◌, ◌-◌, ◌<◌, ◌∙◌, ◌∷◌, ◌≡◌, ◌≤◌, cases_Bool, length-set, map-set, All-head, All-set, All-tail, take_at, Slot, MAX_SLOTS, Pages, Space, different, held_of, used_of, Counts, IsSlot, IsSound, IsStack, IsTable, Parts, Recounts, pages_of, places, slot_numbers, slot_space, table_numbers}
+use Rattle.cow_pages.proofs.Terms.{common_steps, All, List, None, Option, Some, [], ap, arith, cond, drop, false, get_or, inl, inr, length, map, refl, set, subst, suc, sym, take, true, zero, ℕ, ◌++◌, ◌+◌, ◌-◌, ◌<◌, ◌∙◌, ◌∷◌, ◌≡◌, ◌≤◌, cases_Bool, length-set, map-set, All-head, All-set, All-tail, take_at, Slot, MAX_SLOTS, Pages, Space, different, held_of, used_of, Counts, IsSlot, IsSound, IsStack, IsTable, Parts, Recounts, pages_of, places, slot_numbers, slot_space, table_numbers}
 use Rattle.cow_pages.proofs.Counting.{Alike, different-alike, different-le, has-some, places-append, places-le-one, places-some}
 use Rattle.cow_pages.proofs.Walks.{counts_alike, table_home}
 use Rattle.cow_pages.proofs.Stores.{saved_numbers-is, used-is}
@@ -65,7 +65,7 @@ pub record Turning (parts : Parts) (i added removed : ℕ) (after : List ℕ) (n
 
 -- a list of the same length written whole, as a vector's slice is
 pub refill : (n : ℕ) (xs ys : List ℕ) → length ys ≡ n → take n (ys ++ drop (length ys) xs) ≡ ys
-refill n xs ys size = take_at ys (drop (length ys) xs) n size
+refill n xs ys size = grind (arith, common_steps)
 
 pub turning : {parts : Parts} {i added removed n : ℕ} {was table now line : List ℕ} {slot : Slot} (next : Slot) (so : IsSound parts) → i < length parts.slots → slot ≡ get_or parts.slots i slot → IsSlot parts.pages so.tables.homes next → was ≡ parts.counts → length now ≡ length was → n ≡ length parts.counts → table ≡ slot_numbers slot → line ≡ slot_numbers next
     → Recounts was table now line added removed → Turning parts i added removed (take n (now ++ drop (length now) parts.counts)) next

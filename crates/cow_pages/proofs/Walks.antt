@@ -1,4 +1,5 @@
 -- One step of each walk over a table.
+use Rattle.std.proofs.lemmas.Bool.Decides.{nat_tests}
 use Rattle.cow_pages.proofs.Terms.{Bool, List, [], ap, arith, cond, drop, false, get_or, inl, inr, length, nat_lt, refl, set, subst, sym, take, true, ℕ, ◌++◌, ◌+◌, ◌-◌, ◌<◌, ◌||◌, ◌∙◌, ◌∷◌, ◌≡◌, ◌≤◌, cases_Bool, cases_eq, cases_lt, eq-eqb, le-ltb, lt-ltb, ne_eqb, or_left, or_right, drop_all, drop_more, get_or-drop, get_or-set_other, get_or-set_same, get_or_past, length-drop, length-set, take_all, take_more, different, has, CanCount, CanGiveUp, CanUncount, Counts, IsStack, IsTable, Recounts, places}
 use Rattle.cow_pages.proofs.Counting.{Alike, below_append, below_front, different-alike, different-front, has-at, has-get_or, has-nowhere, length-missing, places-append, places-here, places-some, places-take-drop, places-there}
 
@@ -78,6 +79,10 @@ recounts_alike {table = table} {next = next} {was = was} {now = now} so first se
 front_more : (i : ℕ) (table : List ℕ) → i < length table → Alike (get_or table i 0 ∷ take i table) (take (i + 1) table)
 front_more i table less n = omega (arith, ap (places n) (take_more table i 0 less), places-append n (take i table) (get_or table i 0 ∷ []))
 
+-- so a number that says so goes up by one at most
+rise_few : (b : Bool) (added later i : ℕ) → later ≡ added + cond b 0 1 → added ≤ i → later ≤ i + 1
+rise_few b added later i rise few = grind arith
+
 -- so many numbers of a table are counted once more
 pub record Counting (initial counts table : List ℕ) (i added : ℕ) : Type 0 where
   pub size : length counts ≡ length initial
@@ -96,7 +101,7 @@ counting_more {initial = initial} {counts = counts} {table = table} {i = i} {add
     let near : x < length counts = subst (λ n. x < n) (sym so.size) (can.below i less) in
     record {
       size = length-set counts x (get_or counts x 0 + 1) ∙ so.size;
-      few = elim (nat_lt 0 (get_or counts x 0)) as (λ b. later ≡ added + cond b 0 1 → later ≤ i + 1) [ true ↦ (λ e. omega (arith, so.few)) | false ↦ (λ e. omega (arith, so.few)) ] rise;
+      few = rise_few (nat_lt 0 (get_or counts x 0)) added later i rise so.few;
       walk = recounts_alike (recounts_on so.walk (one_more near refl) rise refl) (λ n. refl) (front_more i table less);
     }
 
@@ -106,12 +111,10 @@ counting_all {initial = initial} {counts = counts} {table = table} {i = i} {adde
 
 -- what the count of the next number says of how many had none
 pub rise_none : (added later count : ℕ) → count ≡ 0 → later ≡ added + 1 → later ≡ added + cond (nat_lt 0 count) 0 1
-rise_none added later count none rise = rise ∙ ap (λ n. added + cond (nat_lt 0 n) 0 1) (sym none)
+rise_none added later count none rise = grind (arith, nat_tests)
 
 pub rise_some : (added later count : ℕ) → (count ≡ 0 → ⊥) → later ≡ added → later ≡ added + cond (nat_lt 0 count) 0 1
-rise_some added later count some same =
-    let e : added ≡ added + 0 = omega arith in
-    same ∙ e ∙ ap (λ b. added + cond b 0 1) (sym (lt-ltb 0 count (omega arith)))
+rise_some added later count some same = grind (arith, nat_tests)
 
 -- whether a frame is in use
 abbrev pub in_use : List ℕ → List ℕ → ℕ → Bool
@@ -200,7 +203,7 @@ pub uncounting_more : {initial counts table live free left : List ℕ} {i remove
 uncounting_more {initial = initial} {counts = counts} {table = table} {i = i} {removed = removed} {later = later} so less rise stack =
     let x = get_or table i 0 in
     record {
-      few = elim (nat_lt 0 (get_or counts x 0 - 1)) as (λ b. later ≡ removed + cond b 0 1 → later ≤ i + 1) [ true ↦ (λ e. omega (arith, so.few)) | false ↦ (λ e. omega (arith, so.few)) ] rise;
+      few = rise_few (nat_lt 0 (get_or counts x 0 - 1)) removed later i rise so.few;
       walk = recounts_on (subst (λ xs. Recounts initial table counts xs 0 removed) (drop_more table i 0 less) so.walk) (one_less refl) refl rise;
       stack = stack;
     }
