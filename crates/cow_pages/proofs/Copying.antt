@@ -1,16 +1,14 @@
 -- A page of the live space that moves to a free frame.
 use Rattle.cow_pages.proofs.Terms.{All, Bool, List, None, Some, [], ap, arith, cond, drop, false, get_or, inl, inr, length, map, nat_lt, refl, set, subst, sym, take, true, ℕ, ◌*◌, ◌++◌, ◌+◌, ◌<◌, ◌||◌, ◌∙◌, ◌∷◌, ◌≡◌, ◌≤◌, ◌⊎◌, cases_Bool, cases_eq, cases_lt, false≢true, lt-ltb, ltb-true, or_left, or_parts, or_right, get_or-set_other, get_or-set_same, get_or_append_left, get_or_push, length-append, length-set, take_at, All-cons, All-head, All-nil, All-tail, PAGE, Slot, Pages, different, has, saved_numbers, used_of, IsFree, NumberAfter, Owns, is_shared, IsSlot, IsSound, IsStack, IsTable, Parts, contents, pages_of, places, slot_numbers, slot_space, space_of, table_numbers}
 use Rattle.cow_pages.proofs.Counting.{AreBelow, has-append, has-is, places-append, has-get_or, different-append-lt, places-here, places-set, places-there}
-use Rattle.cow_pages.proofs.Walks.{in_use}
+use Rattle.cow_pages.proofs.Walks.{by_count, by_live, in_use, table_put}
 use Rattle.cow_pages.proofs.Frames.{copied, length-copied, copy_within-copied, contents-copied, contents-copied_apart}
 use Rattle.cow_pages.proofs.Stores.{held-is, live_below, saved_numbers-is, table_below, shared-is, use-has, used-sum}
 
 pub has-set_other : (n : ℕ) (xs : List ℕ) (k y : ℕ) → k < length xs → (get_or xs k 0 ≡ n → ⊥) → (y ≡ n → ⊥) → has n (set xs k y) ≡ has n xs
 has-set_other n xs k y less old new =
-    let a : places n (get_or xs k 0 ∷ []) ≡ places n [] = places-there n (get_or xs k 0) [] old in
-    let b : places n (y ∷ []) ≡ places n [] = places-there n y [] new in
-    let c : places n (set xs k y) ≡ places n xs = omega (arith, places-set n xs k y less) in
-    has-is n (set xs k y) ∙ ap (nat_lt 0) c ∙ sym (has-is n xs)
+    let same : places n (set xs k y) ≡ places n xs = omega (arith, places-set n xs k y less, places-there n (get_or xs k 0) [] old, places-there n y [] new) in
+    has-is n (set xs k y) ∙ ap (nat_lt 0) same ∙ sym (has-is n xs)
 
 pub has-set_same : (xs : List ℕ) (k y : ℕ) → k < length xs → has y (set xs k y) ≡ true
 has-set_same xs k y less = subst (λ n. has n (set xs k y) ≡ true) (get_or-set_same xs k y 0 less) (has-get_or (set xs k y) k (omega (arith, length-set xs k y)))
@@ -33,9 +31,8 @@ free_test b some = grind arith
 
 pub top_unused : (counts live rest : List ℕ) (fresh : ℕ) → IsStack counts live (rest ++ fresh ∷ []) → in_use counts live fresh ≡ false
 top_unused counts live rest fresh so =
-    let near : fresh < length counts = top_below counts live rest fresh so in
     let some : 0 < places fresh (rest ++ fresh ∷ []) = omega (arith, places-append fresh rest (fresh ∷ []), places-here fresh []) in
-    free_test (in_use counts live fresh) (subst (λ n. 0 < n) (so.each fresh near) some)
+    free_test (in_use counts live fresh) (subst (λ n. 0 < n) (so.each fresh (top_below counts live rest fresh so)) some)
 
 -- a list without a number has it at no place
 pub not-at : (n : ℕ) (xs : List ℕ) → has n xs ≡ false → (k : ℕ) → k < length xs → get_or xs k 0 ≡ n → ⊥
@@ -44,9 +41,7 @@ not-at n xs none k less e = false≢true (sym none ∙ subst (λ m. has m xs ≡
 still : (counts live : List ℕ) (page fresh : ℕ) → page < length live → 0 < get_or counts (get_or live page 0) 0 → (n : ℕ) → (fresh ≡ n → ⊥) → in_use counts (set live page fresh) n ≡ in_use counts live n
 still counts live page fresh inside counted n other =
     elim (cases_eq (get_or live page 0) n) [
-      | inl old ↦
-          (let some : nat_lt 0 (get_or counts n 0) ≡ true = subst (λ m. nat_lt 0 (get_or counts m 0) ≡ true) old (lt-ltb 0 (get_or counts (get_or live page 0) 0) counted) in
-          or_left (nat_lt 0 (get_or counts n 0)) (has n (set live page fresh)) some ∙ sym (or_left (nat_lt 0 (get_or counts n 0)) (has n live) some))
+      | inl old ↦ subst (λ m. in_use counts (set live page fresh) m ≡ in_use counts live m) old (by_count _ _ counted ∙ sym (by_count _ _ counted))
       | inr apart ↦ ap (λ b. nat_lt 0 (get_or counts n 0) || b) (has-set_other n live page fresh inside apart other)
     ]
 
@@ -55,79 +50,54 @@ pub stack_taken : (counts live rest : List ℕ) (page fresh : ℕ) → IsStack c
 stack_taken counts live rest page fresh so inside counted = record {
   below = λ k less. subst (λ n. n < length counts) (get_or_append_left rest (fresh ∷ []) 0 k less) (so.below k (omega (arith, length-append rest (fresh ∷ []))));
   each = λ n less.
-      let sum : places n (rest ++ fresh ∷ []) ≡ places n rest + places n (fresh ∷ []) = places-append n rest (fresh ∷ []) in
       elim (cases_eq fresh n) [
         | inl here ↦
             subst (λ m. places m rest ≡ cond (in_use counts (set live page fresh) m) 0 1) here
-            (let near : fresh < length counts = top_below counts live rest fresh so in
-            let one : places fresh (rest ++ fresh ∷ []) ≡ 1 = so.each fresh near ∙ ap (λ b. cond b 0 1) (top_unused counts live rest fresh so) in
+            (let one : places fresh (rest ++ fresh ∷ []) ≡ 1 = so.each fresh (top_below counts live rest fresh so) ∙ ap (λ b. cond b 0 1) (top_unused counts live rest fresh so) in
             let gone : places fresh rest ≡ 0 = omega (arith, places-append fresh rest (fresh ∷ []), places-here fresh []) in
-            gone ∙ ap (λ b. cond b 0 1) (sym (or_right (nat_lt 0 (get_or counts fresh 0)) (has fresh (set live page fresh)) (has-set_same live page fresh inside))))
+            gone ∙ ap (λ b. cond b 0 1) (sym (by_live (get_or counts fresh 0) _ (has-set_same live page fresh inside))))
         | inr other ↦
-            (let none : places n (fresh ∷ []) ≡ places n [] = places-there n fresh [] other in
-            let same : places n rest ≡ places n (rest ++ fresh ∷ []) = omega arith in
+            (let same : places n rest ≡ places n (rest ++ fresh ∷ []) = omega (arith, places-append n rest (fresh ∷ []), places-there n fresh [] other) in
             same ∙ so.each n less ∙ ap (λ b. cond b 0 1) (sym (still counts live page fresh inside counted n other)))
       ];
 }
 
--- the table of the live space, and those of the slots, with a home for the new frame
-pub table_moved : (pages : ℕ) (homes live : List ℕ) (page fresh : ℕ) → IsTable pages homes live → has fresh live ≡ false → page < pages → fresh < length homes → IsTable pages (set homes fresh page) (set live page fresh)
-table_moved pages homes live page fresh so none inside near =
-    let here : page < length live = omega (arith, so.size) in
-    let many : length (set homes fresh page) ≡ length homes = length-set homes fresh page in
-    record {
-      size = length-set live page fresh ∙ so.size;
-      below = λ k less.
-          elim (cases_eq k page) [
-            | inl is ↦ subst (λ m. get_or (set live page fresh) m 0 < length (set homes fresh page)) (sym is) (omega (arith, get_or-set_same live page fresh 0 here))
-            | inr isnt ↦ omega (arith, get_or-set_other live page k fresh 0 isnt, so.below k less)
-          ];
-      home = λ k less.
-          elim (cases_eq k page) [
-            | inl is ↦
-                subst (λ m. get_or (set homes fresh page) (get_or (set live page fresh) m 0) 0 ≡ m) (sym is)
-                (ap (λ n. get_or (set homes fresh page) n 0) (get_or-set_same live page fresh 0 here) ∙ get_or-set_same homes fresh page 0 near)
-            | inr isnt ↦
-                (ap (λ n. get_or (set homes fresh page) n 0) (get_or-set_other live page k fresh 0 isnt)
-                ∙ get_or-set_other homes fresh (get_or live k 0) page 0 (not-at fresh live none k (omega (arith, so.size)))
-                ∙ so.home k less)
-          ];
-    }
-
-pub table_kept : (pages : ℕ) (homes table : List ℕ) (page fresh : ℕ) → IsTable pages homes table → has fresh table ≡ false → IsTable pages (set homes fresh page) table
-table_kept pages homes table page fresh so none = record {
+-- a table that hasn't a frame, and the live one that gets it, with a home for it
+table_kept : {pages : ℕ} {homes table : List ℕ} (page fresh : ℕ) → IsTable pages homes table → has fresh table ≡ false → IsTable pages (set homes fresh page) table
+table_kept {homes = homes} {table = table} page fresh so none = record {
   size = so.size;
   below = λ k less. omega (arith, length-set homes fresh page, so.below k less);
   home = λ k less. get_or-set_other homes fresh (get_or table k 0) page 0 (not-at fresh table none k (omega (arith, so.size))) ∙ so.home k less;
 }
 
--- a slot's table is part of the numbers of all slots
-first_none : (n : ℕ) (slot : Slot) (slots : List Slot) → has n (table_numbers (slot ∷ slots)) ≡ false → slot.saved ≡ true → has n slot.table.items ≡ false
-first_none n slot slots none saved =
-    let both = or_parts (has n (slot_numbers slot)) (has n (table_numbers slots)) (sym (has-append n (slot_numbers slot) (table_numbers slots)) ∙ none) in
-    subst (λ b. has n (cond b slot.table.items []) ≡ false) saved both.0
+table_moved : {pages : ℕ} {homes live : List ℕ} (page fresh : ℕ) → IsTable pages homes live → has fresh live ≡ false → fresh < length homes → IsTable pages (set homes fresh page) (set live page fresh)
+table_moved {homes = homes} page fresh so none near = table_put page fresh (table_kept page fresh so none) (omega (arith, length-set homes fresh page)) (get_or-set_same homes fresh page 0 near)
 
-rest_none : (n : ℕ) (slot : Slot) (slots : List Slot) → has n (table_numbers (slot ∷ slots)) ≡ false → has n (table_numbers slots) ≡ false
-rest_none n slot slots none = (or_parts (has n (slot_numbers slot)) (has n (table_numbers slots)) (sym (has-append n (slot_numbers slot) (table_numbers slots)) ∙ none)).1
+-- a slot's table is part of the numbers of all slots
+none_parts : (n : ℕ) (slot : Slot) (slots : List Slot) → has n (table_numbers (slot ∷ slots)) ≡ false → (has n (slot_numbers slot) ≡ false) × (has n (table_numbers slots) ≡ false)
+none_parts n slot slots none = or_parts (has n (slot_numbers slot)) (has n (table_numbers slots)) (sym (has-append n (slot_numbers slot) (table_numbers slots)) ∙ none)
+
+first_none : (n : ℕ) (slot : Slot) → has n (slot_numbers slot) ≡ false → slot.saved ≡ true → has n slot.table.items ≡ false
+first_none n slot none saved = subst (λ b. has n (cond b slot.table.items []) ≡ false) saved none
 
 pub slots_kept : (pages : ℕ) (homes : List ℕ) (page fresh : ℕ) (slots : List Slot) → All (IsSlot pages homes) slots → has fresh (table_numbers slots) ≡ false → All (IsSlot pages (set homes fresh page)) slots
 slots_kept pages homes page fresh [] all none = All-nil (IsSlot pages (set homes fresh page))
 slots_kept pages homes page fresh (slot ∷ slots) all none =
     let one : IsSlot pages homes slot = All-head (IsSlot pages homes) slot slots all in
     All-cons (IsSlot pages (set homes fresh page)) slot slots
-    record { size = one.size; table = λ saved. table_kept pages homes slot.table.items page fresh (one.table saved) (first_none fresh slot slots none saved) }
-    (slots_kept pages homes page fresh slots (All-tail (IsSlot pages homes) slot slots all) (rest_none fresh slot slots none))
+    record { size = one.size; table = λ saved. table_kept page fresh (one.table saved) (first_none fresh slot (none_parts fresh slot slots none).0 saved) }
+    (slots_kept pages homes page fresh slots (All-tail (IsSlot pages homes) slot slots all) (none_parts fresh slot slots none).1)
 
 -- slots whose tables haven't a frame don't change with its bytes
 pub slots_same : (pages frames n : ℕ) (homes pool after : List ℕ) (slots : List Slot) → length homes ≡ frames → All (IsSlot pages homes) slots → has n (table_numbers slots) ≡ false → ((table : List ℕ) → AreBelow frames table → has n table ≡ false → contents after table ≡ contents pool table) → map (slot_space after) slots ≡ map (slot_space pool) slots
 slots_same pages frames n homes pool after [] many all none same = refl
 slots_same pages frames n homes pool after (slot ∷ slots) many all none same =
     let one : IsSlot pages homes slot = All-head (IsSlot pages homes) slot slots all in
-    let rest : map (slot_space after) slots ≡ map (slot_space pool) slots = slots_same pages frames n homes pool after slots many (All-tail (IsSlot pages homes) slot slots all) (rest_none n slot slots none) same in
+    let rest : map (slot_space after) slots ≡ map (slot_space pool) slots = slots_same pages frames n homes pool after slots many (All-tail (IsSlot pages homes) slot slots all) (none_parts n slot slots none).1 same in
     let first : slot_space after slot ≡ slot_space pool slot =
     elim (cases_Bool slot.saved) [
       | inl saved ↦
-          (let e : contents after slot.table.items ≡ contents pool slot.table.items = same slot.table.items (table_below (one.table saved) many) (first_none n slot slots none saved) in
+          (let e : contents after slot.table.items ≡ contents pool slot.table.items = same slot.table.items (table_below (one.table saved) many) (first_none n slot (none_parts n slot slots none).0 saved) in
           ap (λ bytes. cond slot.saved (Some (record { numbers = slot.table.items; bytes = bytes })) None) e)
       | inr unsaved ↦ ap (λ b. cond b (Some (space_of after slot.table.items)) None) unsaved ∙ sym (ap (λ b. cond b (Some (space_of pool slot.table.items)) None) unsaved)
     ] in
@@ -180,7 +150,7 @@ copy_sound {parts = parts} {page = page} {fresh = fresh} {rest = rest} m =
         numbered = so.tables.numbered;
         homes = set so.tables.homes fresh page;
         homes_size = length-set so.tables.homes fresh page ∙ so.tables.homes_size;
-        live_table = table_moved parts.pages so.tables.homes parts.live page fresh so.tables.live_table f.unlive m.less (omega (arith, so.tables.homes_size, f.new));
+        live_table = table_moved page fresh so.tables.live_table f.unlive (omega (arith, so.tables.homes_size, f.new));
         slot_tables = slots_kept parts.pages so.tables.homes page fresh parts.slots so.tables.slot_tables f.unsaved;
       };
       accounts = so.accounts;

@@ -95,29 +95,12 @@ occupied-nil : (k : ℕ) → occupied k [] ≡ 0
 occupied-nil zero = refl
 occupied-nil (suc k) = omega (arith, occupied-nil k)
 
-occupied-above : (k x : ℕ) (xs : List ℕ) → k ≤ x → occupied k (x ∷ xs) ≡ occupied k xs
-occupied-above zero x xs above = refl
-occupied-above (suc k) x xs above =
-    let other : (x == k) ≡ false = ne_eqb x k (λ e. omega arith) in
-    let fewer : occupied k (x ∷ xs) ≡ occupied k xs = occupied-above k x xs (omega arith) in
-    rw other (ap (λ n. n + cond (has k xs) 1 0) fewer)
+occupied-step : (o more k x : ℕ) (first here : Bool) → more ≡ o + cond (nat_lt x k) (cond first 0 1) 0 → (x ≡ k → here ≡ first) → more + cond ((x == k) || here) 1 0 ≡ o + cond here 1 0 + cond (nat_lt x (suc k)) (cond first 0 1) 0
+occupied-step o more k x first here is same = elim (cases_eq x k) [ inl e ↦ rw (same e) (grind (arith, nat_tests)) | inr other ↦ grind (arith, nat_tests) ]
 
-turned : (b : Bool) (n : ℕ) → n + 1 ≡ n + cond b 1 0 + cond b 0 1
-turned b n = grind arith
-
-occupied-cons : (k x : ℕ) (xs : List ℕ) → x < k → occupied k (x ∷ xs) ≡ occupied k xs + cond (has x xs) 0 1
-occupied-cons zero x xs less = absurd (omega arith)
-occupied-cons (suc k) x xs less =
-    elim (cases_eq x k) [
-      | inl same ↦ (
-          let is : (x == k) ≡ true = eq-eqb x k same in
-          let fewer : occupied k (x ∷ xs) ≡ occupied k xs = occupied-above k x xs (omega arith) in
-          rw is (rw fewer (subst (λ n. occupied k xs + 1 ≡ occupied k xs + cond (has k xs) 1 0 + cond (has n xs) 0 1) (sym same) (turned (has k xs) (occupied k xs)))))
-      | inr other ↦ (
-          let is : (x == k) ≡ false = ne_eqb x k other in
-          let fewer : occupied k (x ∷ xs) ≡ occupied k xs + cond (has x xs) 0 1 = occupied-cons k x xs (omega arith) in
-          rw is (omega arith))
-    ]
+occupied-cons : (k x : ℕ) (xs : List ℕ) → occupied k (x ∷ xs) ≡ occupied k xs + cond (nat_lt x k) (cond (has x xs) 0 1) 0
+occupied-cons zero x xs = ap (λ b. 0 + cond b (cond (has x xs) 0 1) 0) (sym (le-ltb x 0 (omega arith)))
+occupied-cons (suc k) x xs = occupied-step (occupied k xs) (occupied k (x ∷ xs)) k x (has x xs) (has k xs) (occupied-cons k x xs) (λ e. ap (λ n. has n xs) (sym e))
 
 chosen : (b : Bool) (n : ℕ) → cond b n (n + 1) ≡ n + cond b 0 1
 chosen b n = grind arith
@@ -129,7 +112,7 @@ different-occupied : (top : ℕ) (xs : List ℕ) → AreBelow top xs → differe
 different-occupied top [] below = sym (occupied-nil top)
 different-occupied top (x ∷ xs) below =
     let rest : different xs ≡ occupied top xs = different-occupied top xs (below_tail top x xs below) in
-    let first : occupied top (x ∷ xs) ≡ occupied top xs + cond (has x xs) 0 1 = occupied-cons top x xs (below_head top x xs below) in
+    let first : occupied top (x ∷ xs) ≡ occupied top xs + cond (has x xs) 0 1 = occupied-cons top x xs ∙ ap (λ b. occupied top xs + cond b (cond (has x xs) 0 1) 0) (lt-ltb x top (below_head top x xs below)) in
     chosen (has x xs) (different xs) ∙ ap (λ n. n + cond (has x xs) 0 1) rest ∙ sym first
 
 -- a number above all of a list
@@ -147,10 +130,7 @@ occupied-le : (k : ℕ) (xs ys : List ℕ) → ((n : ℕ) → has n xs ≡ true 
 occupied-le zero xs ys among = omega arith
 occupied-le (suc k) xs ys among =
     let fewer : occupied k xs ≤ occupied k ys = occupied-le k xs ys among in
-    elim (cases_Bool (has k xs)) [
-      | inl is ↦ (let too : has k ys ≡ true = among k is in rw (is, too) (omega arith))
-      | inr isnt ↦ rw isnt (omega arith)
-    ]
+    elim (cases_Bool (has k xs)) [ inl is ↦ (let too : has k ys ≡ true = among k is in rw (is, too) (omega arith)) | inr isnt ↦ rw isnt (omega arith) ]
 
 -- a list that has no number which another one hasn't has no more different ones
 pub different-le : (xs ys : List ℕ) → ((n : ℕ) → has n xs ≡ true → has n ys ≡ true) → different xs ≤ different ys
@@ -203,11 +183,7 @@ below_append top xs ys bx by k less = grind (arith, common_steps)
 pub length-free : (top : ℕ) (free xs : List ℕ) → AreBelow top free → AreBelow top xs → ((n : ℕ) → n < top → places n free ≡ cond (has n xs) 0 1) → length free + different xs ≡ top
 length-free top free xs bf bx each =
     let apart : (n : ℕ) → places n free ≤ cond (has n xs) 0 1 =
-    λ n.
-    elim (cases_Bool (has n free)) [
-      | inl is ↦ omega (arith, each n (has-below top n free bf is))
-      | inr isnt ↦ omega (arith, places-none n free isnt)
-    ] in
+    λ n. elim (cases_Bool (has n free)) [ inl is ↦ omega (arith, each n (has-below top n free bf is)) | inr isnt ↦ omega (arith, places-none n free isnt) ] in
     let every : (n : ℕ) → n < top → has n (free ++ xs) ≡ true =
     λ n less.
     elim (cases_Bool (has n xs)) [
@@ -234,10 +210,7 @@ pub different-append-le : (xs ys : List ℕ) → different (xs ++ ys) ≤ length
 different-append-le [] ys = omega arith
 different-append-le (x ∷ xs) ys =
     let rest : different (xs ++ ys) ≤ length xs + different ys = different-append-le xs ys in
-    elim (has x (xs ++ ys)) as (λ b. cond b (different (xs ++ ys)) (different (xs ++ ys) + 1) ≤ suc (length xs) + different ys) [
-      | true ↦ omega arith
-      | false ↦ omega arith
-    ]
+    elim (has x (xs ++ ys)) as (λ b. cond b (different (xs ++ ys)) (different (xs ++ ys) + 1) ≤ suc (length xs) + different ys) [ true ↦ omega arith | false ↦ omega arith ]
 
 pub different-append-lt : (xs ys : List ℕ) (k : ℕ) → k < length xs → has (get_or xs k 0) ys ≡ true → different (xs ++ ys) < length xs + different ys
 different-append-lt [] ys k less is = absurd (omega arith)
@@ -247,10 +220,7 @@ different-append-lt (x ∷ xs) ys zero less is =
     rw found (omega arith)
 different-append-lt (x ∷ xs) ys (suc k) less is =
     let rest : different (xs ++ ys) < length xs + different ys = different-append-lt xs ys k (omega arith) is in
-    elim (has x (xs ++ ys)) as (λ b. cond b (different (xs ++ ys)) (different (xs ++ ys) + 1) < suc (length xs) + different ys) [
-      | true ↦ omega arith
-      | false ↦ omega arith
-    ]
+    elim (has x (xs ++ ys)) as (λ b. cond b (different (xs ++ ys)) (different (xs ++ ys) + 1) < suc (length xs) + different ys) [ true ↦ omega arith | false ↦ omega arith ]
 
 -- a number more and one less where one is put in place of another
 pub places-set : (n : ℕ) (xs : List ℕ) (k y : ℕ) → k < length xs → places n (set xs k y) + places n (get_or xs k 0 ∷ []) ≡ places n xs + places n (y ∷ [])

@@ -32,10 +32,7 @@ blank_more count pages slots slot so unsaved size = record {
 
 get_or-zeros : (size k : ℕ) → get_or (replicate {A = ℕ} size 0) k 0 ≡ 0
 get_or-zeros size k =
-    elim (cases_lt k size) [
-      | inl less ↦ get_or-replicate size k 0 0 less
-      | inr past ↦ get_or_past (replicate {A = ℕ} size 0) k 0 (omega (arith, length-replicate {A = ℕ} size 0))
-    ]
+    elim (cases_lt k size) [ inl less ↦ get_or-replicate size k 0 0 less | inr past ↦ get_or_past (replicate {A = ℕ} size 0) k 0 (omega (arith, length-replicate {A = ℕ} size 0)) ]
 
 row_once : (start end : ℕ) (row : List ℕ) → IsRow start end row → (k j : ℕ) → k < length row → j < length row → get_or row k 0 ≡ get_or row j 0 → k ≡ j
 row_once start end row so k j lk lj e = omega (arith, so.each k lk, so.each j lj)

@@ -13,12 +13,7 @@ part_of from n whole xs within =
 pub put_behind : (from to n count : ℕ) (xs front back ys : List ℕ) → front ≡ take to xs → back ≡ drop to xs → from + n ≤ to → count ≡ n → ys ≡ take count (drop from front)
     → front ++ (ys ++ drop n back) ≡ take to xs ++ take n (drop from xs) ++ drop (to + n) xs
 put_behind from to n count xs front back ys first second within many copied =
-    let part : ys ≡ take n (drop from xs) = copied ∙ ap (λ k. take k (drop from front)) many ∙ ap (λ (f : List ℕ). take n (drop from f)) first ∙ part_of from n to xs within in
-    ap (λ (f : List ℕ). f ++ (ys ++ drop n back)) first
-    ∙ ap (λ (p : List ℕ). take to xs ++ (p ++ drop n back)) part
-    ∙ ap (λ (b : List ℕ). take to xs ++ (take n (drop from xs) ++ drop n b)) second
-    ∙ ap (λ (rest : List ℕ). take to xs ++ (take n (drop from xs) ++ rest)) (drop-drop n to xs)
-    ∙ sym (append_assoc (take to xs) (take n (drop from xs)) (drop (to + n) xs))
+    rw (copied, many, first, second, part_of from n to xs within, drop-drop) (sym (append_assoc (take to xs) (take n (drop from xs)) (drop (to + n) xs)))
 
 -- what lies behind a part of a first part, and the rest of the whole
 rest_of : (at whole : ℕ) (xs : List ℕ) → at ≤ whole → drop at (take whole xs) ++ drop whole xs ≡ drop at xs

@@ -1,7 +1,7 @@
 -- A table that becomes the live one, entry by entry.
 use Rattle.cow_pages.proofs.Terms.{List, [], ap, arith, cond, drop, false, get_or, inl, inr, length, nat_lt, refl, set, subst, sym, take, true, ℕ, ◌%◌, ◌++◌, ◌+◌, ◌-◌, ◌<◌, ◌||◌, ◌∙◌, ◌∷◌, ◌≡◌, ◌≤◌, ◌⊎◌, cases_eq, cases_lt, drop_more, ext_get_or, get_or-drop, get_or-set_other, get_or-set_same, get_or-take, length-append, length-set, RECENT, different, has, CanUncount, Counts, IsRenewed, IsStack, IsTable, Recounts, SameUpTo, StandFrom, StaySame, places}
 use Rattle.cow_pages.proofs.Counting.{Alike, has-get_or, places-append, places-here, places-none, places-set, places-some, places-take-drop}
-use Rattle.cow_pages.proofs.Walks.{apart_there, by_live, counted_below, counted_room, one_less, one_more, recounts_alike, recounts_on, stack_kept, stack_less}
+use Rattle.cow_pages.proofs.Walks.{apart_there, by_live, counted_below, counted_room, one_less, one_more, recounts_alike, recounts_on, stack_kept, stack_less, table_put}
 
 -- the frame that a table has at a place is counted
 pub renewed_some : {counts table live free : List ℕ} (i : ℕ) → IsRenewed counts table live free → i < length table → 0 < get_or counts (get_or table i 0) 0
@@ -21,17 +21,6 @@ entry_out i table less n = omega (arith, places-take-drop n i table, ap (places 
 
 entry_in : (i y : ℕ) (table : List ℕ) → i < length table → Alike (y ∷ others i table) (set table i y)
 entry_in i y table less n = omega (arith, places-set n table i y less, entry_out i table less n)
-
--- an entry of a table becomes that of another one
-entry_set : {pages : ℕ} {homes table live : List ℕ} (i : ℕ) → IsTable pages homes table → IsTable pages homes live → IsTable pages homes (set table i (get_or live i 0))
-entry_set {pages = pages} {homes = homes} {table = table} {live = live} i so too =
-    let entry : (k : ℕ) → k < pages → (get_or (set table i (get_or live i 0)) k 0 < length homes) × (get_or homes (get_or (set table i (get_or live i 0)) k 0) 0 ≡ k) =
-    λ k less.
-    elim (cases_eq i k) [
-      | inl here ↦ subst (λ n. (n < length homes) × (get_or homes n 0 ≡ k)) (sym (subst (λ m. get_or (set table i (get_or live i 0)) m 0 ≡ get_or live m 0) here (get_or-set_same table i (get_or live i 0) 0 (omega (arith, so.size))))) (too.below k less, too.home k less)
-      | inr other ↦ subst (λ n. (n < length homes) × (get_or homes n 0 ≡ k)) (sym (get_or-set_other table i k (get_or live i 0) 0 (λ e. other (sym e)))) (so.below k less, so.home k less)
-    ] in
-    record { size = length-set table i (get_or live i 0) ∙ so.size; below = λ k less. (entry k less).0; home = λ k less. (entry k less).1 }
 
 -- the live frame that is counted next has room
 pub renewed_few : {counts table live free mid : List ℕ} (i : ℕ) → IsRenewed counts table live free → i < length table → (get_or table i 0 ≡ get_or live i 0 → ⊥) → mid ≡ set counts (get_or table i 0) (get_or counts (get_or table i 0) 0 - 1) → get_or mid (get_or live i 0) 0 < 255
@@ -63,7 +52,7 @@ walked {i = i} {up = up} {down = down} {counts = counts} {table = table} {live =
             live_is = gives.live_is;
             stack = subst (λ xs. IsStack xs live left) (sym second) (stack_kept y _ fewer (by_live _ _ (has-get_or live i inside)) (by_live _ _ (has-get_or live i inside)));
           };
-          table_is = entry_set i so.fits.table_is gives.live_is;
+          table_is = table_put i y so.fits.table_is (gives.live_is.below i inside) (gives.live_is.home i inside);
           numbers = so.fits.numbers;
           counted = turn.counted so.fits.numbers so.fits.counted;
         };
@@ -79,18 +68,11 @@ renewed_all {table = table} {live = live} i so same end = ext_get_or 0 table liv
 -- one more entry is the live one
 pub same_more : (i : ℕ) (table after live : List ℕ) → SameUpTo i table live → StaySame table after live → get_or after i 0 ≡ get_or live i 0 → SameUpTo (i + 1) after live
 same_more i table after live same stay here k less =
-    elim (cases_eq i k) [
-      | inl is ↦ subst (λ m. get_or after m 0 ≡ get_or live m 0) is here
-      | inr other ↦ stay k (same k (omega arith))
-    ]
+    elim (cases_eq i k) [ inl is ↦ subst (λ m. get_or after m 0 ≡ get_or live m 0) is here | inr other ↦ stay k (same k (omega arith)) ]
 
 -- entries from one place up to another one are the live ones too
 pub same_on : (i j : ℕ) (table live : List ℕ) → SameUpTo i table live → ((k : ℕ) → i ≤ k → k < j → get_or table k 0 ≡ get_or live k 0) → SameUpTo j table live
-same_on i j table live same rest k less =
-    elim (cases_lt k i) [
-      | inl before ↦ same k before
-      | inr later ↦ rest k later less
-    ]
+same_on i j table live same rest k less = elim (cases_lt k i) [ inl before ↦ same k before | inr later ↦ rest k later less ]
 
 -- a table whose entry at a move's page is the live one
 pub stand_more : (n end : ℕ) (recent table after live : List ℕ) → StandFrom n end recent table live → StaySame table after live → get_or after (get_or recent (n % RECENT) 0) 0 ≡ get_or live (get_or recent (n % RECENT) 0) 0 → StandFrom (n + 1) end recent after live

@@ -34,10 +34,7 @@ places-slots_le pages n homes (slot ∷ slots) all =
     let one : IsSlot pages homes slot = All-head (IsSlot pages homes) slot slots all in
     let rest : places n (table_numbers slots) ≤ length slots = places-slots_le pages n homes slots (All-tail (IsSlot pages homes) slot slots all) in
     let first : places n (slot_numbers slot) ≤ 1 =
-    elim (cases_Bool slot.saved) [
-      | inl saved ↦ rw saved (places-le-one n slot.table.items (table_home (one.table saved) (one.table saved)))
-      | inr unsaved ↦ rw unsaved (omega arith)
-    ] in
+    elim (cases_Bool slot.saved) [ inl saved ↦ rw saved (places-le-one n slot.table.items (table_home (one.table saved) (one.table saved))) | inr unsaved ↦ rw unsaved (omega arith) ] in
     omega (arith, places-append n (slot_numbers slot) (table_numbers slots))
 
 pub slots_few : {parts : Parts} → IsSound parts → (n : ℕ) → places n (table_numbers parts.slots) ≤ MAX_SLOTS

@@ -8,6 +8,17 @@ pub table_home : {pages : ℕ} {homes table other : List ℕ} → IsTable pages 
 table_home {homes = homes} so too k j lk lj e =
     sym (so.home k (omega (arith, so.size))) ∙ ap (λ n. get_or homes n 0) e ∙ too.home j (omega (arith, too.size))
 
+-- a table with another frame of a page
+pub table_put : {pages : ℕ} {homes table : List ℕ} (i x : ℕ) → IsTable pages homes table → x < length homes → get_or homes x 0 ≡ i → IsTable pages homes (set table i x)
+table_put {pages = pages} {homes = homes} {table = table} i x so near home =
+    let entry : (k : ℕ) → k < pages → (get_or (set table i x) k 0 < length homes) × (get_or homes (get_or (set table i x) k 0) 0 ≡ k) =
+    λ k less.
+    elim (cases_eq i k) [
+      | inl here ↦ subst (λ n. (n < length homes) × (get_or homes n 0 ≡ k)) (sym (subst (λ m. get_or (set table i x) m 0 ≡ x) here (get_or-set_same table i x 0 (omega (arith, so.size))))) (near, home ∙ here)
+      | inr other ↦ subst (λ n. (n < length homes) × (get_or homes n 0 ≡ k)) (sym (get_or-set_other table i k x 0 (λ e. other (sym e)))) (so.below k less, so.home k less)
+    ] in
+    record { size = length-set table i x ∙ so.size; below = λ k less. (entry k less).0; home = λ k less. (entry k less).1 }
+
 -- a frame that one table has where another has another one isn't in that one
 pub apart_there : {pages : ℕ} {homes table live : List ℕ} (i : ℕ) → IsTable pages homes table → IsTable pages homes live → i < pages → (get_or table i 0 ≡ get_or live i 0 → ⊥) → has (get_or table i 0) live ≡ false
 apart_there {table = table} {live = live} i so too less other =
@@ -17,10 +28,7 @@ apart_there {table = table} {live = live} i so too less other =
 -- a number that is counted is below the counts
 pub counted_below : (counts : List ℕ) (n : ℕ) → 0 < get_or counts n 0 → n < length counts
 counted_below counts n some =
-    elim (cases_lt n (length counts)) [
-      | inl less ↦ less
-      | inr past ↦ (let none : get_or counts n 0 ≡ 0 = get_or_past counts n 0 past in absurd (omega arith))
-    ]
+    elim (cases_lt n (length counts)) [ inl less ↦ less | inr past ↦ absurd (omega (arith, get_or_past counts n 0 past)) ]
 
 -- counts of one list are those of another with the same numbers
 pub counts_alike : {counts xs ys : List ℕ} → Counts counts xs → Alike xs ys → Counts counts ys

@@ -1,6 +1,7 @@
 use Rattle.cow_pages.proofs.Lemmas.{lawful, logged_made, made_is, made_sound}
-use Rattle.cow_pages.proofs.Terms.{refl}
+use Rattle.cow_pages.proofs.Terms.{IsSound, refl}
 use Rattle.cow_pages.proofs.store.PageStore.make.Goals as goal
+use Rattle.cow_pages.specs.Pool.{parts_of}
 
 pub invariant_of-result : goal.invariant_of-result
 invariant_of-result c = record {
@@ -8,11 +9,8 @@ invariant_of-result c = record {
   logged = logged_made c.requires.few.0 c.in_ok-make.ensures.recent c.in_ok-blank_slots.ensures;
 }
 
-pub returns-clause-made : goal.returns-clause-made
-returns-clause-made c =
+pub returns : goal.returns
+returns c =
     let bytes = c.in_ok-vec.ensures.items_if_clones_equal (λ x h. h) in
-    made_is (made_sound c.requires.few c.requires.numbered c.requires.enough refl bytes c.in_ok-row.ensures.row (c.in_ok-vec-2.ensures.items_if_clones_equal (λ x h. h)) c.in_ok-row-2.ensures.row c.in_ok-row-2.ensures.room c.in_ok-blank_slots.ensures) bytes c.in_ok-row-2.ensures.row c.in_ok-blank_slots.ensures
-
-pub returns-clause-lawful : goal.returns-clause-lawful
-returns-clause-lawful c =
-    lawful (made_sound c.requires.few c.requires.numbered c.requires.enough refl (c.in_ok-vec.ensures.items_if_clones_equal (λ x h. h)) c.in_ok-row.ensures.row (c.in_ok-vec-2.ensures.items_if_clones_equal (λ x h. h)) c.in_ok-row-2.ensures.row c.in_ok-row-2.ensures.room c.in_ok-blank_slots.ensures) refl
+    let so : IsSound (parts_of c.args.pages c.args.frames 0 _ _ _ _ _ _) = made_sound c.requires.few c.requires.numbered c.requires.enough refl bytes c.in_ok-row.ensures.row (c.in_ok-vec-2.ensures.items_if_clones_equal (λ x h. h)) c.in_ok-row-2.ensures.row c.in_ok-row-2.ensures.room c.in_ok-blank_slots.ensures in
+    record { made = made_is so bytes c.in_ok-row-2.ensures.row c.in_ok-blank_slots.ensures; lawful = lawful so refl }
