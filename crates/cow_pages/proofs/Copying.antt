@@ -1,5 +1,5 @@
 -- A page of the live space that moves to a free frame.
-use Rattle.cow_pages.proofs.Terms.{All, Bool, List, None, Some, [], ap, arith, cond, drop, false, get_or, inl, inr, length, map, nat_lt, refl, set, subst, sym, take, true, ℕ, ◌*◌, ◌++◌, ◌+◌, ◌<◌, ◌||◌, ◌∙◌, ◌∷◌, ◌≡◌, ◌≤◌, ◌⊎◌, cases_Bool, cases_eq, cases_lt, false≢true, lt-ltb, ltb-true, or_left, or_parts, or_right, get_or-set_other, get_or-set_same, get_or_append_left, get_or_push, length-append, length-set, take_at, All-cons, All-head, All-nil, All-tail, PAGE, Slot, Pages, different, has, saved_numbers, used_of, IsFree, NumberAfter, Owns, is_shared, IsSlot, IsSound, IsStack, IsTable, Parts, contents, pages_of, places, slot_numbers, slot_space, space_of, table_numbers}
+use Rattle.cow_pages.proofs.Terms.{All, Bool, List, None, Some, [], ap, arith, cond, drop, false, get_or, inl, inr, length, map, nat_lt, refl, set, subst, sym, take, true, ℕ, ◌*◌, ◌++◌, ◌+◌, ◌<◌, ◌||◌, ◌∙◌, ◌∷◌, ◌≡◌, ◌≤◌, ◌⊎◌, cases_Bool, cases_eq, cases_lt, false≢true, ltb-true, or_parts, get_or-set_other, get_or-set_same, get_or_append_left, get_or_push, length-append, length-set, take_at, All-cons, All-head, All-nil, All-tail, PAGE, Slot, Pages, different, has, saved_numbers, used_of, IsFree, NumberAfter, Owns, is_shared, IsSlot, IsSound, IsStack, IsTable, Parts, contents, pages_of, places, slot_numbers, slot_space, space_of, table_numbers}
 use Rattle.cow_pages.proofs.Counting.{AreBelow, has-append, has-is, places-append, has-get_or, different-append-lt, places-here, places-set, places-there}
 use Rattle.cow_pages.proofs.Walks.{by_count, by_live, in_use, table_put}
 use Rattle.cow_pages.proofs.Frames.{copied, length-copied, copy_within-copied, contents-copied, contents-copied_apart}

@@ -1,8 +1,6 @@
 -- How many times a number stands in a list, and how many different ones do.
-use Rattle.std.proofs.lemmas.Bool.Decides.{nat_tests}
-use Rattle.std.proofs.Math.Bool.{or_assoc}
 use Rattle.std.proofs.Math.ListN.{set}
-use Rattle.cow_pages.proofs.Terms.{common_steps, Bool, List, [], ap, arith, cases_lt, get_or_append_left, get_or-append_right, length-append, le-ltb, ◌-◌, cond, drop, false, get_or, inl, inr, length, nat_lt, refl, subst, suc, sym, take, true, zero, ℕ, ◌++◌, ◌+◌, ◌<◌, ◌==◌, ◌||◌, ◌∙◌, ◌∷◌, ◌≡◌, ◌≤◌, cases_Bool, cases_eq, eq-eqb, eqb-true, false_from_ne_true, lt-ltb, ltb-false, ltb-true, ne_eqb, or_cases, or_left, or_right, take-append-drop, different, has, places}
+use Rattle.cow_pages.proofs.Terms.{Bool, List, [], ap, arith, cond, drop, false, get_or, inl, inr, length, nat_lt, refl, subst, suc, sym, take, true, zero, ℕ, ◌++◌, ◌+◌, ◌<◌, ◌==◌, ◌||◌, ◌∙◌, ◌∷◌, ◌≡◌, ◌≤◌, or_assoc, cases_Bool, cases_eq, eq-eqb, eqb-true, false_from_ne_true, le-ltb, lt-ltb, ltb-false, ltb-true, ne_eqb, or_cases, or_left, or_right, nat_tests, common_steps, take-append-drop, different, has, places}
 
 -- each element of a list is below a number
 abbrev pub AreBelow : ℕ → List ℕ → Type 0

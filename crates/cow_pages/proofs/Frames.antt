@@ -1,7 +1,6 @@
 -- Bytes of frames: reading them, writing some, and copying a frame.
-use Rattle.std.proofs.lemmas.Bool.Decides.{nat_tests}
-use Rattle.std.proofs.Math.Seq.{drop-append-add, drop-append_seam}
-use Rattle.cow_pages.proofs.Terms.{common_steps, List, [], ap, arith, cond, nat_lt, le-ltb, lt-ltb, take_at, drop, get_or, inl, inr, length, refl, set, subst, suc, sym, take, ℕ, ◌%◌, ◌*◌, ◌++◌, ◌+◌, ◌-◌, ◌/◌, ◌<◌, ◌∙◌, ◌∷◌, ◌≡◌, ◌≤◌, ◌⊎◌, cases_eq, cases_lt, same_number_lists, append_assoc, drop-drop, get_or-append_right, get_or-drop, get_or-set_other, get_or-set_same, get_or-take, get_or_append_left, length-append, length-drop, length-set, length-take-le, set_split, PAGE, put_at, contents}
+use Rattle.std.proofs.lemmas.List.{append_assoc}
+use Rattle.cow_pages.proofs.Terms.{List, [], ap, arith, cond, drop, get_or, inl, inr, length, nat_lt, refl, set, subst, suc, sym, take, ℕ, ◌%◌, ◌*◌, ◌++◌, ◌+◌, ◌-◌, ◌/◌, ◌<◌, ◌∙◌, ◌∷◌, ◌≡◌, ◌≤◌, ◌⊎◌, drop-append-add, drop-append_seam, cases_eq, cases_lt, le-ltb, lt-ltb, nat_tests, common_steps, same_number_lists, drop-drop, get_or-append_right, get_or-drop, get_or-set_other, get_or-set_same, get_or-take, get_or_append_left, length-append, length-drop, length-set, length-take-le, set_split, take_at, PAGE, put_at, contents}
 use Rattle.cow_pages.proofs.Counting.{AreBelow, below_tail, below_head}
 
 -- no number stands at two places of a list

@@ -1,5 +1,5 @@
 -- The moves of pages that are kept.
-use Rattle.cow_pages.proofs.Terms.{All, IsSome, List, ap, arith, false, get_or, inl, inr, length, refl, replicate, set, subst, sym, true, ℕ, ◌%◌, ◌+◌, ◌<◌, ◌∙◌, ◌≡◌, ◌≤◌, cases_eq, cases_lt, false≢true, get_or-replicate, get_or-set_other, get_or-set_same, length-replicate, length-set, All-get_or, All-set, All-weaker, MOST, RECENT, Slot, Pages, slot_at, AreBlank, AreInside, AreLogged, AreMoved, IsKept, IsLogged, IsLoggedSince, IsSlot, IsSound, Parts}
+use Rattle.cow_pages.proofs.Terms.{List, ap, arith, false, get_or, inl, inr, length, replicate, set, subst, sym, ℕ, ◌%◌, ◌+◌, ◌<◌, ◌∙◌, ◌≡◌, ◌≤◌, cases_eq, cases_lt, false≢true, get_or-replicate, get_or-set_other, get_or-set_same, length-replicate, length-set, All-get_or, All-set, All-weaker, MOST, RECENT, Slot, AreBlank, AreInside, AreLogged, IsKept, IsLogged, IsLoggedSince, Parts}
 use Rattle.cow_pages.proofs.Stores.{HasSlot, slot_is}
 use Rattle.cow_pages.proofs.Making.{IsBlank}
 

@@ -1,6 +1,5 @@
 -- A part of a list that another part of it takes the place of.
-use Rattle.std.proofs.Common.{append_assoc, length-drop}
-use Rattle.cow_pages.proofs.Terms.{common_steps, List, ap, arith, drop, length, sym, take, ℕ, ◌++◌, ◌+◌, ◌-◌, ◌∙◌, ◌≡◌, ◌≤◌, drop-drop, drop-take, length-take-le, take-append-drop, take-take}
+use Rattle.cow_pages.proofs.Terms.{List, ap, append_assoc, arith, drop, length, sym, take, ℕ, ◌++◌, ◌+◌, ◌-◌, ◌∙◌, ◌≡◌, ◌≤◌, common_steps, drop-drop, drop-take, take-append-drop, take-take}
 
 -- a part of a first part is that part of the whole
 part_of : (from n whole : ℕ) (xs : List ℕ) → from + n ≤ whole → take n (drop from (take whole xs)) ≡ take n (drop from xs)

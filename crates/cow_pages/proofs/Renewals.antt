@@ -1,7 +1,7 @@
 -- A table that becomes the live one, entry by entry.
-use Rattle.cow_pages.proofs.Terms.{List, [], ap, arith, cond, drop, false, get_or, inl, inr, length, nat_lt, refl, set, subst, sym, take, true, ℕ, ◌%◌, ◌++◌, ◌+◌, ◌-◌, ◌<◌, ◌||◌, ◌∙◌, ◌∷◌, ◌≡◌, ◌≤◌, ◌⊎◌, cases_eq, cases_lt, drop_more, ext_get_or, get_or-drop, get_or-set_other, get_or-set_same, get_or-take, length-append, length-set, RECENT, different, has, CanUncount, Counts, IsRenewed, IsStack, IsTable, Recounts, SameUpTo, StandFrom, StaySame, places}
-use Rattle.cow_pages.proofs.Counting.{Alike, has-get_or, places-append, places-here, places-none, places-set, places-some, places-take-drop}
-use Rattle.cow_pages.proofs.Walks.{apart_there, by_live, counted_below, counted_room, one_less, one_more, recounts_alike, recounts_on, stack_kept, stack_less, table_put}
+use Rattle.cow_pages.proofs.Terms.{List, [], ap, arith, cond, drop, false, get_or, inl, inr, length, nat_lt, set, subst, sym, take, ℕ, ◌%◌, ◌++◌, ◌+◌, ◌-◌, ◌<◌, ◌∙◌, ◌∷◌, ◌≡◌, ◌≤◌, cases_eq, cases_lt, drop_more, ext_get_or, get_or-drop, get_or-set_other, get_or-take, length-set, RECENT, has, IsRenewed, IsStack, Recounts, SameUpTo, StandFrom, StaySame, places}
+use Rattle.cow_pages.proofs.Counting.{Alike, has-get_or, places-append, places-none, places-set, places-some, places-take-drop}
+use Rattle.cow_pages.proofs.Walks.{apart_there, by_live, counted_room, one_less, one_more, recounts_alike, recounts_on, stack_kept, stack_less, table_put}
 
 -- the frame that a table has at a place is counted
 pub renewed_some : {counts table live free : List ℕ} (i : ℕ) → IsRenewed counts table live free → i < length table → 0 < get_or counts (get_or table i 0) 0
@@ -87,11 +87,7 @@ stand_more n end recent table after live so stay here k inside other =
 pub stand_all : {counts table live free : List ℕ} (n end : ℕ) (recent : List ℕ) → IsRenewed counts table live free → StandFrom n end recent table live → end ≤ n → table ≡ live
 stand_all {table = table} {live = live} n end recent so stand past =
     ext_get_or 0 table live so.fits.table_is.size
-    (λ k less.
-    elim (cases_eq (get_or table k 0) (get_or live k 0)) [
-      | inl is ↦ is
-      | inr other ↦ (let found = stand k (omega (arith, so.fits.table_is.size)) other in absurd (omega (arith, found.1, found.2)))
-    ])
+    (λ k less. elim (cases_eq (get_or table k 0) (get_or live k 0)) [ inl is ↦ is | inr other ↦ (let found = stand k (omega (arith, so.fits.table_is.size)) other in absurd (omega (arith, found.1, found.2))) ])
 
 -- a part that is the same in both tables
 pub same_part : (i n : ℕ) (table live : List ℕ) → take n (drop i table) ≡ take n (drop i live) → (k : ℕ) → i ≤ k → k < i + n → get_or table k 0 ≡ get_or live k 0

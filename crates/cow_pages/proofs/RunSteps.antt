@@ -1,7 +1,5 @@
 -- A write right behind another one, and runs that are read page by page.
-use Rattle.std.proofs.lemmas.Bool.Decides.{nat_tests}
-use Rattle.std.proofs.Math.Seq.{take-add}
-use Rattle.cow_pages.proofs.Terms.{common_steps, Bool, List, [], ap, arith, cond, drop, false, get_or, inl, inr, length, refl, replicate, subst, suc, sym, take, true, zero, ℕ, ◌&&◌, ◌*◌, ◌++◌, ◌+◌, ◌-◌, ◌/◌, ◌<◌, ◌||◌, ◌∙◌, ◌≡◌, ◌≤◌, ◌⊎◌, and_parts, cases_Bool, cases_lt, false_from_ne_true, false≢true, or_cases, or_left, or_parts, or_right, append-nil, append_assoc, drop-drop, length-append, length-drop, length-replicate, length-take-le, replicate-append-replicate, take-append-drop, take_at, PAGE, IsLawful, IsSpace, Pages, has, saved_numbers, used_of, IsFree, NumberAfter, Writes, copied_pages, is_shared, put_at, reaches}
+use Rattle.cow_pages.proofs.Terms.{Bool, List, [], ap, arith, cond, drop, false, get_or, inl, inr, length, refl, replicate, subst, suc, sym, take, true, zero, ℕ, ◌&&◌, ◌*◌, ◌++◌, ◌+◌, ◌<◌, ◌||◌, ◌∙◌, ◌≡◌, ◌≤◌, ◌⊎◌, take-add, and_parts, cases_Bool, false_from_ne_true, false≢true, or_parts, nat_tests, common_steps, append-nil, drop-drop, length-append, length-drop, length-replicate, length-take-le, replicate-append-replicate, take-append-drop, PAGE, IsLawful, IsSpace, Pages, has, saved_numbers, used_of, IsFree, NumberAfter, Writes, copied_pages, is_shared, put_at, reaches}
 use Rattle.cow_pages.proofs.Counting.{has-append, has-get_or, has-at}
 use Rattle.cow_pages.proofs.Frames.{put_at-put_at, run-put_apart}
 
@@ -147,10 +145,7 @@ copies_more old mid new from to done count all so then before between less sourc
     let size : length (take done bytes) ≡ done = length-take-le done bytes (omega (arith, rest, whole)) in
     let part : length (take count (drop done bytes)) ≡ count = length-take-le count (drop done bytes) (omega (arith, length-drop done bytes, rest, whole)) in
     let clear : (from + done + count ≤ to) ⊎ (to + length (take done bytes) ≤ from + done) =
-    elim apart [
-      | inl behind ↦ inl (omega (arith, behind, less))
-      | inr ahead ↦ inr (omega (arith, ahead, less, size))
-    ] in
+    elim apart [ inl behind ↦ inl (omega (arith, behind, less)) | inr ahead ↦ inr (omega (arith, ahead, less, size)) ] in
     let same : take count (drop (from + done) mid.live.bytes) ≡ take count (drop done bytes) =
     ap (λ xs. take count (drop (from + done) xs)) so.written
     ∙ run-put_apart to (from + done) count (take done bytes) old.live.bytes (omega (arith, size, whole)) (omega (arith, whole)) clear

@@ -1,6 +1,5 @@
 -- Writes, and several one after the other.
-use Rattle.std.proofs.lemmas.Bool.Decides.{nat_tests}
-use Rattle.cow_pages.proofs.Terms.{Bool, List, Some, [], ap, arith, cond, drop, false, get_or, inl, inr, length, nat_le, nat_lt, refl, set, slice_get, subst, suc, sym, take, true, zero, ℕ, ◌%◌, ◌&&◌, ◌*◌, ◌++◌, ◌+◌, ◌-◌, ◌/◌, ◌<◌, ◌∙◌, ◌∷◌, ◌≡◌, ◌≤◌, and_from, and_parts, cases_Bool, cases_eq, cases_lt, false_from_ne_true, le-leb, le-ltb, leb-true, lt-ltb, ltb-true, or_parts, get_or_default, length-append, length-drop, length-set, length-take-le, take_at, slice_get-get_or, PAGE, Slot, IsLawful, Pages, different, has, saved_numbers, used_of, IsFree, NumberAfter, Owns, Writes, copied_pages, is_shared, put_at, reaches, IsSound, Parts, contents, pages_of, table_numbers}
+use Rattle.cow_pages.proofs.Terms.{Bool, List, Some, [], ap, arith, cond, drop, false, get_or, inl, inr, length, nat_lt, refl, set, slice_get, subst, suc, sym, take, true, zero, ℕ, ◌%◌, ◌&&◌, ◌*◌, ◌++◌, ◌+◌, ◌/◌, ◌<◌, ◌∙◌, ◌∷◌, ◌≡◌, ◌≤◌, cases_Bool, cases_eq, le-ltb, lt-ltb, or_parts, nat_tests, get_or_default, length-append, length-drop, length-set, length-take-le, take_at, slice_get-get_or, PAGE, IsLawful, Pages, different, has, saved_numbers, used_of, IsFree, NumberAfter, Owns, Writes, copied_pages, is_shared, put_at, reaches, IsSound, Parts, contents, pages_of, table_numbers}
 use Rattle.cow_pages.proofs.Counting.{has-append}
 use Rattle.cow_pages.proofs.Walks.{table_home}
 pub use Rattle.cow_pages.proofs.Slots.{refill}

@@ -1,8 +1,8 @@
 -- What the calls of `save`, `release`, `save_over` and `restore` ask of their parts, and what they leave.
-use Rattle.cow_pages.proofs.Terms.{Bool, IsSome, List, None, Some, [], ap, arith, cond, drop, false, get_or, inl, inr, length, map, nat_lt, refl, set, subst, sym, take, true, ℕ, ◌++◌, ◌+◌, ◌-◌, ◌<◌, ◌||◌, ◌∙◌, ◌≡◌, ◌≤◌, cases_Bool, false≢true, length-map, Slot, Pages, Space, different, has, slot_at, used_of, CanCount, CanGiveUp, CanUncount, Counts, IsRenewed, IsSlot, IsSound, IsStack, IsTable, Parts, Recounts, pages_of, places, slot_numbers, slot_space, space_of, table_numbers}
+use Rattle.cow_pages.proofs.Terms.{Bool, List, None, Some, [], ap, arith, cond, drop, false, get_or, inl, inr, length, nat_lt, refl, set, subst, sym, take, true, ℕ, ◌++◌, ◌+◌, ◌-◌, ◌<◌, ◌||◌, ◌∙◌, ◌≡◌, ◌≤◌, cases_Bool, false≢true, length-map, Slot, Pages, Space, different, has, slot_at, used_of, CanCount, CanGiveUp, CanUncount, Counts, IsRenewed, IsSlot, IsSound, IsStack, IsTable, Parts, Recounts, pages_of, places, slot_numbers, slot_space, space_of, table_numbers}
 use Rattle.cow_pages.proofs.Counting.{has-get_or, places-append, places-le-one, places-none, places-some}
 use Rattle.cow_pages.proofs.Walks.{by_live, counts_alike, stack_same, table_home}
-use Rattle.cow_pages.proofs.Stores.{HasSlot, slot_at-is, slot_here, slot_is, used-is, used-sum}
+use Rattle.cow_pages.proofs.Stores.{HasSlot, slot_at-is, slot_is, used-is, used-sum}
 use Rattle.cow_pages.proofs.Slots.{Turning, emptied, live_room, others, refill, saved_slot, slot_in, slot_out, slots_few, turned_counts, turned_held, turned_sound, turning}
 
 -- a table written whole with a list of its length

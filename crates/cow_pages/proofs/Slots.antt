@@ -1,5 +1,5 @@
 -- The numbers of all slots, and what a change of one slot leaves of a store.
-use Rattle.cow_pages.proofs.Terms.{common_steps, All, List, None, Option, Some, [], ap, arith, cond, drop, false, get_or, inl, inr, length, map, refl, set, subst, suc, sym, take, true, zero, ℕ, ◌++◌, ◌+◌, ◌-◌, ◌<◌, ◌∙◌, ◌∷◌, ◌≡◌, ◌≤◌, cases_Bool, length-set, map-set, All-head, All-set, All-tail, take_at, Slot, MAX_SLOTS, Pages, Space, different, held_of, used_of, Counts, IsSlot, IsSound, IsStack, IsTable, Parts, Recounts, pages_of, places, slot_numbers, slot_space, table_numbers}
+use Rattle.cow_pages.proofs.Terms.{All, List, Option, [], ap, arith, cond, drop, false, get_or, inl, inr, length, map, set, subst, suc, sym, take, true, zero, ℕ, ◌++◌, ◌+◌, ◌<◌, ◌∙◌, ◌∷◌, ◌≡◌, ◌≤◌, cases_Bool, common_steps, length-set, map-set, All-head, All-set, All-tail, Slot, MAX_SLOTS, Pages, Space, different, held_of, used_of, Counts, IsSlot, IsSound, IsStack, Parts, Recounts, pages_of, places, slot_numbers, slot_space, table_numbers}
 use Rattle.cow_pages.proofs.Counting.{Alike, different-alike, different-le, has-some, places-append, places-le-one, places-some}
 use Rattle.cow_pages.proofs.Walks.{counts_alike, table_home}
 use Rattle.cow_pages.proofs.Stores.{saved_numbers-is, used-is}

@@ -1,6 +1,5 @@
 -- What the fields of a store say of what it holds.
-use Rattle.std.proofs.Math.Bool.{or_comm}
-use Rattle.cow_pages.proofs.Terms.{All, Bool, IsSome, List, None, Some, [], ap, arith, cond, drop, false, get_or, inl, inr, length, map, nat_lt, refl, subst, suc, sym, take, true, zero, ℕ, ◌%◌, ◌*◌, ◌++◌, ◌+◌, ◌/◌, ◌<◌, ◌||◌, ◌∙◌, ◌∷◌, ◌≡◌, ◌≤◌, cases_lt, false≢true, get_or-map, get_or_past, get_or_read, length-map, All-get_or, All-head, All-tail, cond_some, PAGE, MAX_FRAMES_PER_PAGE, MAX_PAGES, Slot, Agree, IsLawful, IsSpace, Pages, Space, Stands, different, has, held_of, page_of, saved_numbers, slot_at, used_of, is_shared, Counts, IsSlot, IsSound, IsTable, Parts, pages_of, slot_space, space_of, table_numbers}
+use Rattle.cow_pages.proofs.Terms.{All, Bool, IsSome, List, None, Some, [], ap, arith, cond, drop, false, get_or, inl, inr, length, map, nat_lt, refl, subst, suc, sym, take, true, zero, ℕ, ◌%◌, ◌*◌, ◌++◌, ◌+◌, ◌/◌, ◌<◌, ◌||◌, ◌∙◌, ◌∷◌, ◌≡◌, or_comm, cases_lt, false≢true, get_or-map, get_or_past, get_or_read, length-map, All-get_or, All-head, All-tail, cond_some, PAGE, Slot, MAX_FRAMES_PER_PAGE, MAX_PAGES, Agree, IsLawful, IsSpace, Pages, Space, Stands, different, has, held_of, page_of, saved_numbers, slot_at, used_of, is_shared, Counts, IsSlot, IsSound, IsTable, Parts, pages_of, slot_space, space_of, table_numbers}
 use Rattle.cow_pages.proofs.Counting.{AreBelow, below_append, has-append, has-get_or, has-is, length-free, places-some}
 use Rattle.cow_pages.proofs.Walks.{counted_below, in_use, table_home}
 use Rattle.cow_pages.proofs.Frames.{length-contents, run-contents}
@@ -38,10 +37,7 @@ some_saved false space h = absurd (false≢true h)
 
 pub slot_within : (pool : List ℕ) (slots : List Slot) (i : ℕ) → IsSome (get_or (map (slot_space pool) slots) i None) → i < length slots
 slot_within pool slots i some =
-    elim (cases_lt i (length slots)) [
-      | inl less ↦ less
-      | inr past ↦ absurd (false≢true (subst IsSome (get_or_past (map (slot_space pool) slots) i None (omega (arith, length-map slots (slot_space pool)))) some))
-    ]
+    elim (cases_lt i (length slots)) [ inl less ↦ less | inr past ↦ absurd (false≢true (subst IsSome (get_or_past (map (slot_space pool) slots) i None (omega (arith, length-map slots (slot_space pool)))) some)) ]
 
 -- what a slot is seen as
 pub slot_at-is : (pool : List ℕ) (slots : List Slot) (i : ℕ) (slot : Slot) → i < length slots → slot ≡ get_or slots i slot → get_or (map (slot_space pool) slots) i None ≡ slot_space pool slot

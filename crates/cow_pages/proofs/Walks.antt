@@ -1,7 +1,6 @@
 -- One step of each walk over a table.
-use Rattle.std.proofs.lemmas.Bool.Decides.{nat_tests}
-use Rattle.cow_pages.proofs.Terms.{Bool, List, [], ap, arith, cond, drop, false, get_or, inl, inr, length, nat_lt, refl, set, subst, sym, take, true, ℕ, ◌++◌, ◌+◌, ◌-◌, ◌<◌, ◌||◌, ◌∙◌, ◌∷◌, ◌≡◌, ◌≤◌, cases_Bool, cases_eq, cases_lt, eq-eqb, le-ltb, lt-ltb, ne_eqb, or_left, or_right, drop_all, drop_more, get_or-drop, get_or-set_other, get_or-set_same, get_or_past, length-drop, length-set, take_all, take_more, different, has, CanCount, CanGiveUp, CanUncount, Counts, IsStack, IsTable, Recounts, places}
-use Rattle.cow_pages.proofs.Counting.{Alike, below_append, below_front, different-alike, different-front, has-at, has-get_or, has-nowhere, length-missing, places-append, places-here, places-some, places-take-drop, places-there}
+use Rattle.cow_pages.proofs.Terms.{Bool, List, [], ap, arith, cond, drop, false, get_or, inl, inr, length, nat_lt, refl, set, subst, sym, take, true, ℕ, ◌++◌, ◌+◌, ◌-◌, ◌<◌, ◌||◌, ◌∙◌, ◌∷◌, ◌≡◌, ◌≤◌, cases_Bool, cases_eq, cases_lt, le-ltb, lt-ltb, ne_eqb, or_left, or_right, nat_tests, drop_all, drop_more, get_or-drop, get_or-set_other, get_or-set_same, get_or_past, length-drop, length-set, take_all, take_more, different, has, CanCount, CanGiveUp, CanUncount, Counts, IsStack, IsTable, Recounts, places}
+use Rattle.cow_pages.proofs.Counting.{Alike, below_append, below_front, different-alike, different-front, has-at, has-get_or, has-nowhere, length-missing, places-append, places-here, places-take-drop, places-there}
 
 -- a frame has one place in all tables
 pub table_home : {pages : ℕ} {homes table other : List ℕ} → IsTable pages homes table → IsTable pages homes other → (k j : ℕ) → k < length table → j < length other → get_or table k 0 ≡ get_or other j 0 → k ≡ j

@@ -1,5 +1,5 @@
 use Rattle.cow_pages.proofs.Lemmas.{recounts_on, renewed_all, same_on, same_part}
-use Rattle.cow_pages.proofs.Terms.{refl, arith, drop, subst, take, ◌+◌, ◌-◌, ◌≡◌, Recounts}
+use Rattle.cow_pages.proofs.Terms.{arith, drop, refl, subst, take, ◌+◌, ◌-◌, ◌≡◌, Recounts}
 use Rattle.cow_pages.proofs.tables.renew_all.Goals as goal
 use Rattle.cow_pages.specs.declared.tables.TheConstants.{BLOCK}
 

@@ -1,5 +1,5 @@
 use Rattle.cow_pages.proofs.Lemmas.{recounts_on, stand_all, stand_more}
-use Rattle.cow_pages.proofs.Terms.{refl, arith, get_or, length, subst, ◌%◌, ◌<◌, ◌∙◌, ◌≡◌, get_or_read, RECENT, Recounts}
+use Rattle.cow_pages.proofs.Terms.{arith, get_or, length, refl, subst, ◌%◌, ◌<◌, ◌∙◌, ◌≡◌, get_or_read, RECENT, Recounts}
 use Rattle.cow_pages.proofs.tables.renew_moved.Goals as goal
 
 pub moves-preserved : goal.moves-preserved

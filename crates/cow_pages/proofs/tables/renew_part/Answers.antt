@@ -1,5 +1,5 @@
-use Rattle.cow_pages.proofs.Lemmas.{recounts_none, recounts_on, same_more}
-use Rattle.cow_pages.proofs.Terms.{refl, arith, ◌∙◌}
+use Rattle.cow_pages.proofs.Lemmas.{recounts_on, same_more}
+use Rattle.cow_pages.proofs.Terms.{arith, refl, ◌∙◌}
 use Rattle.cow_pages.proofs.tables.renew_part.Goals as goal
 
 pub entries-preserved : goal.entries-preserved

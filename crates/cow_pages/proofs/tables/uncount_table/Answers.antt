@@ -1,5 +1,5 @@
-use Rattle.cow_pages.proofs.Lemmas.{apart_there, by_count, by_live, counted_room, has-get_or, rise_none, rise_some, stack_freed, stack_kept, uncounting_all, uncounting_more, uncounting_some}
-use Rattle.cow_pages.proofs.Terms.{arith, get_or, has, ◌-◌, length, subst, sym, true, ◌<◌, ◌∙◌, ◌≡◌}
+use Rattle.cow_pages.proofs.Lemmas.{has-get_or, apart_there, by_count, by_live, counted_room, rise_none, rise_some, stack_freed, stack_kept, uncounting_all, uncounting_more, uncounting_some}
+use Rattle.cow_pages.proofs.Terms.{arith, get_or, length, subst, sym, true, ◌-◌, ◌<◌, ◌∙◌, ◌≡◌, has}
 use Rattle.cow_pages.proofs.tables.uncount_table.Goals as goal
 use Rattle.cow_pages.proofs.tables.uncount_table.Goals.{then-count-eq0+then-live-k, then-count-eq0+else-live-k, else-count-eq0}
 

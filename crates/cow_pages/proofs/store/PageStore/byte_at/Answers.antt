@@ -1,4 +1,4 @@
-use Rattle.cow_pages.proofs.Lemmas.{byte_is, lawful, stands_in}
+use Rattle.cow_pages.proofs.Lemmas.{lawful, byte_is, stands_in}
 use Rattle.cow_pages.proofs.store.PageStore.byte_at.Goals as goal
 
 pub returns : goal.returns

@@ -1,5 +1,5 @@
-use Rattle.cow_pages.proofs.Lemmas.{free_there, logged_moved, moved, moved_apart, moved_owns, moved_pool, moved_sound}
-use Rattle.cow_pages.proofs.Terms.{ap, arith, get_or_read, is_shared, refl, PAGE, ◌*◌, subst, sym, ◌<◌, ◌∙◌}
+use Rattle.cow_pages.proofs.Lemmas.{free_there, moved, moved_apart, moved_owns, moved_pool, moved_sound, logged_moved}
+use Rattle.cow_pages.proofs.Terms.{ap, arith, refl, subst, sym, ◌*◌, ◌<◌, ◌∙◌, get_or_read, PAGE, is_shared}
 use Rattle.cow_pages.proofs.store.PageStore.copy_page.Goals as goal
 
 pub unreachable-requires : goal.unreachable-requires

@@ -1,7 +1,6 @@
-use Rattle.cow_pages.proofs.Lemmas.{lawful, logged_made, made_is, made_sound}
-use Rattle.cow_pages.proofs.Terms.{IsSound, refl}
+use Rattle.cow_pages.proofs.Lemmas.{lawful, made_is, made_sound, logged_made}
+use Rattle.cow_pages.proofs.Terms.{refl, IsSound, parts_of}
 use Rattle.cow_pages.proofs.store.PageStore.make.Goals as goal
-use Rattle.cow_pages.specs.Pool.{parts_of}
 
 pub invariant_of-result : goal.invariant_of-result
 invariant_of-result c = record {

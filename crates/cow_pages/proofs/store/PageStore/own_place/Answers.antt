@@ -1,5 +1,5 @@
 use Rattle.cow_pages.proofs.Lemmas.{shared_read, stay_owns}
-use Rattle.cow_pages.proofs.Terms.{ap, arith, lt-ltb, nat_lt, ◌∙◌}
+use Rattle.cow_pages.proofs.Terms.{ap, arith, nat_lt, ◌∙◌, lt-ltb}
 use Rattle.cow_pages.proofs.store.PageStore.own_place.Goals as goal
 
 pub returns-then-index-eq0-clause-owns : goal.returns-then-index-eq0-clause-owns

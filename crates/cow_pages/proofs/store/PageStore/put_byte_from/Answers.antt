@@ -1,4 +1,4 @@
-use Rattle.cow_pages.proofs.Lemmas.{byte_done, byte_lawful, owns_in, stay_owns}
+use Rattle.cow_pages.proofs.Lemmas.{stay_owns, byte_done, byte_lawful, owns_in}
 use Rattle.cow_pages.proofs.Terms.{ap}
 use Rattle.cow_pages.proofs.store.PageStore.put_byte_from.Goals as goal
 

@@ -1,4 +1,4 @@
-use Rattle.cow_pages.proofs.Lemmas.{owns_in, part_done, part_lawful, stay_owns}
+use Rattle.cow_pages.proofs.Lemmas.{stay_owns, owns_in, part_done, part_lawful}
 use Rattle.cow_pages.proofs.Terms.{ap, arith, ◌+◌, ◌-◌, ◌∙◌, ◌≡◌, little_bytes}
 use Rattle.cow_pages.proofs.store.PageStore.put_half_from.Goals as goal
 

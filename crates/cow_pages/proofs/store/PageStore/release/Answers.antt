@@ -1,5 +1,5 @@
-use Rattle.cow_pages.proofs.Lemmas.{emptied, lawful, logged_released, refilled_stack, releasing, releasing_fits, releasing_sound, slot_here, slot_seen, turned_held}
-use Rattle.cow_pages.proofs.Terms.{None, arith, refl}
+use Rattle.cow_pages.proofs.Lemmas.{lawful, slot_here, emptied, slot_seen, turned_held, refilled_stack, releasing, releasing_fits, releasing_sound, logged_released}
+use Rattle.cow_pages.proofs.Terms.{arith, refl}
 use Rattle.cow_pages.proofs.store.PageStore.release.Goals as goal
 
 pub uncount_table-requires-clause-fits : goal.uncount_table-requires-clause-fits

@@ -1,4 +1,4 @@
-use Rattle.cow_pages.proofs.Lemmas.{lawful, logged_lost, refilled, restoring, restoring_fits, slot_here}
+use Rattle.cow_pages.proofs.Lemmas.{lawful, slot_here, refilled, restoring, restoring_fits, logged_lost}
 use Rattle.cow_pages.proofs.Terms.{refl}
 use Rattle.cow_pages.proofs.store.PageStore.restore.Goals as goal
 

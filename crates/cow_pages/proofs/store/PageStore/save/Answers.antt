@@ -1,5 +1,5 @@
-use Rattle.cow_pages.proofs.Lemmas.{lawful, live_held, live_space, logged_saved, refilled, saving, saving_fits, saving_sound, saving_sum, saving_used, slot_seen}
-use Rattle.cow_pages.proofs.Terms.{Slot, arith, refl, true, with_items, ◌∙◌}
+use Rattle.cow_pages.proofs.Lemmas.{lawful, live_held, slot_seen, live_space, refilled, saving, saving_fits, saving_sound, saving_sum, saving_used, logged_saved}
+use Rattle.cow_pages.proofs.Terms.{arith, refl, true, ◌∙◌, with_items, Slot}
 use Rattle.cow_pages.proofs.store.PageStore.save.Goals as goal
 
 pub count_table-requires-clause-fits : goal.count_table-requires-clause-fits

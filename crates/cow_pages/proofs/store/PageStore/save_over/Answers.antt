@@ -1,5 +1,5 @@
-use Rattle.cow_pages.proofs.Lemmas.{lawful, live_held, live_space, logged_saved, over_fits, over_moves, over_sound, refilled, refilled_stack, saved_slot, saving_over, slot_here, slot_seen, turned_held}
-use Rattle.cow_pages.proofs.Terms.{Slot, arith, refl, with_items, ◌∙◌}
+use Rattle.cow_pages.proofs.Lemmas.{lawful, slot_here, live_held, saved_slot, slot_seen, turned_held, live_space, over_fits, over_sound, refilled, refilled_stack, saving_over, logged_saved, over_moves}
+use Rattle.cow_pages.proofs.Terms.{arith, refl, ◌∙◌, with_items, Slot}
 use Rattle.cow_pages.proofs.store.PageStore.save_over.Goals as goal
 
 pub renew_table-recount-requires-clause-fits : goal.renew_table-recount-requires-clause-fits

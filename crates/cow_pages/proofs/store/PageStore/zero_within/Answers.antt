@@ -1,5 +1,5 @@
 use Rattle.cow_pages.proofs.Lemmas.{owns_in, part_done, part_lawful, place_room}
-use Rattle.cow_pages.proofs.Terms.{ap, arith, drop, length, length-drop, length-replicate, length-take-le, replicate, sym, ℕ, ◌+◌, ◌-◌, ◌∙◌, ◌≡◌, ◌≤◌}
+use Rattle.cow_pages.proofs.Terms.{ap, arith, drop, length, replicate, sym, ℕ, ◌+◌, ◌-◌, ◌∙◌, ◌≡◌, ◌≤◌, length-drop, length-replicate, length-take-le}
 use Rattle.cow_pages.proofs.store.PageStore.zero_within.Goals as goal
 
 pub returns : goal.returns
