@@ -62,10 +62,7 @@ has-get_or (x ∷ xs) (suc k) less = or_right (x == get_or xs k 0) (has (get_or 
 pub has-at : (n : ℕ) (xs : List ℕ) → has n xs ≡ true → (k : ℕ) × (k < length xs) × (get_or xs k 0 ≡ n)
 has-at n [] is = cc
 has-at n (x ∷ xs) is =
-    elim (or_cases (x == n) (has n xs) is) [
-      | inl here ↦ (0, omega arith, eqb-true x n here)
-      | inr later ↦ (let found = has-at n xs later in (suc found.0, omega (arith, found.1), found.2))
-    ]
+    elim (or_cases (x == n) (has n xs) is) [ inl here ↦ (0, omega arith, eqb-true x n here) | inr later ↦ (let found = has-at n xs later in (suc found.0, omega (arith, found.1), found.2)) ]
 
 -- a number that stands at no place of a list isn't in it
 pub has-nowhere : (n : ℕ) (xs : List ℕ) → ((k : ℕ) → k < length xs → get_or xs k 0 ≡ n → ⊥) → has n xs ≡ false

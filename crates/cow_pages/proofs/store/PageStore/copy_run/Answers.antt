@@ -3,11 +3,7 @@ use Rattle.cow_pages.proofs.Terms.{arith, ◌+◌, ◌≤◌}
 use Rattle.cow_pages.proofs.store.PageStore.copy_run.Goals as goal
 
 pub pages-init : goal.pages-init
-pages-init c = record {
-  within = omega arith;
-  writes = writes_nothing _ _;
-  lawful = lawful c.self.invariant.sound c.self.view_is;
-}
+pages-init c = record { within = omega arith; writes = writes_nothing _ _; lawful = lawful c.self.invariant.sound c.self.view_is }
 
 pub pages-preserved : goal.pages-preserved
 pages-preserved c =
