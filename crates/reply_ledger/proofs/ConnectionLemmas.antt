@@ -1,5 +1,5 @@
 -- Connections as contracts see them, beside what is kept of them.
-use Rattle.reply_ledger.proofs.Terms.{Bool, List, None, Option, Some, [], ap, arith, cond, drop, false, if◌then◌else◌, is_some, length, map, not, refl, sym, true, ℕ, ◌&&◌, ◌++◌, ◌+◌, ◌∙◌, ◌∷◌, ◌≡◌, eq-eqb, eqb-true, true≢false, drop_all, option_map, option_map_or, IsSome, nat_eq, ◌==◌, ◌||◌, Send, sent_to, Connection, Passed, changed, closed_connection, connection_of, is_open, new_connection, passed_connection, stamped_to, trimmed_connection, trimmed_connections, Kept, is_open_account, new_account, no_account, passed_of, connections_of, earlier_at, is_known, seen}
+use Rattle.reply_ledger.proofs.Terms.{Bool, List, None, Option, Some, [], ap, arith, cond, drop, false, if◌then◌else◌, is_some, length, map, not, refl, sym, true, ℕ, ◌&&◌, ◌++◌, ◌+◌, ◌∙◌, ◌∷◌, ◌≡◌, eq-eqb, eqb-true, true≢false, drop_all, option_map, option_map_or, IsSome, nat_eq, ◌==◌, ◌||◌, Send, sent_to, Connection, Passed, changed, closed_connection, connection_of, is_open, new_connection, passed_connection, stamped_to, trimmed_connection, trimmed_connections, Kept, is_open_account, new_account, no_account, passed_of, connections_of, earlier_at, is_known, seen, subst, IsOpened, Ledger, account_at, keys_of}
 use Rattle.reply_ledger.proofs.AccountLemmas.{put, put-here}
 
 -- a connection of the ledger is the account of that number
@@ -35,6 +35,11 @@ known-of S A K q h = by (is_known K q) (sym (ap is_some (connection-of S A q K))
     by : (b : Bool) → is_some (if b then Some (seen S q (A q)) else None) ≡ true → b ≡ true
     by true k = refl
     by false k = absurd (true≢false (sym k))
+
+-- a connection that a ledger shows opened is known
+pub opened-known : {shown ledger : Ledger} (S : List Send) (T : List (ℕ × Kept)) (conn : ℕ) → shown ≡ ledger → shown.connections ≡ connections_of S (account_at T) (keys_of T) → IsOpened ledger conn → is_known (keys_of T) conn ≡ true
+opened-known S T conn is same opened =
+    known-of S (account_at T) (keys_of T) conn (subst (λ (l : List Connection). IsSome (connection_of l conn)) same (subst (λ (l : Ledger). IsOpened l conn) (sym is) opened))
 
 pub unknown-of : (S : List Send) (A : ℕ → Kept) (K : List ℕ) (q : ℕ) → connection_of (connections_of S A K) q ≡ None → is_known K q ≡ false
 unknown-of S A K q h = by (is_known K q) (sym (ap is_some (connection-of S A q K)) ∙ ap is_some h)

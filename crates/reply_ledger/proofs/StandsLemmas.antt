@@ -3,8 +3,8 @@ use Rattle.std.specs.Prelude.{min}
 use Rattle.std.specs.Cmp.{nat_eq_equiv}
 use Rattle.std.specs.Option.{IfSome}
 use Rattle.std.proofs.lemmas.Map.Views.{All-values_from_lookup}
-use Rattle.reply_ledger.proofs.Terms.{Bool, List, None, Option, Some, [], ap, append-nil, append_assoc, arith, cond, drop, false, get_or, if◌then◌else◌, inl, inr, length, length-append, length-drop, not, refl, replicate, subst, suc, sym, take, true, zero, ℕ, ◌&&◌, ◌++◌, ◌+◌, ◌-◌, ◌<◌, ◌∙◌, ◌∷◌, ◌≡◌, ◌≤◌, map, and_from, and_left, All, and_parts, and_right, cases_lt, eq-eqb, eqb-true, leb-false, leb-true, le-leb, length-replicate, lt-leb, lt-ltb, ltb-true, true≢false, drop_all, get_or_default, take-append-drop, fails_before_first, AllByRecursion, IsDistinct, keys_of, list_all, lookup, position_or_len, values_of, option_map, IsSome, find, nat_eq, nat_le, nat_lt, unwrap_or, ◌==◌, ◌||◌, ◌⊎◌, Prefix, Send, sent_to, Entry, IsInOrder, NotBefore, Passed, bytes_of, changed, passed_connection, stamped, stamped_to, stamps_of, times_of, parts_behind, waits, agree, until, IsLawful, trimmed_connections, HasRoom, Holds, Kept, Laid, Stands, Writes, account_at, connections_of, ending, given_up, is_known, is_open_account, ledger_of, new_account, no_account, passed_end, passed_of, rest_of, seen, send_of, sends_of, start_of, trial_of, waits_in, written}
-use Rattle.reply_ledger.proofs.AccountLemmas.{account_at-some, all_pass, pass_all, put, put-same}
+use Rattle.reply_ledger.proofs.Terms.{Bool, List, None, Option, Some, [], ap, append-nil, append_assoc, arith, cond, drop, false, get_or, if◌then◌else◌, inl, inr, length, length-append, length-drop, not, refl, replicate, subst, suc, sym, take, true, zero, ℕ, ◌&&◌, ◌++◌, ◌+◌, ◌-◌, ◌<◌, ◌∙◌, ◌∷◌, ◌≡◌, ◌≤◌, map, and_from, and_left, All, and_parts, and_right, cases_lt, eq-eqb, eqb-true, leb-false, leb-true, le-leb, length-replicate, lt-leb, lt-ltb, ltb-true, true≢false, drop_all, get_or_default, take-append-drop, fails_before_first, AllByRecursion, IsDistinct, keys_of, list_all, lookup, position_or_len, values_of, option_map, IsSome, find, nat_eq, nat_le, nat_lt, unwrap_or, ◌==◌, ◌||◌, ◌⊎◌, Prefix, Send, sent_to, Entry, IsInOrder, NotBefore, Passed, bytes_of, changed, passed_connection, stamped, stamped_to, stamps_of, times_of, parts_behind, waits, agree, until, IsLawful, trimmed_connections, HasRoom, Holds, Kept, Laid, Stands, Writes, account_at, connections_of, ending, given_up, is_known, is_open_account, ledger_of, new_account, no_account, passed_end, passed_of, rest_of, seen, send_of, sends_of, start_of, trial_of, waits_in, written, set_value, Connection}
+use Rattle.reply_ledger.proofs.AccountLemmas.{account_at-some, all_pass, of_written, pass_all, put, put-same}
 use Rattle.reply_ledger.proofs.ConnectionLemmas.{connections-changed, connections-same, connections-trimmed, is_open-of, stamped_to-of}
 use Rattle.reply_ledger.proofs.PositionLemmas.{tested, not-empty, position-map, position-at, find-none, find-at, find-map, position-le, position-same, position-later, position-push, position-drop}
 use Rattle.reply_ledger.proofs.EntryLemmas.{behind_front, laid-drop, laid-none, laid-push, laid-same, laid-take, later-at, length_parts, lengths_at, of_parts, parts_at, one_more, order-behind, parts-laid, sends_of-append, sends_of-one, sends_of-take, sent_to-append, writes-push}
@@ -84,6 +84,21 @@ cursor-marked A E conn k e s shut at =
     by : (q : ℕ) (b : Bool) → is_open_account (if b then k else A q) ≡ true → is_open_account (A q) ≡ true
     by q true h = absurd (true≢false (sym h ∙ shut))
     by q false h = h
+
+-- the same of accounts of which one was marked
+pub marked-later : {n : ℕ} {new : List (ℕ × Kept)} (T : List (ℕ × Kept)) (E : List Entry) (conn : ℕ) (k : Kept) → new ≡ set_value (nat_eq conn) T k → is_known (keys_of T) conn ≡ true → k.earlier ≡ (account_at T conn).earlier → k.stamps ≡ (account_at T conn).stamps → is_open_account k ≡ false → n ≡ position_or_len (waits_in (account_at T)) E
+    → n ≤ position_or_len (waits_in (account_at new)) E
+marked-later {n = n} T E conn k is known e s shut at = of_written (λ B l. n ≤ position_or_len (waits_in B) E) T conn k is known (cursor-marked (account_at T) E conn k e s shut at)
+
+pub marked-holds : {E own : List Entry} {room : ℕ} {shared : Option ℕ} {n n' : ℕ} {new : List (ℕ × Kept)} (T : List (ℕ × Kept)) (conn : ℕ) (k : Kept) → new ≡ set_value (nat_eq conn) T k → is_known (keys_of T) conn ≡ true → k.earlier ≡ (account_at T conn).earlier → k.stamps ≡ (account_at T conn).stamps → k.end ≡ (account_at T conn).end
+    → n' ≡ position_or_len (waits_in (account_at new)) E → Holds (account_at T) (keys_of T) E own room shared n → Holds (account_at new) (keys_of new) E own room shared n'
+marked-holds {E = E} {own = own} {room = room} {shared = shared} {n' = n'} T conn k is known e s f cursor h =
+    of_written (λ B l. n' ≡ position_or_len (waits_in B) E → Holds B l E own room shared n') T conn k is known (λ at. holds-marked conn k e s f at h) cursor
+
+pub marked-shown : {new : List (ℕ × Kept)} (S : List Send) (T : List (ℕ × Kept)) (conn : ℕ) (k : Kept) (change : Connection → Connection) → new ≡ set_value (nat_eq conn) T k → is_known (keys_of T) conn ≡ true → seen S conn k ≡ change (seen S conn (account_at T conn))
+    → connections_of S (account_at new) (keys_of new) ≡ changed conn change (connections_of S (account_at T) (keys_of T))
+marked-shown S T conn k change is known same =
+    of_written (λ B l. connections_of S B l ≡ changed conn change (connections_of S (account_at T) (keys_of T))) T conn k is known (connections-changed S (account_at T) conn k change (keys_of T) same)
 
 -- a connection opens
 pub known-more : (K : List ℕ) (conn q : ℕ) → is_known K q ≡ true → is_known (K ++ conn ∷ []) q ≡ true

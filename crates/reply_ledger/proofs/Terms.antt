@@ -13,7 +13,7 @@ pub use Rattle.reply_ledger.specs.Terms.{AllByRecursion, AllWithin, Prefix, Send
 unfoldable pub use Rattle.reply_ledger.specs.Terms.{IsDistinct}
 pub use Rattle.reply_ledger.specs.declared.account.Run.{Run}
 pub use Rattle.reply_ledger.specs.declared.entry.Entry.{Entry}
-pub use Rattle.reply_ledger.specs.Ledger.{Connection, IsInOrder, Ledger, NotBefore, Passed, closed_connection, gone_connection, new_connection, passed_connection, passed_to, with_change, with_connection, with_passed, with_send}
+pub use Rattle.reply_ledger.specs.Ledger.{Connection, IsInOrder, IsOpened, Ledger, NotBefore, Passed, closed_connection, gone_connection, new_connection, passed_connection, passed_to, with_change, with_connection, with_passed, with_send}
 unfoldable pub use Rattle.reply_ledger.specs.Ledger.{bytes_of, changed, connection_of, is_open, stamped, stamped_to, stamps_of, times_of}
 pub use Rattle.reply_ledger.specs.Parts.{is_left, shown_part}
 unfoldable pub use Rattle.reply_ledger.specs.Parts.{next_part, parts_behind, rest_part, settled, unpassed, waits}

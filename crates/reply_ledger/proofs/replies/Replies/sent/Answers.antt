@@ -1,5 +1,5 @@
-use Rattle.reply_ledger.proofs.Lemmas.{holds-room, holds-sent, known-of, of_written, position-le, seen-sent, sends_of-append, sends_of-one, shared-none, trial-same}
-use Rattle.reply_ledger.proofs.Terms.{List, [], ap, arith, length, sym, true, ℕ, ◌++◌, ◌+◌, ◌∙◌, ◌∷◌, ◌≡◌, keys_of, nat_eq, set_value, Entry, Ledger, Send, Holds, account_at, connections_of, is_known, sends_of, waits_in}
+use Rattle.reply_ledger.proofs.Lemmas.{holds-room, holds-sent, opened-known, of_written, position-le, seen-sent, sends_of-append, sends_of-one, shared-none, trial-same}
+use Rattle.reply_ledger.proofs.Terms.{List, [], ap, arith, length, sym, true, ℕ, ◌++◌, ◌+◌, ◌∙◌, ◌∷◌, ◌≡◌, keys_of, nat_eq, set_value, Entry, Ledger, Send, Holds, account_at, connections_of, is_known, sends_of, waits_in, refl}
 use Rattle.reply_ledger.proofs.replies.Replies.sent.Goals as goal
 
 pub first_of_more-self-inside-requires : goal.first_of_more-self-inside-requires
@@ -12,7 +12,7 @@ invariant_of-self c = holds-room c.reserve.ensures.items c.reserve.ensures.capac
 
 pub invariant_of-self-2 : goal.invariant_of-self-2
 invariant_of-self-2 c =
-    let known : is_known (keys_of c.self.inside.accounts.entries) c.args.conn ≡ true = known-of (sends_of c.self.inside.sends.items) (account_at c.self.inside.accounts.entries) (keys_of c.self.inside.accounts.entries) c.args.conn (rw (← c.self.view_is) at c.requires.opened) in
+    let known = opened-known (sends_of c.self.inside.sends.items) c.self.inside.accounts.entries c.args.conn c.self.view_is refl c.requires.opened in
     let moved = c.in-Some.ensures.moved ∙ ap (λ (n : ℕ). set_value (nat_eq c.args.conn) c.self.inside.accounts.entries (record ((account_at c.self.inside.accounts.entries) c.args.conn) { end = n })) (sym c.in-Some.ensures.end) in
     let items : c.push_back_reserved.new.self.items ≡ c.self.inside.sends.items ++ (record { conn = c.args.conn; bytes = c.args.bytes; taken = c.args.taken; end = c.in-Some.place.0 }) ∷ [] = c.push_back_reserved.ensures.items ∙ ap (λ (l : List Entry). l ++ (record { conn = c.args.conn; bytes = c.args.bytes; taken = c.args.taken; end = c.in-Some.place.0 }) ∷ []) c.in_ok-reserve.ensures.items in
     let long : c.len.result ≡ length c.self.inside.sends.items + 1 = omega (arith, c.len.ensures, c.push_back_reserved.ensures.len, c.in_ok-reserve.ensures.len, c.self.inside.sends.ok) in
@@ -21,7 +21,7 @@ invariant_of-self-2 c =
 
 pub returns-clause-ok : goal.returns-clause-ok
 returns-clause-ok c =
-    let known : is_known (keys_of c.self.inside.accounts.entries) c.args.conn ≡ true = known-of (sends_of c.self.inside.sends.items) (account_at c.self.inside.accounts.entries) (keys_of c.self.inside.accounts.entries) c.args.conn (rw (← c.self.view_is) at c.requires.opened) in
+    let known = opened-known (sends_of c.self.inside.sends.items) c.self.inside.accounts.entries c.args.conn c.self.view_is refl c.requires.opened in
     let moved = c.in-Some.ensures.moved ∙ ap (λ (n : ℕ). set_value (nat_eq c.args.conn) c.self.inside.accounts.entries (record ((account_at c.self.inside.accounts.entries) c.args.conn) { end = n })) (sym c.in-Some.ensures.end) in
     let items : c.push_back_reserved.new.self.items ≡ c.self.inside.sends.items ++ (record { conn = c.args.conn; bytes = c.args.bytes; taken = c.args.taken; end = c.in-Some.place.0 }) ∷ [] = c.push_back_reserved.ensures.items ∙ ap (λ (l : List Entry). l ++ (record { conn = c.args.conn; bytes = c.args.bytes; taken = c.args.taken; end = c.in-Some.place.0 }) ∷ []) c.in_ok-reserve.ensures.items in
     let kept : sends_of c.push_back_reserved.new.self.items ≡ (sends_of c.self.inside.sends.items) ++ record { conn = c.args.conn; bytes = c.args.bytes; taken = c.args.taken } ∷ [] = ap sends_of items ∙ sends_of-append c.self.inside.sends.items ((record { conn = c.args.conn; bytes = c.args.bytes; taken = c.args.taken; end = c.in-Some.place.0 }) ∷ []) ∙ ap (λ (l : List Send). (sends_of c.self.inside.sends.items) ++ l) (sends_of-one (record { conn = c.args.conn; bytes = c.args.bytes; taken = c.args.taken; end = c.in-Some.place.0 })) in
