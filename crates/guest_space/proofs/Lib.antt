@@ -7,3 +7,5 @@ pub mod EntryLemmas
 pub mod StartLemmas
 pub mod StretchLemmas
 pub mod WindowLemmas
+pub mod SavedLemmas
+pub mod FollowLemmas

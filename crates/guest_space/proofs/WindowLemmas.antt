@@ -1,5 +1,5 @@
 -- Windows of a memory.
-use Rattle.guest_space.proofs.Terms.{Bool, List, MatchBool, ap, arith, cond, false, get_or, if◌then◌else◌, inl, inr, length, refl, replicate, subst, sym, true, ℕ, ◌%◌, ◌&&◌, ◌*◌, ◌+◌, ◌-◌, ◌/◌, ◌<◌, ◌==◌, ◌^◌, ◌∙◌, ◌≡◌, ◌≤◌, cases_eq, cases_lt, get_or-replicate, get_or_past, length-replicate, All-get_or, All-weaker, All, slice_index, PAGE, shared_after, reaches-here, reaches-other, Pages, has, saved_numbers, NumberAfter, copied_pages, used_of, suc, zero, StandsAt, Writes, is_shared, reaches, little_bytes, Table, permitted, Stretch, RegisterWindows, Window, Windows, GuestPages, IsLawfulSpace, Span, flat, guest_pages, Puts, AreHeld, IsOpen, AreWindows, EachIs, IsLoadWindow, IsOfPage, IsStoreWindow, IsWindow, window_of}
+use Rattle.guest_space.proofs.Terms.{Bool, List, MatchBool, ap, arith, cond, false, if◌then◌else◌, inl, inr, length, refl, replicate, subst, suc, sym, true, zero, ℕ, ◌%◌, ◌&&◌, ◌*◌, ◌+◌, ◌-◌, ◌/◌, ◌<◌, ◌==◌, ◌^◌, ◌∙◌, ◌≡◌, ◌≤◌, cases_eq, cases_lt, get_or-replicate, get_or_past, length-replicate, slice_index, PAGE, shared_after, reaches-here, reaches-other, Pages, has, saved_numbers, used_of, NumberAfter, StandsAt, Writes, copied_pages, is_shared, reaches, little_bytes, Table, permitted, Stretch, RegisterWindows, Window, Windows, GuestPages, IsLawfulSpace, Span, flat, guest_pages, Puts, AreHeld, IsOpen, AreWindows, EachIs, IsLoadWindow, IsOfPage, IsStoreWindow, IsWindow, window_of}
 use Rattle.guest_space.proofs.SpaceLemmas.{is_inside, length-little_bytes}
 
 -- fewer bytes
@@ -71,7 +71,7 @@ module _ (old new : Pages) (at : ℕ) (bytes : List ℕ) where
       ap (λ n. has n (saved_numbers new.slots)) (number_stays page wrote less own) ∙ ap (λ xs. has (slice_index old.live.numbers page) (saved_numbers xs)) wrote.slots ∙ own
 
   -- a page that wasn't written keeps its number
-  number_elsewhere : (page : ℕ) → Writes old new at bytes → page < old.pages → at % PAGE + length bytes ≤ PAGE → (page ≡ at / PAGE → ⊥) → slice_index new.live.numbers page ≡ slice_index old.live.numbers page
+  pub number_elsewhere : (page : ℕ) → Writes old new at bytes → page < old.pages → at % PAGE + length bytes ≤ PAGE → (page ≡ at / PAGE → ⊥) → slice_index new.live.numbers page ≡ slice_index old.live.numbers page
   number_elsewhere page wrote less within other =
       subst (λ b. NumberAfter b old page (slice_index new.live.numbers page)) (ap (λ b. b && is_shared old page) (reaches-other at (length bytes) page within other)) (wrote.numbers page less)
 
@@ -108,7 +108,7 @@ module _ (old new : Pages) (at : ℕ) (bytes : List ℕ) where
   }
 
 -- the page of an address of a window
-page_within : (near pages : ℕ) → near < PAGE * pages → near / PAGE < pages
+pub page_within : (near pages : ℕ) → near < PAGE * pages → near / PAGE < pages
 page_within near pages inside = omega arith
 
 module _ (old new : GuestPages) (at : ℕ) (bytes : List ℕ) where
@@ -137,8 +137,6 @@ module _ (old new : GuestPages) (at : ℕ) (bytes : List ℕ) where
   windows_stay windows put same so = record {
     loads = λ register. load_window_stays put same (window_of windows.loads register) (so.loads register);
     stores = λ register. store_window_stays put (window_of windows.stores register) (so.stores register);
-    recent_loads = All-weaker (IsLoadWindow old) (IsLoadWindow new) (load_window_stays put same) windows.recent_loads so.recent_loads;
-    recent_stores = All-weaker (IsStoreWindow old) (IsStoreWindow new) (store_window_stays put) windows.recent_stores so.recent_stores;
   }
 
 -- an address that a window has
@@ -157,26 +155,14 @@ own_here space window at so from to =
     let e : window.start + (at - window.start) ≡ at = omega arith in
     subst (λ n. is_shared space.store ((n - space.base) / PAGE) ≡ false) e (so.own (at - window.start) (omega arith))
 
--- the window at a place of some, or that of no address
-window_at : (P : Window → Type 0) (windows : List Window) (i : ℕ) → P record { start = 0; count = 0; place = 0 } → All P windows → P (get_or windows i record { start = 0; count = 0; place = 0 })
-window_at P windows i none all = elim (cases_lt i (length windows)) [
-  | inl less ↦ All-get_or P windows i record { start = 0; count = 0; place = 0 } less all
-  | inr past ↦ subst P (sym (get_or_past windows i record { start = 0; count = 0; place = 0 } past)) none
-]
-
-none_is : (flag base : ℕ) (spans : List Span) (store : Pages) → IsWindow flag base spans store record { start = 0; count = 0; place = 0 }
+-- a window of no address
+pub none_is : (flag base : ℕ) (spans : List Span) (store : Pages) → IsWindow flag base spans store record { start = 0; count = 0; place = 0 }
 none_is flag base spans store = record { below = omega arith; small = omega arith; held = λ away within. absurd (omega (arith, within)); stands = λ away within. absurd (omega (arith, within)) }
-
-pub load_window_is : (space : GuestPages) (windows : List Window) (i : ℕ) → All (IsLoadWindow space) windows → IsLoadWindow space (get_or windows i record { start = 0; count = 0; place = 0 })
-load_window_is space windows i all = window_at (IsLoadWindow space) windows i (none_is 4 space.base space.spans space.store) all
 
 no_store_window : (space : GuestPages) → IsStoreWindow space record { start = 0; count = 0; place = 0 }
 no_store_window space = record { window_is = none_is 2 space.base space.spans space.store; own = λ away within. absurd (omega (arith, within)) }
 
-pub store_window : (space : GuestPages) (windows : List Window) (i : ℕ) → All (IsStoreWindow space) windows → IsStoreWindow space (get_or windows i record { start = 0; count = 0; place = 0 })
-store_window space windows i all = window_at (IsStoreWindow space) windows i (no_store_window space) all
-
-same_window : (one other : Window) → one.start ≡ other.start → one.count ≡ other.count → one.place ≡ other.place → one ≡ other
+pub same_window : (one other : Window) → one.start ≡ other.start → one.count ≡ other.count → one.place ≡ other.place → one ≡ other
 same_window one other starts counts places =
     ap (λ n. record { start = n; count = one.count; place = one.place }) starts ∙ ap (λ n. record { start = other.start; count = n; place = one.place }) counts ∙ ap (λ n. record { start = other.start; count = other.count; place = n }) places
 
@@ -188,16 +174,16 @@ zero_at n i = elim (cases_lt i n) [
 
 -- no register has a window
 module _ (windows : RegisterWindows) where
-  none_of : windows.starts ≡ replicate 32 0 → windows.counts ≡ replicate 32 0 → windows.places ≡ replicate 32 0 → (register : ℕ) → record { start = 0; count = 0; place = 0 } ≡ window_of windows register
+  none_of : windows.starts ≡ replicate 40 0 → windows.counts ≡ replicate 40 0 → windows.places ≡ replicate 40 0 → (register : ℕ) → record { start = 0; count = 0; place = 0 } ≡ window_of windows register
   none_of starts counts places register = sym (same_window (window_of windows register) record { start = 0; count = 0; place = 0 } (zero_of windows.starts starts) (zero_of windows.counts counts) (zero_of windows.places places))
     where
-      zero_of : (parts : List ℕ) → parts ≡ replicate 32 0 → slice_index parts register ≡ 0
-      zero_of parts is = ap (λ xs. slice_index xs register) is ∙ zero_at 32 register
+      zero_of : (parts : List ℕ) → parts ≡ replicate 40 0 → slice_index parts register ≡ 0
+      zero_of parts is = ap (λ xs. slice_index xs register) is ∙ zero_at 40 register
 
-  pub no_loads : windows.starts ≡ replicate 32 0 → windows.counts ≡ replicate 32 0 → windows.places ≡ replicate 32 0 → (space : GuestPages) → EachIs (IsLoadWindow space) windows
+  pub no_loads : windows.starts ≡ replicate 40 0 → windows.counts ≡ replicate 40 0 → windows.places ≡ replicate 40 0 → (space : GuestPages) → EachIs (IsLoadWindow space) windows
   no_loads starts counts places space register = subst (IsLoadWindow space) (none_of starts counts places register) (none_is 4 space.base space.spans space.store)
 
-  pub no_stores : windows.starts ≡ replicate 32 0 → windows.counts ≡ replicate 32 0 → windows.places ≡ replicate 32 0 → (space : GuestPages) → EachIs (IsStoreWindow space) windows
+  pub no_stores : windows.starts ≡ replicate 40 0 → windows.counts ≡ replicate 40 0 → windows.places ≡ replicate 40 0 → (space : GuestPages) → EachIs (IsStoreWindow space) windows
   no_stores starts counts places space register = subst (IsStoreWindow space) (none_of starts counts places register) (no_store_window space)
 
 module _ (old new : GuestPages) (at size value : ℕ) where

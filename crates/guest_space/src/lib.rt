@@ -13,6 +13,7 @@ mod access_rule;
 mod bad_access;
 mod code;
 mod filling;
+mod saving;
 mod space;
 mod span;
 mod stretch;

@@ -16,7 +16,8 @@ use crate::filling::{fill, spans_of};
 use crate::span::{
     EXECUTE, READ, Span, WRITE, are_held, each_has, one_has, stretch_at, stretch_of,
 };
-use crate::{BadAccess, RegisterWindows, Stretch, Window, Windows};
+use crate::window::recent_of;
+use crate::{BadAccess, Stretch, Window, Windows};
 use code_table::CodeTable;
 use cow_pages::{MAX_FRAMES_PER_PAGE, MAX_SLOTS, PAGE, PageStore};
 use elf_image::Image;
@@ -282,20 +283,26 @@ impl GuestSpace {
         self.store.write_run(at - self.base, bytes);
     }
 
-    /// The same, with windows, which stay where no page was moved to another frame. Else those of loads are forgotten.
+    /// The same, with windows. Where one page was moved to another frame, those of loads go with it; where several may have been,
+    /// they are forgotten.
     pub fn write_bytes_by(&mut self, windows: &mut Windows, at: u32, bytes: &[u8])
         requires permitted { permitted 2 (flat self.old) at (length bytes.now) ≡ true }
         requires holds { AreWindows self.old windows.old }
         ensures holds { AreWindows self.new windows.new }
         ensures put { Puts self.old at bytes.now self.new }
     {
-        let before = self.used();
-        self.write_bytes(at, bytes);
-        if self.used() == before {
-            return;
+        if bytes.is_empty() {
+            return self.write_bytes(at, bytes);
         }
-        windows.loads = RegisterWindows::none();
-        windows.recent_loads = [Window::none(); 8];
+        let near = at - self.base;
+        let offset = near % PAGE;
+        if offset as usize + bytes.len() > PAGE as usize {
+            self.write_bytes(at, bytes);
+            return windows.forget_loads();
+        }
+        let before = self.store.place(near);
+        self.write_bytes(at, bytes);
+        windows.follow(before - offset, self.store.place(near) - offset);
     }
 
     /// Puts so many zeros from an address on. It requires that all of them may be written, which `allows` tests, and refuses
@@ -582,7 +589,7 @@ impl GuestSpace {
         ensures holds { AreWindows self.now windows.new }
         ensures has { OnTrue result (HasAddress (load_window windows.new register) at) }
     {
-        let recent = windows.recent_loads[(at / PAGE % 8) as usize];
+        let recent = windows.loads.of(recent_of(at));
         if !recent.has(at) {
             return self.finds_anew(windows, register, at);
         }
@@ -604,7 +611,7 @@ impl GuestSpace {
         };
         let window = self.window_in(READ, stretch, at);
         windows.loads.set(register, window);
-        windows.recent_loads[(at / PAGE % 8) as usize] = window;
+        windows.loads.set(recent_of(at), window);
         window.has(at)
     }
 
@@ -645,7 +652,7 @@ impl GuestSpace {
         ensures holds { AreWindows self.new windows.new }
         ensures stored { MatchBool result ((permitted 2 (flat self.old) at size ≡ true) × Puts self.old at (little_bytes size value) self.new) (self.new ≡ self.old) }
     {
-        let recent = windows.recent_stores[(at / PAGE % 8) as usize];
+        let recent = windows.stores.of(recent_of(at));
         if !recent.has(at) {
             return self.store_anew(windows, register, at, size, value);
         }
@@ -658,7 +665,7 @@ impl GuestSpace {
         )
     }
 
-    // The same by a look at the spans. Where the page was moved to another frame, the windows of loads are forgotten.
+    // The same by a look at the spans. Where the page was moved to another frame, the windows of loads go with it.
     #[cold]
     #[inline(never)]
     fn store_anew(
@@ -679,23 +686,21 @@ impl GuestSpace {
             return false;
         };
         let near = at - self.base;
+        let offset = near % PAGE;
         if size == 0 {
             return false;
         }
-        if near % PAGE + size > PAGE {
+        if offset + size > PAGE {
             return false;
         }
         let before = self.store.place(near);
         if !self.put_number(at, size, value) {
             return false;
         }
-        if self.store.place(near) != before {
-            windows.loads = RegisterWindows::none();
-            windows.recent_loads = [Window::none(); 8];
-        }
+        windows.follow(before - offset, self.store.place(near) - offset);
         let window = self.window_in(WRITE, stretch, at);
         windows.stores.set(register, window);
-        windows.recent_stores[(at / PAGE % 8) as usize] = window;
+        windows.stores.set(recent_of(at), window);
         true
     }
 

@@ -1,9 +1,11 @@
 // Addresses whose bytes are found without the tables of pages.
-ghost use Rattle.std.specs.Prelude.{◌≡◌, ◌==◌, ℕ, ◌+◌, ◌^◌, ◌≤◌, ◌<◌, List, if◌then◌else◌};
+ghost use Rattle.std.specs.Prelude.{◌≡◌, ◌==◌, ℕ, ◌+◌, ◌^◌, ◌≤◌, ◌<◌, List, length, slice_index, if◌then◌else◌};
 ghost use Rattle.std.specs.Bool.{OnTrue};
 ghost use Rattle.cow_pages.specs.Pages.{Pages};
 ghost use Rattle.guest_space.specs.Space.{GuestPages, Span};
-ghost use Rattle.guest_space.specs.Windows.{IsWindow, IsStoreWindow, IsLoadWindow, EachIs, window_of, AreWindows};
+ghost use Rattle.guest_space.specs.Windows.{IsWindow, IsStoreWindow, IsLoadWindow, EachIs, window_of, AreWindows, followed, WritesPage};
+
+use cow_pages::PAGE;
 
 /// Addresses of one page from each of which on four bytes may be touched in one way: so many, from a start on. The byte at the first
 /// stands at a place among the bytes of all frames, and the others behind it.
@@ -39,12 +41,43 @@ impl Window {
     }
 }
 
-/// A window for each register. Each part of them is a list of its own, so that one index finds it in all three.
+/// Where a place goes where the frame that begins at one place was copied to the one that begins at another.
+#[inline(always)]
+fn place_after(from: u32, to: u32, place: u32) -> u32
+    requires from { from + PAGE ≤ 2 ^ 32 }
+    requires to { to + PAGE ≤ 2 ^ 32 }
+    ensures { result ≡ followed from to place }
+{
+    let away = place.wrapping_sub(from);
+    if away < PAGE { to + away } else { place }
+}
+
+/// The places of a list go with the frame that was copied.
+fn follow_places(places: &mut [u32], from: u32, to: u32)
+    requires from { from + PAGE ≤ 2 ^ 32 }
+    requires to { to + PAGE ≤ 2 ^ 32 }
+    ensures { (k : ℕ) → k < length places.old → slice_index places.new k ≡ followed from to (slice_index places.old k) }
+{
+    'places: for place in places.iter_mut() {
+        *place = place_after(from, to, *place);
+    }
+}
+
+/// Which of the windows behind those of registers is that of the page of an address.
+#[inline(always)]
+pub fn recent_of(at: u32) -> u8
+    ensures { result < 40 }
+{
+    32 + (at / PAGE % 8) as u8
+}
+
+/// A window for each register, and behind them eight that were found of late for any of them, each at the number of its page modulo 8.
+/// Each part of them is a list of its own, so that one index finds it in all three.
 #[derive(Clone, Copy)]
 pub struct RegisterWindows {
-    starts: [u32; 32],
-    counts: [u32; 32],
-    places: [u32; 32],
+    starts: [u32; 40],
+    counts: [u32; 40],
+    places: [u32; 40],
 }
 
 impl RegisterWindows {
@@ -55,16 +88,16 @@ impl RegisterWindows {
         ensures stores { (space : GuestPages) → EachIs (IsStoreWindow space) result }
     {
         RegisterWindows {
-            starts: [0; 32],
-            counts: [0; 32],
-            places: [0; 32],
+            starts: [0; 40],
+            counts: [0; 40],
+            places: [0; 40],
         }
     }
 
-    /// The window of a register.
+    /// The window of a register, or one of those behind them.
     #[inline(always)]
     pub fn of(&self, register: u8) -> Window
-        requires { register < 32 }
+        requires { register < 40 }
         ensures { result ≡ window_of self.now register }
     {
         Window {
@@ -74,10 +107,10 @@ impl RegisterWindows {
         }
     }
 
-    /// Makes a window that of a register.
+    /// Makes a window that of a register, or one of those behind them.
     #[inline(always)]
     pub fn set(&mut self, register: u8, window: Window)
-        requires { register < 32 }
+        requires { register < 40 }
         ensures { (other : ℕ) → window_of self.new other ≡ (if other == register then window else window_of self.old other) }
     {
         self.starts[register as usize] = window.start;
@@ -86,14 +119,11 @@ impl RegisterWindows {
     }
 }
 
-/// For each register where loads and stores with it as their base were last: the next ones mostly are there too. Beside them those
-/// that were found of late for any register, each at the number of its page modulo 8.
+/// For each register where loads and stores with it as their base were last: the next ones mostly are there too.
 #[derive(Clone, Copy)]
 pub struct Windows {
     pub loads: RegisterWindows,
     pub stores: RegisterWindows,
-    pub recent_loads: [Window; 8],
-    pub recent_stores: [Window; 8],
 }
 
 impl Windows {
@@ -105,8 +135,6 @@ impl Windows {
         Windows {
             loads: RegisterWindows::none(),
             stores: RegisterWindows::none(),
-            recent_loads: [Window::none(); 8],
-            recent_stores: [Window::none(); 8],
         }
     }
 
@@ -115,9 +143,37 @@ impl Windows {
     pub fn forget(&mut self)
         ensures { (space : GuestPages) → AreWindows space self.new }
     {
+        *self = Windows::none();
+    }
+
+    /// Those of loads go with a page whose frame began at one place, and begins at another one now.
+    #[inline(never)]
+    pub fn follow(&mut self, from: u32, to: u32)
+        requires from { from + PAGE ≤ 2 ^ 32 }
+        requires to { to + PAGE ≤ 2 ^ 32 }
+        ensures { (old new : GuestPages) (at : ℕ) (bytes : List ℕ) → WritesPage old at bytes new from to → AreWindows old self.old → AreWindows new self.new }
+    {
+        if from == to {
+            return;
+        }
+        follow_places(&mut self.loads.places, from, to);
+    }
+
+    /// Forgets those of loads.
+    #[inline(never)]
+    pub fn forget_loads(&mut self)
+        ensures loads { (space : GuestPages) → EachIs (IsLoadWindow space) self.new.loads }
+        ensures stores { self.new.stores ≡ self.old.stores }
+    {
         self.loads = RegisterWindows::none();
+    }
+
+    /// Forgets those of stores.
+    #[inline(never)]
+    pub fn forget_stores(&mut self)
+        ensures loads { self.new.loads ≡ self.old.loads }
+        ensures stores { (space : GuestPages) → EachIs (IsStoreWindow space) self.new.stores }
+    {
         self.stores = RegisterWindows::none();
-        self.recent_loads = [Window::none(); 8];
-        self.recent_stores = [Window::none(); 8];
     }
 }
