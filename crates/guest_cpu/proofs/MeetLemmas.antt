@@ -5,10 +5,8 @@ use Rattle.call_gate.proofs.CallLemmas.{CallIs, CheckSays, call_is, check_says, 
 use Rattle.call_gate.specs.declared.call.Call.{Call}
 use Rattle.call_gate.specs.Calls.{called}
 use Rattle.call_gate.specs.Checks.{checked}
-use Rattle.guest_cpu.proofs.Terms.{Bool, Err, None, Ok, Option, Result, Some, ap, cond, false, inl, inr, refl, sym, true, ℕ, ◌+◌, ◌∙◌, ◌≡◌, ◌≢◌, cases_Bool, Heap, Instr, Ecall, execute, permitted, Cause, AssertFailed, BadAccess, BadInstruction, allocation, call, free, Effect, Ends, Fails, Machine, Wants, register, does, instruction, word_at, Allocate, Free, Nothing, Request, is_refused, request_of, call_buffer, instruction_at, touched, touched_by, GuestPages, fetched, or_bad, limits_of, under, Met, Standing, Turn, turn_to, Turned, meeting, meeting_by, meeting_of, sends}
+use Rattle.guest_cpu.proofs.Terms.{AllocError, Bool, Err, None, Ok, Option, Result, Some, ap, cond, false, inl, inr, refl, sym, true, ℕ, ◌+◌, ◌∙◌, ◌≡◌, ◌≢◌, cases_Bool, Heap, Instr, Ecall, execute, permitted, Cause, AssertFailed, BadAccess, BadInstruction, allocation, call, free, Effect, Ends, Fails, Machine, Wants, register, does, instruction, word_at, Allocate, Free, Nothing, Request, is_refused, request_of, call_buffer, instruction_at, touched, touched_by, GuestPages, fetched, or_bad, limits_of, under, Met, Standing, Turn, turn_to, MetStays, Turned, meeting, meeting_by, meeting_of, sends}
 use Rattle.guest_cpu.specs.declared.event.Met.TheVariants as met
-use Rattle.guest_cpu.specs.Terms.{AllocError}
-use Rattle.guest_cpu.specs.Turns.{MetStays}
 
 -- a call that has no memory to change
 pub met_stays : (result : Result (Option Met) AllocError) (space : GuestPages) → MetStays result space space

@@ -1,7 +1,6 @@
 -- What a guest does next in an environment, by what its instruction comes to.
-use Rattle.guest_cpu.proofs.Terms.{Bool, sym, subst, None, Option, Some, ap, arith, cond, false, leb, refl, true, ◌<◌, ◌∙◌, ◌≡◌, ◌≤◌, none-some, same_Some, Choice, Heap, Env, Instr, Ecall, Cause, BadAccess, Hang, frees, allocates, allocation, free, Chooses, Effect, Fails, Machine, does, Allocate, Free, Grant, Limits, Nothing, Request, does_with, grant, granted, is_refused, request_of, serves, Range, instruction_at, touched, GuestPages, limits_of, Event, Met, Standing, Turn, turn, turn_of, turn_to, IsSend, Turned, Wrote, meeting, meeting_by, meeting_of, allocating, answered_with, freeing}
+use Rattle.guest_cpu.proofs.Terms.{Bool, None, Option, Some, ap, arith, cond, false, leb, refl, subst, sym, true, ◌<◌, ◌∙◌, ◌≡◌, ◌≤◌, none-some, same_Some, Choice, Heap, Env, Instr, Ecall, Cause, BadAccess, Hang, frees, allocates, allocation, free, Chooses, Effect, Fails, Machine, does, Allocate, Free, Grant, Limits, Nothing, Request, does_with, grant, granted, is_refused, request_of, serves, Range, instruction_at, touched, GuestPages, AreWindows, limits_of, Event, Met, Standing, Turn, turn, turn_of, turn_to, IsSend, Turned, Wrote, meeting, meeting_by, meeting_of, allocating, answered_with, freeing}
 use Rattle.guest_cpu.specs.declared.event.Event.TheVariants as event
-use Rattle.guest_space.specs.Windows.{AreWindows}
 use Rattle.guest_space.specs.declared.window.Windows.{Windows}
 use Rattle.guest_cpu.specs.declared.event.Met.TheVariants as met
 

@@ -36,6 +36,7 @@ pub use Rattle.run_history.specs.Touching.{Range, buffer, call_buffer, touched_b
 unfoldable pub use Rattle.run_history.specs.Touching.{instruction_at, touched}
 pub use Rattle.guest_space.specs.Access.{IsStart, Puts, Releases, Saves, SavesOver}
 pub use Rattle.guest_space.specs.Space.{GuestPages, IsLawfulSpace, LiesIn, Span, blank_span, flat, saved_flat, segment_span}
+pub use Rattle.guest_space.specs.Windows.{AreWindows}
 pub use Rattle.rv_exec.specs.Execution.{fetched, or_bad}
 pub use Rattle.rv_exec.specs.Quick.{IsStep}
 unfoldable pub use Rattle.rv_exec.specs.Quick.{Ran}

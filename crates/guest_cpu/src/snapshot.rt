@@ -39,8 +39,7 @@ impl<R: AccessRule> Snapshot for Cpu<R> {
 
     fn save_to(&mut self, slot: u32) {
         self.space.sound();
-        self.windows.forget();
-        self.space.save(slot);
+        self.space.save_by(&mut self.windows, slot);
         self.saved[slot as usize].copy_from(&self.core);
         self.line.push(slot);
     }
@@ -55,7 +54,6 @@ impl<R: AccessRule> Snapshot for Cpu<R> {
 
     fn drop_slot(&mut self, slot: u32) {
         self.space.sound();
-        self.windows.forget();
         if self.line.stands_on_newest() {
             self.space.release(slot);
             self.line.drop_oldest();
@@ -67,8 +65,7 @@ impl<R: AccessRule> Snapshot for Cpu<R> {
 
     fn save_over(&mut self, slot: u32) {
         self.space.sound();
-        self.windows.forget();
-        self.space.save_over(slot);
+        self.space.save_over_by(&mut self.windows, slot);
         self.saved[slot as usize].copy_from(&self.core);
         self.line.drop_oldest();
         self.line.push(slot);

@@ -343,13 +343,11 @@ pub fn run_entries<R: AccessRule, L: Ledger>(
     };
     let entries = code.entries();
     let mut x = with_last(&regs.x);
-    // A copy of its own, which is found without a reference.
-    let mut own = *windows;
     let mut number = first;
     let mut left = most;
     'run: while left > 0 {
         match enter(
-            &mut x, entries, start, count, number, space, book, rule, &mut own,
+            &mut x, entries, start, count, number, space, book, rule, windows,
         ) {
             Next::Behind => number += 1,
             Next::To(other) => number = other,
@@ -360,6 +358,5 @@ pub fn run_entries<R: AccessRule, L: Ledger>(
     }
     regs.x = without_last(&x);
     regs.pc = counter_of(start, number);
-    *windows = own;
     most - left
 }

@@ -9,7 +9,7 @@ invariant-run g l = record {
   zero : slice_index l.x 0 ≡ 0;
   place : IsAt l.start l.count l.number l.space;
   entries : l.entries ≡ l.space.code.entries;
-  holds : AreWindows l.space l.own;
+  holds : AreWindows l.space l.windows;
   counts : l.steps ≡ l.fn.steps + (l.fn.most - l.left);
   within : l.left ≤ l.fn.most;
 }

@@ -1,5 +1,4 @@
-use Rattle.guest_cpu.proofs.Terms.{GuestPages, ◌+◌, ◌-◌, ◌≡◌, recorded}
-use Rattle.guest_space.specs.Windows.{AreWindows}
+use Rattle.guest_cpu.proofs.Terms.{◌+◌, ◌-◌, ◌≡◌, GuestPages, AreWindows, recorded}
 use Rattle.guest_cpu.proofs.CpuLemmas.{Goes}
 use Rattle.guest_cpu.proofs.cpu.Cpu.run_recorded.Given as goal
 

@@ -1,5 +1,4 @@
-use Rattle.guest_cpu.proofs.Terms.{◌+◌, ◌-◌, ◌≡◌, ◌≤◌, limits_of, turn}
-use Rattle.guest_space.specs.Windows.{AreWindows}
+use Rattle.guest_cpu.proofs.Terms.{◌+◌, ◌-◌, ◌≡◌, ◌≤◌, AreWindows, limits_of, turn}
 use Rattle.guest_cpu.proofs.CpuLemmas.{Goes}
 use Rattle.guest_cpu.proofs.cpu.Cpu.run_to_event.Given as goal
 

@@ -1,3 +1,4 @@
+use Rattle.guest_space.proofs.SavedLemmas.{windows_released}
 use Rattle.guest_cpu.proofs.Terms.{ap, refl, subst, sym, ℕ, ◌∙◌, ◌≡◌, ◌⊎◌, false≢true, IsOldest, IsUnusedNewest, Slots, without_newest, without_oldest, line_dropped, line_is_newest, line_is_oldest, line_newest_stands, line_oldest_stands, newest_of, written_pages, flat, Standing, standing, CpuState, IsCpu, state_in}
 use Rattle.guest_cpu.proofs.SavedLemmas.{slots_in, cpu_drops_newest, cpu_drops_oldest, cpu_keeps_flags, cpu_sound}
 use Rattle.guest_cpu.proofs.snapshot.CpuSnapshot.drop_slot.Given as given
@@ -31,7 +32,7 @@ without_first g c =
     (cpu_drops_oldest s.core s.space c.release.new.self s.saved.items s.line c.args.slot c.self.invariant.0 (oldest g c) c.release.ensures.released)
 
 pub invariant_of-self : goal.invariant_of-self
-invariant_of-self g c = ((without_first g c).0, c.forget.ensures _)
+invariant_of-self g c = ((without_first g c).0, windows_released c.self.inside.space c.release.new.self c.args.slot c.self.inside.windows c.release.ensures.released c.self.invariant.1)
 
 pub returns-then-stands_on_newest-clause-newest : goal.returns-then-stands_on_newest-clause-newest
 returns-then-stands_on_newest-clause-newest g c = λ newest.
@@ -75,7 +76,7 @@ without_last g c =
     (cpu_drops_newest s.core s.space c.release-2.new.self s.saved.items s.line c.args.slot c.self.invariant.0 (unused g c) c.release-2.ensures.released)
 
 pub invariant_of-self-2 : goal.invariant_of-self-2
-invariant_of-self-2 g c = ((without_last g c).0, c.forget.ensures _)
+invariant_of-self-2 g c = ((without_last g c).0, windows_released c.self.inside.space c.release-2.new.self c.args.slot c.self.inside.windows c.release-2.ensures.released c.self.invariant.1)
 
 pub returns-clause-newest : goal.returns-clause-newest
 returns-clause-newest g c = λ newest. (without_last g c).1 ∙ ap (λ (state : CpuState _). without_newest state.slots) c.self.view_is

@@ -4,15 +4,15 @@ use Rattle.guest_cpu.proofs.snapshot.CpuSnapshot.save_over.Given as given
 use Rattle.guest_cpu.proofs.snapshot.CpuSnapshot.save_over.Goals as goal
 use Rattle.guest_cpu.proofs.snapshot.CpuSnapshot.save_over.Goals.{After-push}
 
-pub save_over-requires-clause-some : goal.save_over-requires-clause-some
-save_over-requires-clause-some g c =
+pub save_over_by-requires-clause-some : goal.save_over_by-requires-clause-some
+save_over_by-requires-clause-some g c =
     let s = c.self.inside in
     let has = line_dropped (state_in s.space s.saved.items) (standing s.core (flat s.space)) s.space.store s.line c.args.slot c.self.invariant.0.line_is
     (inr (subst (λ (state : CpuState _). IsOldest c.args.slot state.slots) (sym c.self.view_is) c.requires.oldest)) in
     has.3
 
-pub save_over-requires-clause-room : goal.save_over-requires-clause-room
-save_over-requires-clause-room g c =
+pub save_over_by-requires-clause-room : goal.save_over_by-requires-clause-room
+save_over_by-requires-clause-room g c =
     let s = c.self.inside in
     line_has_frames (state_in s.space s.saved.items) (standing s.core (flat s.space)) s.space.store s.line c.sound.ensures.store c.self.invariant.0.line_is
     (subst (λ (state : CpuState _). used_pages state.slots + state.slots.pages ≤ state.slots.frames) (sym c.self.view_is) c.requires.room)
@@ -42,24 +42,24 @@ push-requires g c =
     let room = over_room s.core s.space s.saved.items s.line c.args.slot c.self.invariant.0 has.2 oldest in
     rw c.drop_oldest.ensures room
 
-saved : (g : given.Over) (c : After-push g) → IsCpu c.self.inside.core c.save_over.new.self (set c.self.inside.saved.items c.args.slot c.copy_from.new.self) c.push.new.self
-    × (slots_in c.self.inside.core c.save_over.new.self (set c.self.inside.saved.items c.args.slot c.copy_from.new.self) c.push.new.self ≡ saved_to c.args.slot (without_oldest (slots_in c.self.inside.core c.self.inside.space c.self.inside.saved.items c.self.inside.line)))
+saved : (g : given.Over) (c : After-push g) → IsCpu c.self.inside.core c.save_over_by.new.self (set c.self.inside.saved.items c.args.slot c.copy_from.new.self) c.push.new.self
+    × (slots_in c.self.inside.core c.save_over_by.new.self (set c.self.inside.saved.items c.args.slot c.copy_from.new.self) c.push.new.self ≡ saved_to c.args.slot (without_oldest (slots_in c.self.inside.core c.self.inside.space c.self.inside.saved.items c.self.inside.line)))
 saved g c =
     let s = c.self.inside in
     let after = set s.saved.items c.args.slot c.copy_from.new.self in
     let oldest = subst (λ (state : CpuState _). IsOldest c.args.slot state.slots) (sym c.self.view_is) c.requires.oldest in
     let has = line_dropped (state_in s.space s.saved.items) (standing s.core (flat s.space)) s.space.store s.line c.args.slot c.self.invariant.0.line_is (inr oldest) in
     let order = c.push.ensures ∙ ap (λ line. line_of (line.order ++ c.args.slot ∷ []) (Some c.args.slot)) c.drop_oldest.ensures in
-    subst (λ line. IsCpu s.core c.save_over.new.self after line × (slots_in s.core c.save_over.new.self after line ≡ saved_to c.args.slot (without_oldest (slots_in s.core s.space s.saved.items s.line))))
+    subst (λ line. IsCpu s.core c.save_over_by.new.self after line × (slots_in s.core c.save_over_by.new.self after line ≡ saved_to c.args.slot (without_oldest (slots_in s.core s.space s.saved.items s.line))))
     (sym order)
-    (cpu_saves_over s.core s.space c.save_over.new.self s.saved.items after s.line c.args.slot c.self.invariant.0 has.2 oldest
-    c.save_over.ensures.saved (ap (set s.saved.items c.args.slot) c.copy_from.ensures))
+    (cpu_saves_over s.core s.space c.save_over_by.new.self s.saved.items after s.line c.args.slot c.self.invariant.0 has.2 oldest
+    c.save_over_by.ensures.saved (ap (set s.saved.items c.args.slot) c.copy_from.ensures))
 
 pub invariant_of-self : goal.invariant_of-self
-invariant_of-self g c = ((saved g c).0, c.forget.ensures _)
+invariant_of-self g c = ((saved g c).0, c.save_over_by.ensures.holds)
 
 pub returns-clause-saved : goal.returns-clause-saved
 returns-clause-saved g c = (saved g c).1 ∙ ap (λ (state : CpuState _). saved_to c.args.slot (without_oldest state.slots)) c.self.view_is
 
 pub returns-clause-sound : goal.returns-clause-sound
-returns-clause-sound g c = cpu_sound c.self.inside.core c.save_over.new.self (set c.self.inside.saved.items c.args.slot c.copy_from.new.self) c.push.new.self (invariant_of-self g c).0
+returns-clause-sound g c = cpu_sound c.self.inside.core c.save_over_by.new.self (set c.self.inside.saved.items c.args.slot c.copy_from.new.self) c.push.new.self (invariant_of-self g c).0
