@@ -1,5 +1,5 @@
 // Addresses whose bytes are found without the tables of pages.
-ghost use Rattle.std.specs.Prelude.{◌≡◌, ◌==◌, ℕ, ◌+◌, ◌^◌, ◌≤◌, ◌<◌, List, length, slice_index, if◌then◌else◌};
+ghost use Rattle.std.specs.Prelude.{◌≡◌, ◌==◌, ℕ, ◌+◌, ◌%◌, ◌^◌, ◌≤◌, ◌<◌, List, length, slice_index, if◌then◌else◌};
 ghost use Rattle.std.specs.Bool.{OnTrue};
 ghost use Rattle.cow_pages.specs.Pages.{Pages};
 ghost use Rattle.guest_space.specs.Space.{GuestPages, Span};
@@ -44,17 +44,17 @@ impl Window {
 /// Where a place goes where the frame that begins at one place was copied to the one that begins at another.
 #[inline(always)]
 fn place_after(from: u32, to: u32, place: u32) -> u32
-    requires from { from + PAGE ≤ 2 ^ 32 }
+    requires from { from % PAGE ≡ 0 }
     requires to { to + PAGE ≤ 2 ^ 32 }
     ensures { result ≡ followed from to place }
 {
-    let away = place.wrapping_sub(from);
-    if away < PAGE { to + away } else { place }
+    let by = to.wrapping_sub(from);
+    place.wrapping_add(if place / PAGE == from / PAGE { by } else { 0 })
 }
 
 /// The places of a list go with the frame that was copied.
 fn follow_places(places: &mut [u32], from: u32, to: u32)
-    requires from { from + PAGE ≤ 2 ^ 32 }
+    requires from { from % PAGE ≡ 0 }
     requires to { to + PAGE ≤ 2 ^ 32 }
     ensures { (k : ℕ) → k < length places.old → slice_index places.new k ≡ followed from to (slice_index places.old k) }
 {
@@ -149,7 +149,7 @@ impl Windows {
     /// Those of loads go with a page whose frame began at one place, and begins at another one now.
     #[inline(never)]
     pub fn follow(&mut self, from: u32, to: u32)
-        requires from { from + PAGE ≤ 2 ^ 32 }
+        requires from { from % PAGE ≡ 0 }
         requires to { to + PAGE ≤ 2 ^ 32 }
         ensures { (old new : GuestPages) (at : ℕ) (bytes : List ℕ) → WritesPage old at bytes new from to → AreWindows old self.old → AreWindows new self.new }
     {

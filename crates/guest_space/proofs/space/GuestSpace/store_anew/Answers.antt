@@ -36,3 +36,8 @@ returns-clause-holds c =
       loads = after.loads;
       stores = each_set (IsStoreWindow c.put_number.new.self) c.set.new.self _ _ c.window_in-window.result c.set-2.ensures is (each_set (IsStoreWindow c.put_number.new.self) c.follow.new.self.stores _ c.args.register c.window_in-window.result c.set.ensures is after.stores);
     }
+
+pub follow-requires-clause-from : goal.follow-requires-clause-from
+follow-requires-clause-from c =
+    let place = c.place-before.ensures.place in
+    omega (arith, place)

@@ -43,3 +43,8 @@ returns-clause-holds c =
     c.follow.ensures c.args.self.now c.write_bytes-2.new.self c.args.at c.args.bytes.now
     (parts_page c.args.self.now c.write_bytes-2.new.self c.self.inside.base c.self-2.inside.base c.self.inside.spans.items c.self-2.inside.spans.items c.self.inside.store c.self-2.inside.store c.self.inside.code.value c.self-2.inside.code.value c.self.view_is c.self-2.view_is c.args.at c.args.bytes.now c.write_bytes-2.ensures c.self.invariant
     fits (omega (arith, room, some)) c.place-before.result c.place.result c.place-before.ensures.place c.place.ensures.place) c.requires.holds
+
+pub follow-requires-clause-from : goal.follow-requires-clause-from
+follow-requires-clause-from c =
+    let place = c.place-before.ensures.place in
+    omega (arith, place)
