@@ -1,0 +1,42 @@
+-- What the definitions compute at values.
+use Rattle.std.proofs.Common.{◌≡◌, ℕ, List, [], ◌∷◌, map, refl}
+use Rattle.alloc_env.specs.declared.env.Env.{Env}
+use Rattle.alloc_env.specs.declared.env.Env.TheVariants.{All, Delay, Isolate, Pad, Plain, Zero}
+use Rattle.run_history.specs.declared.answer.Cause.TheVariants.{Hang}
+use Rattle.run_history.specs.Served.{env_at}
+use Rattle.session_notes.specs.declared.episode.Episode.{Episode}
+use Rattle.session_notes.specs.declared.episode.Tried.TheVariants.{Asks, Behind, Contradicts}
+use Rattle.follow.specs.Plans.{plan_of}
+
+-- an episode at a point, of which the second trial survived: from this checkpoint, in this environment
+abbrev survived : ℕ → Env → ℕ → Episode
+survived checkpoint env point = record {
+  point = point;
+  cause = Hang;
+  pc = 0;
+  tries = record { checkpoint = point; env = Isolate; tried = Behind } ∷ record { checkpoint = checkpoint; env = env; tried = Asks } ∷ [];
+}
+
+-- one of which none did
+abbrev given_up : ℕ → Episode
+given_up point = record { point = point; cause = Hang; pc = 0; tries = record { checkpoint = 0; env = All; tried = Contradicts } ∷ [] }
+
+-- the environment in force at each of the first twelve counts of items
+abbrev in_force : List Episode → List Env
+in_force episodes = map (env_at (plan_of episodes)) (0 ∷ 1 ∷ 2 ∷ 3 ∷ 4 ∷ 5 ∷ 6 ∷ 7 ∷ 8 ∷ 9 ∷ 10 ∷ 11 ∷ [])
+
+-- the later one is in force behind its checkpoint, and the earlier one up to there
+two_in_turn : in_force (survived 1 Pad 2 ∷ survived 3 Delay 5 ∷ []) ≡ Plain ∷ Plain ∷ Pad ∷ Pad ∷ Delay ∷ Delay ∷ Delay ∷ Delay ∷ Delay ∷ Plain ∷ Plain ∷ Plain ∷ []
+two_in_turn = refl
+
+-- a later one from the start leaves nothing of the earlier one
+from_the_start : in_force (survived 1 Pad 2 ∷ survived 0 All 4 ∷ []) ≡ All ∷ All ∷ All ∷ All ∷ All ∷ All ∷ All ∷ All ∷ Plain ∷ Plain ∷ Plain ∷ Plain ∷ []
+from_the_start = refl
+
+-- nor does one from an earlier checkpoint
+from_earlier : in_force (survived 3 Pad 5 ∷ survived 1 Delay 7 ∷ []) ≡ Plain ∷ Plain ∷ Delay ∷ Delay ∷ Delay ∷ Delay ∷ Delay ∷ Delay ∷ Delay ∷ Delay ∷ Delay ∷ Plain ∷ []
+from_earlier = refl
+
+-- one that no trial survived changes nothing
+none_survived : in_force (survived 0 Zero 0 ∷ given_up 5 ∷ []) ≡ Zero ∷ Zero ∷ Zero ∷ Zero ∷ Plain ∷ Plain ∷ Plain ∷ Plain ∷ Plain ∷ Plain ∷ Plain ∷ Plain ∷ []
+none_survived = refl

@@ -1,0 +1,51 @@
+-- The plan that a report tells is that of the survivor.
+use Rattle.std.proofs.Common.{◌≡◌, ◌∙◌, ◌++◌, Bool, true, false, List, [], ◌∷◌, Option, None, Some, ap, cond, map, refl, sym}
+use Rattle.std.specs.Prelude.{MatchOption, option_map}
+use Rattle.std.specs.Option.{option_map_or}
+use Rattle.run_history.specs.Served.{Override}
+use Rattle.session_history.specs.Lawful.{Survivor}
+use Rattle.session_history.specs.Serving.{first_survivor}
+use Rattle.session_notes.specs.declared.episode.Try.{Try}
+use Rattle.session_notes.specs.Survival.{survives}
+use Rattle.trials.specs.Trials.{plan_of_trial}
+use Rattle.trials.specs.Tables.{Trial, survivor_in, try_of}
+use Rattle.trials.specs.Episodes.{AreRecovered, Recovery, adopted_by, episode_of, point_of}
+use Rattle.follow.specs.Plans.{adopted_try, plan_behind, plan_from}
+use Rattle.follow.specs.Laws.{PlanIsTold, PlanOfReport}
+
+-- the trial that survives is told as the one that does
+adopted_told : (trials : List Trial) → adopted_try (map try_of trials) ≡ option_map try_of (survivor_in trials)
+adopted_told [] = refl
+adopted_told (trial ∷ trials) = of (survives trial.result) (adopted_told trials)
+  where
+    of : (lives : Bool) → adopted_try (map try_of trials) ≡ option_map try_of (survivor_in trials)
+        → cond lives (Some (try_of trial)) (adopted_try (map try_of trials)) ≡ option_map try_of (cond lives (Some trial) (survivor_in trials))
+    of true rest = refl
+    of false rest = rest
+
+-- so behind a recovery that adopts a trial the plan of its episode is that of the trial
+behind_told : (plan : List Override) (recovery : Recovery) (trial : Trial) → recovery.survivor.plan ≡ plan → survivor_in recovery.trials ≡ Some trial → (adopted_by recovery trial).plan ≡ plan_behind plan (episode_of recovery)
+behind_told plan recovery trial same is =
+    ap (λ (before : List Override). plan_of_trial before trial.chance.checkpoint.state.machine.taken trial.chance.env (point_of recovery)) same
+    ∙ ap (λ (o : Option Try). option_map_or (λ (attempt : Try). plan_of_trial plan attempt.checkpoint attempt.env (point_of recovery)) o plan)
+    (ap (λ (o : Option Trial). option_map try_of o) (sym is) ∙ sym (adopted_told recovery.trials))
+
+pub plan_is_told : PlanIsTold
+plan_is_told rules image before first [] [] now are = are.0
+plan_is_told rules image before first [] (recovery ∷ recoveries) now are = absurd are
+plan_is_told rules image before first (chapter ∷ chapters) [] now are = absurd are
+plan_is_told rules image before first (chapter ∷ chapters) (recovery ∷ recoveries) now are =
+    of (survivor_in recovery.trials) refl (λ trial rest. plan_is_told rules image (before ++ chapter.entries) (adopted_by recovery trial) chapters recoveries now rest) are.3
+  where
+    of : (o : Option Trial) → survivor_in recovery.trials ≡ o
+        → ((trial : Trial) → AreRecovered rules image (before ++ chapter.entries) (adopted_by recovery trial) chapters recoveries now → now.plan ≡ plan_from (adopted_by recovery trial).plan (map episode_of recoveries))
+        → MatchOption o ⊥ (λ trial. AreRecovered rules image (before ++ chapter.entries) (adopted_by recovery trial) chapters recoveries now)
+        → now.plan ≡ plan_from (plan_behind first.plan (episode_of recovery)) (map episode_of recoveries)
+    of None is so rest = absurd rest
+    of (Some trial) is so rest =
+        so trial rest
+        ∙ ap (λ (plan : List Override). plan_from plan (map episode_of recoveries))
+        (behind_told first.plan recovery trial (ap (λ (survivor : Survivor). survivor.plan) are.1 ∙ are.0.0) is)
+
+pub plan_of_report : PlanOfReport
+plan_of_report rules image chapters recoveries now are = plan_is_told rules image [] (first_survivor image) chapters recoveries now are
