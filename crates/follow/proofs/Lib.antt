@@ -1,2 +1,4 @@
 pub mod Told
+pub mod Runs
+pub mod Fronts
 mod Examples

@@ -1,11 +1,19 @@
 -- What a report tells of the run that survives.
-use Rattle.std.specs.Prelude.{◌≡◌, List, [], map}
+use Rattle.std.specs.Prelude.{◌≡◌, ℕ, List, [], map, take, ◌⊎◌}
+use Rattle.rx_io.specs.declared.bytes.Item.{Item}
+use Rattle.rx_io.specs.Prefix.{Prefix}
+use Rattle.rx_io.specs.Sends.{Send, sent_to}
 use Rattle.links.specs.declared.journal.Entry.{Entry}
 use Rattle.elf_image.specs.declared.image.Image.{Image}
+use Rattle.run_history.specs.Machine.{State}
+use Rattle.run_history.specs.Served.{AsksFor, Limits, Override, Path, Served, origin}
+use Rattle.session_history.specs.Passing.{Covers, IsFeasible}
 use Rattle.session_history.specs.Lawful.{Chapter, Rules, Survivor}
 use Rattle.session_history.specs.Serving.{first_survivor}
 use Rattle.trials.specs.Episodes.{Recovery, episode_of, AreRecovered}
 use Rattle.follow.specs.Plans.{plan_from, plan_of}
+use Rattle.follow.specs.Runs.{AreWider, IsLonger}
+use Rattle.follow.specs.Held.{count_of, held}
 
 -- Behind recoveries the plan of the survivor is told by their episodes, from the plan that it had before them.
 abbrev pub PlanIsTold : Type 0
@@ -18,3 +26,28 @@ abbrev pub PlanOfReport : Type 0
 PlanOfReport =
     (rules : Rules) (image : Image) (chapters : List Chapter) (recoveries : List Recovery) (now : Survivor) →
     AreRecovered rules image [] (first_survivor image) chapters recoveries now → now.plan ≡ plan_of (map episode_of recoveries)
+
+-- A run is there under wider limits too, and asks for the same items.
+abbrev pub ServedWider : Type 0
+ServedWider =
+    (limits wider : Limits) (items : List Item) (plan : List Override) (first second : Path) → AreWider limits wider → Served limits items plan first second →
+    Served wider items plan first second
+
+abbrev pub AsksWider : Type 0
+AsksWider = (limits wider : Limits) (plan : List Override) (path : Path) (item : ℕ) → AreWider limits wider → AsksFor limits plan path item → AsksFor wider plan path item
+
+-- Two hosts run one image under one plan, the second one under limits that are as wide, on items that both begin one list: one's run is the
+-- other's with more instructions, under the wider limits and on all items.
+abbrev pub OneRun : Type 0
+OneRun =
+    (limits wider : Limits) (items others all : List Item) (plan : List Override) (image : Image) (first second : Path) → AreWider limits wider → Prefix items all → Prefix others all →
+    Served limits items plan (origin image) first → Served wider others plan (origin image) second →
+    IsLonger wider all plan first second ⊎ IsLonger wider all plan second first
+
+-- What clients hold is, on each connection, as many first bytes of what was sent as the counts say, or all of it.
+abbrev pub HeldIsFront : Type 0
+HeldIsFront = (counts : List (ℕ × ℕ)) (sends : List Send) (conn : ℕ) → sent_to conn (held counts sends) ≡ take (count_of counts conn) (sent_to conn sends)
+
+-- The run that sent it emits it, and in time.
+abbrev pub HeldIsInTime : Type 0
+HeldIsInTime = (counts : List (ℕ × ℕ)) (state : State) → Covers (held counts state.sends) state × IsFeasible (held counts state.sends) state

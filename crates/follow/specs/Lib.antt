@@ -1,2 +1,4 @@
 pub mod Plans
+pub mod Runs
+pub mod Held
 pub mod Laws

@@ -1,5 +1,5 @@
 //! Laws of a run that is followed, each as the contract of a function that does nothing.
-ghost use Rattle.follow.specs.Laws.{PlanIsTold, PlanOfReport};
+ghost use Rattle.follow.specs.Laws.{PlanIsTold, PlanOfReport, ServedWider, AsksWider, OneRun, HeldIsFront, HeldIsInTime};
 
 /// Behind recoveries the plan of the survivor is told by their episodes, from the plan that it had before them.
 pub fn plan_is_told()
@@ -9,4 +9,29 @@ pub fn plan_is_told()
 /// So the plan of a session's survivor is that of its report.
 pub fn plan_of_report()
     ensures { PlanOfReport }
+{}
+
+/// A run is there under wider limits too.
+pub fn served_wider()
+    ensures { ServedWider }
+{}
+
+/// There it asks for the same items.
+pub fn asks_wider()
+    ensures { AsksWider }
+{}
+
+/// Of two hosts' runs under one plan one is the other with more instructions.
+pub fn one_run()
+    ensures { OneRun }
+{}
+
+/// What clients hold is the first bytes of what was sent to each.
+pub fn held_is_front()
+    ensures { HeldIsFront }
+{}
+
+/// The run that sent it emits it, and in time.
+pub fn held_is_in_time()
+    ensures { HeldIsInTime }
 {}

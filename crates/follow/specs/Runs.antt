@@ -1,0 +1,20 @@
+-- The run of one host beside that of another.
+use Rattle.std.specs.Prelude.{◌≡◌, ℕ, ◌≤◌, true, List}
+use Rattle.rx_io.specs.declared.bytes.Item.{Item}
+use Rattle.rx_io.specs.Prefix.{Prefix}
+use Rattle.block_book.specs.Heap.{Heap}
+use Rattle.run_history.specs.Run.{output}
+use Rattle.run_history.specs.Served.{Limits, Override, Path, Served}
+
+-- the second limits allow at least what the first do: as many instructions between two items, and with the same blocks each range of bytes
+pub record AreWider (limits wider : Limits) : Type 0 where
+  pub budget : limits.budget ≤ wider.budget
+  pub permits : (heap : Heap) (at count : ℕ) → limits.permits heap at count ≡ true → wider.permits heap at count ≡ true
+
+-- Under a plan the second run is the first with more instructions. What the first took, was answered and sent begins what the second did.
+pub record IsLonger (limits : Limits) (items : List Item) (plan : List Override) (first second : Path) : Type 0 where
+  pub served : Served limits items plan first second
+  pub steps : first.steps ≤ second.steps
+  pub taken : first.state.machine.taken ≤ second.state.machine.taken
+  pub choices : Prefix first.choices second.choices
+  pub outputs : (conn : ℕ) → Prefix (output first.state conn) (output second.state conn)
