@@ -8,10 +8,10 @@ use Rattle.rx_io.specs.Sends.{Send, sent_to}
 use Rattle.run_history.proofs.Outputs.{sent_to-more}
 use Rattle.session_history.specs.Passing.{until}
 use Rattle.follow.specs.Held.{count_of, held_behind}
-use Rattle.follow.specs.Laws.{HeldIsFront, HeldIsInTime}
+use Rattle.follow.specs.HeldLaws.{HeldIsFront, HeldIsInTime}
 
 -- the first bytes of two lists, one behind the other
-take_two : (n : ℕ) (xs ys : List ℕ) → take n (xs ++ ys) ≡ take n xs ++ take (n - length xs) ys
+pub take_two : (n : ℕ) (xs ys : List ℕ) → take n (xs ++ ys) ≡ take n xs ++ take (n - length xs) ys
 take_two n xs ys =
     elim (cases_lt n (length xs)) [
       | inl few ↦
@@ -50,11 +50,11 @@ held_is_front counts sends conn =
     front_behind counts [] sends conn ∙ ap (λ (k : ℕ). take k (sent_to conn sends)) whole
 
 -- as much of a send as is held of it behind others
-abbrev part_behind : List (ℕ × ℕ) → List Send → Send → Send
+abbrev pub part_behind : List (ℕ × ℕ) → List Send → Send → Send
 part_behind counts before send = record send { bytes = take (count_of counts send.conn - length (sent_to send.conn before)) send.bytes }
 
 -- behind as many bytes as the count nothing more is held
-none_behind : (counts : List (ℕ × ℕ)) (before sends : List Send) (item conn : ℕ) → count_of counts conn ≤ length (sent_to conn before) → sent_to conn (until item (held_behind counts before sends)) ≡ []
+pub none_behind : (counts : List (ℕ × ℕ)) (before sends : List Send) (item conn : ℕ) → count_of counts conn ≤ length (sent_to conn before) → sent_to conn (until item (held_behind counts before sends)) ≡ []
 none_behind counts before [] item conn full = refl
 none_behind counts before (send ∷ sends) item conn full =
     of (leb send.taken item) (eqb send.conn conn) refl (λ more. none_behind counts (before ++ send ∷ []) sends item conn more)

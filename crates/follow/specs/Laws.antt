@@ -1,19 +1,15 @@
 -- What a report tells of the run that survives.
-use Rattle.std.specs.Prelude.{◌≡◌, ℕ, List, [], map, take, ◌⊎◌}
+use Rattle.std.specs.Prelude.{◌≡◌, ℕ, List, [], map, ◌⊎◌}
 use Rattle.rx_io.specs.declared.bytes.Item.{Item}
 use Rattle.rx_io.specs.Prefix.{Prefix}
-use Rattle.rx_io.specs.Sends.{Send, sent_to}
 use Rattle.links.specs.declared.journal.Entry.{Entry}
 use Rattle.elf_image.specs.declared.image.Image.{Image}
-use Rattle.run_history.specs.Machine.{State}
 use Rattle.run_history.specs.Served.{AsksFor, Limits, Override, Path, Served, origin}
-use Rattle.session_history.specs.Passing.{Covers, IsFeasible}
 use Rattle.session_history.specs.Lawful.{Chapter, Rules, Survivor}
 use Rattle.session_history.specs.Serving.{first_survivor}
 use Rattle.trials.specs.Episodes.{Recovery, episode_of, AreRecovered}
 use Rattle.follow.specs.Plans.{plan_from, plan_of}
 use Rattle.follow.specs.Runs.{AreWider, IsLonger}
-use Rattle.follow.specs.Held.{count_of, held}
 
 -- Behind recoveries the plan of the survivor is told by their episodes, from the plan that it had before them.
 abbrev pub PlanIsTold : Type 0
@@ -43,11 +39,3 @@ OneRun =
     (limits wider : Limits) (items others all : List Item) (plan : List Override) (image : Image) (first second : Path) → AreWider limits wider → Prefix items all → Prefix others all →
     Served limits items plan (origin image) first → Served wider others plan (origin image) second →
     IsLonger wider all plan first second ⊎ IsLonger wider all plan second first
-
--- What clients hold is, on each connection, as many first bytes of what was sent as the counts say, or all of it.
-abbrev pub HeldIsFront : Type 0
-HeldIsFront = (counts : List (ℕ × ℕ)) (sends : List Send) (conn : ℕ) → sent_to conn (held counts sends) ≡ take (count_of counts conn) (sent_to conn sends)
-
--- The run that sent it emits it, and in time.
-abbrev pub HeldIsInTime : Type 0
-HeldIsInTime = (counts : List (ℕ × ℕ)) (state : State) → Covers (held counts state.sends) state × IsFeasible (held counts state.sends) state

@@ -2,3 +2,4 @@ pub mod Plans
 pub mod Runs
 pub mod Held
 pub mod Laws
+pub mod HeldLaws

@@ -1,5 +1,6 @@
 //! Laws of a run that is followed, each as the contract of a function that does nothing.
-ghost use Rattle.follow.specs.Laws.{PlanIsTold, PlanOfReport, ServedWider, AsksWider, OneRun, HeldIsFront, HeldIsInTime};
+ghost use Rattle.follow.specs.Laws.{PlanIsTold, PlanOfReport, ServedWider, AsksWider, OneRun};
+ghost use Rattle.follow.specs.HeldLaws.{HeldIsFront, HeldIsInTime, HeldIsFixed, HeldIsPassed, PassedIsSent, StampsAreSafe};
 
 /// Behind recoveries the plan of the survivor is told by their episodes, from the plan that it had before them.
 pub fn plan_is_told()
@@ -34,4 +35,24 @@ pub fn held_is_front()
 /// The run that sent it emits it, and in time.
 pub fn held_is_in_time()
     ensures { HeldIsInTime }
+{}
+
+/// It stays as it is, once a run has sent as much.
+pub fn held_is_fixed()
+    ensures { HeldIsFixed }
+{}
+
+/// It is what was passed.
+pub fn held_is_passed()
+    ensures { HeldIsPassed }
+{}
+
+/// What was passed with so many items received was sent with no more items taken.
+pub fn passed_is_sent()
+    ensures { PassedIsSent }
+{}
+
+/// So the numbers of items at which it was sent refuse all trials that those at which it was passed refuse.
+pub fn stamps_are_safe()
+    ensures { StampsAreSafe }
 {}

@@ -1,0 +1,112 @@
+-- What clients hold was passed, and was sent no later.
+use Rattle.std.proofs.Common.{◌≡◌, ◌∙◌, ◌-◌, ◌≤◌, ◌++◌, ℕ, Bool, true, false, List, [], ◌∷◌, ap, append_assoc, append-nil, arith, cond, inl, inr, leb, length, refl, subst, sym, take}
+use Rattle.std.proofs.lemmas.Bool.{cases_lt, leb-false}
+use Rattle.std.proofs.lemmas.List.{take-append-le}
+use Rattle.std.proofs.lemmas.List.Elements.{filter-append}
+use Rattle.rx_io.specs.Prefix.{Prefix}
+use Rattle.rx_io.specs.Sends.{Send, sent_to}
+use Rattle.links.specs.declared.journal.Entry.{Entry}
+use Rattle.links.specs.declared.journal.Entry.TheVariants as entry
+use Rattle.run_history.specs.Run.{output}
+use Rattle.run_history.proofs.Outputs.{prefix_sent, prefix_trans, sent_to-append}
+use Rattle.session_history.specs.Account.{journal_of}
+use Rattle.session_history.specs.Heeding.{Bounds, items_in, received}
+use Rattle.session_history.specs.Passing.{AreBetween, AreInOrder, passed_behind, passed_in, until}
+use Rattle.session_history.proofs.Asked.{served_grows}
+use Rattle.session_history.proofs.Closing.{received_longer}
+use Rattle.session_history.proofs.Connected.{run_connected}
+use Rattle.session_history.proofs.Growing.{between_wider}
+use Rattle.session_history.proofs.Passing.{all_until, none_until, until_front}
+use Rattle.trials.proofs.Recovered.{timed_from}
+use Rattle.follow.specs.Held.{count_of, held, held_behind}
+use Rattle.follow.specs.HeldLaws.{HeldIsFixed, HeldIsPassed, PassedIsSent, StampsAreSafe}
+use Rattle.follow.proofs.Fronts.{held_is_front, none_behind, part_behind, take_two}
+
+-- what is held of more sends
+held-append : (counts : List (ℕ × ℕ)) (before sends more : List Send) → held_behind counts before (sends ++ more) ≡ held_behind counts before sends ++ held_behind counts (before ++ sends) more
+held-append counts before [] more = ap (λ (bs : List Send). held_behind counts bs more) (sym (append-nil before))
+held-append counts before (send ∷ sends) more =
+    ap (λ (rest : List Send). part_behind counts before send ∷ rest)
+    (held-append counts (before ++ send ∷ []) sends more ∙ ap (λ (bs : List Send). held_behind counts (before ++ send ∷ []) sends ++ held_behind counts bs more) (append_assoc before (send ∷ []) sends))
+
+pub held_is_fixed : HeldIsFixed
+held_is_fixed limits items plan first second counts conn served full item =
+    let grows = served_grows limits items plan first second served in
+    ap (λ (sends : List Send). sent_to conn (until item (held counts sends))) grows.sends
+    ∙ ap (λ (sends : List Send). sent_to conn (until item sends)) (held-append counts [] first.state.sends grows.more)
+    ∙ ap (sent_to conn) (filter-append _ (held counts first.state.sends) (held_behind counts first.state.sends grows.more))
+    ∙ sent_to-append conn (until item (held counts first.state.sends)) (until item (held_behind counts first.state.sends grows.more))
+    ∙ ap (λ (bytes : List ℕ). sent_to conn (until item (held counts first.state.sends)) ++ bytes) (none_behind counts first.state.sends grows.more item conn full)
+    ∙ append-nil (sent_to conn (until item (held counts first.state.sends)))
+
+pub held_is_passed : HeldIsPassed
+held_is_passed rules image session counts conn account few =
+    let passed = sent_to conn (passed_in rules.bounds (journal_of session)) in
+    let front = account.passed conn in
+    held_is_front counts session.survivor.now.state.sends conn ∙ ap (take (count_of counts conn)) (sym front.1) ∙ take-append-le (count_of counts conn) passed front.0 few
+
+-- pieces were passed in the order of their stamps
+in_order_behind : (bounds : Bounds) (before entries : List Entry) (high : ℕ) → received bounds (before ++ entries) ≤ high
+    → AreBetween (received bounds before) high (passed_behind bounds before entries) × AreInOrder high (passed_behind bounds before entries)
+in_order_behind bounds before [] high low = (tt, tt)
+in_order_behind bounds before (entry.Took event ∷ entries) high low =
+    let after = before ++ entry.Took event ∷ [] in
+    let more = in_order_behind bounds after entries high (subst (λ (es : List Entry). received bounds es ≤ high) (sym (append_assoc before (entry.Took event ∷ []) entries)) low) in
+    (between_wider (received bounds after) high (received bounds before) high (passed_behind bounds after entries) (received_longer bounds before (entry.Took event ∷ [])) (omega arith) more.0, more.1)
+in_order_behind bounds before (entry.Gave conn bytes gone ∷ entries) high low =
+    let after = before ++ entry.Gave conn bytes gone ∷ [] in
+    let more = in_order_behind bounds after entries high (subst (λ (es : List Entry). received bounds es ≤ high) (sym (append_assoc before (entry.Gave conn bytes gone ∷ []) entries)) low) in
+    let rest = between_wider (received bounds after) high (received bounds before) high (passed_behind bounds after entries) (received_longer bounds before (entry.Gave conn bytes gone ∷ [])) (omega arith) more.0 in
+    let early : received bounds before ≤ high = omega (arith, received_longer bounds before (entry.Gave conn bytes gone ∷ entries), low) in
+    ((omega arith, early, rest), (rest, early, more.1))
+
+passed_in_order : (bounds : Bounds) (entries : List Entry) → AreInOrder (received bounds entries) (passed_in bounds entries)
+passed_in_order bounds entries = (in_order_behind bounds [] entries (received bounds entries) (omega arith)).1
+
+pub passed_is_sent : PassedIsSent
+passed_is_sent rules image session item conn account =
+    let now = session.survivor.now in
+    let pieces = passed_in rules.bounds (journal_of session) in
+    elim (cases_lt item now.state.machine.taken) [
+      | inl early ↦ account.feasible item early conn
+      | inr late ↦
+          let timed = timed_from rules.limits (items_in rules.bounds (journal_of session)) session.survivor.plan image now account.served in
+          subst (λ (sends : List Send). Prefix (sent_to conn (until item pieces)) (sent_to conn sends)) (sym (all_until item 0 now.state.machine.taken now.state.sends late timed))
+          (prefix_trans (sent_to conn (until item pieces)) (sent_to conn pieces) (output now.state conn)
+          (prefix_sent conn (until item pieces) pieces (until_front item (received rules.bounds (journal_of session)) pieces (passed_in_order rules.bounds (journal_of session)))) (account.passed conn))
+    ]
+
+-- what is held keeps its numbers of items
+held_between : (counts : List (ℕ × ℕ)) (before sends : List Send) (low high : ℕ) → AreBetween low high sends → AreBetween low high (held_behind counts before sends)
+held_between counts before [] low high are = tt
+held_between counts before (send ∷ sends) low high are = (are.0, are.1, held_between counts (before ++ send ∷ []) sends low high are.2)
+
+-- so of sends in order what is held of those in time is what of all is held in time
+until_held : (counts : List (ℕ × ℕ)) (before sends : List Send) (item high : ℕ) → AreInOrder high sends → until item (held_behind counts before sends) ≡ held_behind counts before (until item sends)
+until_held counts before [] item high are = refl
+until_held counts before (send ∷ sends) item high are = of (leb send.taken item) refl (until_held counts (before ++ send ∷ []) sends item high are.2)
+  where
+    of : (b : Bool) → leb send.taken item ≡ b → until item (held_behind counts (before ++ send ∷ []) sends) ≡ held_behind counts (before ++ send ∷ []) (until item sends)
+        → cond b (part_behind counts before send ∷ until item (held_behind counts (before ++ send ∷ []) sends)) (until item (held_behind counts (before ++ send ∷ []) sends)) ≡ held_behind counts before (cond b (send ∷ until item sends) (until item sends))
+    of true is rest = ap (λ (more : List Send). part_behind counts before send ∷ more) rest
+    of false is rest =
+        none_until item send.taken high (held_behind counts (before ++ send ∷ []) sends) (leb-false send.taken item is) (held_between counts (before ++ send ∷ []) sends send.taken high are.0)
+        ∙ ap (held_behind counts before) (sym (none_until item send.taken high sends (leb-false send.taken item is) are.0))
+
+in_time : (counts : List (ℕ × ℕ)) (sends : List Send) (item high conn : ℕ) → AreInOrder high sends → sent_to conn (until item (held counts sends)) ≡ take (count_of counts conn) (sent_to conn (until item sends))
+in_time counts sends item high conn are = ap (sent_to conn) (until_held counts [] sends item high are) ∙ held_is_front counts (until item sends) conn
+
+-- fewer bytes of a front are a front
+take_front : (n : ℕ) (xs ys : List ℕ) → Prefix xs ys → Prefix (take n xs) (take n ys)
+take_front n xs ys front = (take (n - length xs) front.0, sym (take_two n xs front.0) ∙ ap (take n) front.1)
+
+pub stamps_are_safe : StampsAreSafe
+stamps_are_safe rules image session counts state account feasible item low conn =
+    let now = session.survivor.now in
+    let pieces = passed_in rules.bounds (journal_of session) in
+    let ordered = (run_connected image (items_in rules.bounds (journal_of session)) now.choices now.steps now.state account.ran).ordered in
+    prefix_trans (sent_to conn (until item (held counts pieces))) (sent_to conn (until item (held counts now.state.sends))) (sent_to conn (until item state.sends))
+    (subst (λ (bytes : List ℕ). Prefix bytes (sent_to conn (until item (held counts now.state.sends)))) (sym (in_time counts pieces item (received rules.bounds (journal_of session)) conn (passed_in_order rules.bounds (journal_of session))))
+    (subst (λ (bytes : List ℕ). Prefix (take (count_of counts conn) (sent_to conn (until item pieces))) bytes) (sym (in_time counts now.state.sends item now.state.machine.taken conn ordered))
+    (take_front (count_of counts conn) (sent_to conn (until item pieces)) (sent_to conn (until item now.state.sends)) (passed_is_sent rules image session item conn account))))
+    (feasible item low conn)

@@ -1,0 +1,45 @@
+-- What holds of the bytes that clients hold.
+use Rattle.std.specs.Prelude.{◌≡◌, ℕ, ◌≤◌, List, length, take}
+use Rattle.rx_io.specs.Prefix.{Prefix}
+use Rattle.rx_io.specs.Sends.{Send, sent_to}
+use Rattle.rx_io.specs.declared.bytes.Item.{Item}
+use Rattle.elf_image.specs.declared.image.Image.{Image}
+use Rattle.run_history.specs.Machine.{State}
+use Rattle.run_history.specs.Run.{output}
+use Rattle.run_history.specs.Served.{Limits, Override, Path, Served}
+use Rattle.session_history.specs.Passing.{Covers, IsFeasible, passed_in, until}
+use Rattle.session_history.specs.Lawful.{Rules}
+use Rattle.session_history.specs.Account.{IsAccount, Session, journal_of}
+use Rattle.follow.specs.Held.{count_of, held}
+
+-- What clients hold is, on each connection, as many first bytes of what was sent as the counts say, or all of it.
+abbrev pub HeldIsFront : Type 0
+HeldIsFront = (counts : List (ℕ × ℕ)) (sends : List Send) (conn : ℕ) → sent_to conn (held counts sends) ≡ take (count_of counts conn) (sent_to conn sends)
+
+-- The run that sent it emits it, and in time.
+abbrev pub HeldIsInTime : Type 0
+HeldIsInTime = (counts : List (ℕ × ℕ)) (state : State) → Covers (held counts state.sends) state × IsFeasible (held counts state.sends) state
+
+-- Once a run has sent as much to a connection as its count says, what is held there stays as it is, with its numbers of items.
+abbrev pub HeldIsFixed : Type 0
+HeldIsFixed =
+    (limits : Limits) (items : List Item) (plan : List Override) (first second : Path) (counts : List (ℕ × ℕ)) (conn : ℕ) → Served limits items plan first second →
+    count_of counts conn ≤ length (output first.state conn) → (item : ℕ) → sent_to conn (until item (held counts second.state.sends)) ≡ sent_to conn (until item (held counts first.state.sends))
+
+-- Where a count is no more than a session passed, what is held of the survivor's sends is what was passed first.
+abbrev pub HeldIsPassed : Type 0
+HeldIsPassed =
+    (rules : Rules) (image : Image) (session : Session) (counts : List (ℕ × ℕ)) (conn : ℕ) → IsAccount rules image session → count_of counts conn ≤ length (sent_to conn (passed_in rules.bounds (journal_of session))) →
+    sent_to conn (held counts session.survivor.now.state.sends) ≡ take (count_of counts conn) (sent_to conn (passed_in rules.bounds (journal_of session)))
+
+-- What a session passed with so many items received, or fewer, its survivor had sent with no more items taken.
+abbrev pub PassedIsSent : Type 0
+PassedIsSent =
+    (rules : Rules) (image : Image) (session : Session) (item conn : ℕ) → IsAccount rules image session →
+    Prefix (sent_to conn (until item (passed_in rules.bounds (journal_of session)))) (sent_to conn (until item session.survivor.now.state.sends))
+
+-- So a run that is feasible with what is held of the survivor's sends is so with what is held of what was passed, by the numbers of items received.
+abbrev pub StampsAreSafe : Type 0
+StampsAreSafe =
+    (rules : Rules) (image : Image) (session : Session) (counts : List (ℕ × ℕ)) (state : State) → IsAccount rules image session →
+    IsFeasible (held counts session.survivor.now.state.sends) state → IsFeasible (held counts (passed_in rules.bounds (journal_of session))) state
