@@ -100,7 +100,7 @@ is_longer limits items plan first second served = record {
 }
 
 -- a run on some first items is one on all of them
-served_all : (limits : Limits) (items all : List Item) (plan : List Override) (first second : Path) → Prefix items all → Served limits items plan first second → Served limits all plan first second
+pub served_all : (limits : Limits) (items all : List Item) (plan : List Override) (first second : Path) → Prefix items all → Served limits items plan first second → Served limits all plan first second
 served_all limits items all plan first second front served = subst (λ (its : List Item). Served limits its plan first second) front.1 (served_with limits items front.0 plan first second served)
 
 of_compared : (limits : Limits) (items : List Item) (plan : List Override) (first second : Path) → Compared limits items plan first second → IsLonger limits items plan first second ⊎ IsLonger limits items plan second first

@@ -9,6 +9,7 @@ use Rattle.links.specs.declared.journal.Entry.{Entry}
 use Rattle.links.specs.declared.journal.Entry.TheVariants as entry
 use Rattle.run_history.specs.Run.{output}
 use Rattle.run_history.proofs.Outputs.{prefix_sent, prefix_trans, sent_to-append}
+use Rattle.run_history.proofs.Serves.{served_is_run}
 use Rattle.session_history.specs.Account.{journal_of}
 use Rattle.session_history.specs.Heeding.{Bounds, items_in, received}
 use Rattle.session_history.specs.Passing.{AreBetween, AreInOrder, passed_behind, passed_in, until}
@@ -19,7 +20,7 @@ use Rattle.session_history.proofs.Growing.{between_wider}
 use Rattle.session_history.proofs.Passing.{all_until, none_until, until_front}
 use Rattle.trials.proofs.Recovered.{timed_from}
 use Rattle.follow.specs.Held.{count_of, held, held_behind}
-use Rattle.follow.specs.HeldLaws.{HeldIsFixed, HeldIsPassed, PassedIsSent, StampsAreSafe}
+use Rattle.follow.specs.HeldLaws.{HeldIsFixed, HeldIsInOrder, HeldIsPassed, PassedIsSent, StampsAreSafe}
 use Rattle.follow.proofs.Fronts.{held_is_front, none_behind, part_behind, take_two}
 
 -- what is held of more sends
@@ -80,6 +81,16 @@ passed_is_sent rules image session item conn account =
 held_between : (counts : List (ℕ × ℕ)) (before sends : List Send) (low high : ℕ) → AreBetween low high sends → AreBetween low high (held_behind counts before sends)
 held_between counts before [] low high are = tt
 held_between counts before (send ∷ sends) low high are = (are.0, are.1, held_between counts (before ++ send ∷ []) sends low high are.2)
+
+held_in_order : (counts : List (ℕ × ℕ)) (before sends : List Send) (high : ℕ) → AreInOrder high sends → AreInOrder high (held_behind counts before sends)
+held_in_order counts before [] high are = tt
+held_in_order counts before (send ∷ sends) high are =
+    (held_between counts (before ++ send ∷ []) sends send.taken high are.0, are.1, held_in_order counts (before ++ send ∷ []) sends high are.2)
+
+pub held_is_in_order : HeldIsInOrder
+held_is_in_order limits items plan image path counts served =
+    held_in_order counts [] path.state.sends path.state.machine.taken
+    (run_connected image items path.choices served.more path.state (served_is_run limits image items plan path served.more served.ran)).ordered
 
 -- so of sends in order what is held of those in time is what of all is held in time
 until_held : (counts : List (ℕ × ℕ)) (before sends : List Send) (item high : ℕ) → AreInOrder high sends → until item (held_behind counts before sends) ≡ held_behind counts before (until item sends)

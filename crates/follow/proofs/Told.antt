@@ -5,13 +5,14 @@ use Rattle.std.specs.Option.{option_map_or}
 use Rattle.run_history.specs.Served.{Override}
 use Rattle.session_history.specs.Lawful.{Survivor}
 use Rattle.session_history.specs.Serving.{first_survivor}
+use Rattle.session_notes.specs.declared.episode.Episode.{Episode}
 use Rattle.session_notes.specs.declared.episode.Try.{Try}
 use Rattle.session_notes.specs.Survival.{survives}
 use Rattle.trials.specs.Trials.{plan_of_trial}
 use Rattle.trials.specs.Tables.{Trial, survivor_in, try_of}
 use Rattle.trials.specs.Episodes.{AreRecovered, Recovery, adopted_by, episode_of, point_of}
-use Rattle.follow.specs.Plans.{adopted_try, plan_behind, plan_from}
-use Rattle.follow.specs.Laws.{PlanIsTold, PlanOfReport}
+use Rattle.follow.specs.Plans.{adopted_try, plan_behind, plan_from, plan_of}
+use Rattle.follow.specs.Laws.{GivenUpAddsNothing, PlanIsTold, PlanOfReport}
 
 -- the trial that survives is told as the one that does
 adopted_told : (trials : List Trial) → adopted_try (map try_of trials) ≡ option_map try_of (survivor_in trials)
@@ -49,3 +50,15 @@ plan_is_told rules image before first (chapter ∷ chapters) (recovery ∷ recov
 
 pub plan_of_report : PlanOfReport
 plan_of_report rules image chapters recoveries now are = plan_is_told rules image [] (first_survivor image) chapters recoveries now are
+
+-- behind some episodes the plan goes on as behind others
+plan_behind_both : (plan : List Override) (episodes more : List Episode) → plan_from plan (episodes ++ more) ≡ plan_from (plan_from plan episodes) more
+plan_behind_both plan [] more = refl
+plan_behind_both plan (episode ∷ episodes) more = plan_behind_both (plan_behind plan episode) episodes more
+
+pub given_up_adds_nothing : GivenUpAddsNothing
+given_up_adds_nothing episodes recovery none =
+    let plan = plan_of episodes in
+    plan_behind_both [] episodes (episode_of recovery ∷ [])
+    ∙ ap (λ (o : Option Try). option_map_or (λ (attempt : Try). plan_of_trial plan attempt.checkpoint attempt.env (point_of recovery)) o plan)
+    (adopted_told recovery.trials ∙ ap (λ (o : Option Trial). option_map try_of o) none)

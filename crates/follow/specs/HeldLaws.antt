@@ -6,8 +6,8 @@ use Rattle.rx_io.specs.declared.bytes.Item.{Item}
 use Rattle.elf_image.specs.declared.image.Image.{Image}
 use Rattle.run_history.specs.Machine.{State}
 use Rattle.run_history.specs.Run.{output}
-use Rattle.run_history.specs.Served.{Limits, Override, Path, Served}
-use Rattle.session_history.specs.Passing.{Covers, IsFeasible, passed_in, until}
+use Rattle.run_history.specs.Served.{Limits, Override, Path, Served, origin}
+use Rattle.session_history.specs.Passing.{AreInOrder, Covers, IsFeasible, passed_in, until}
 use Rattle.session_history.specs.Lawful.{Rules}
 use Rattle.session_history.specs.Account.{IsAccount, Session, journal_of}
 use Rattle.follow.specs.Held.{count_of, held}
@@ -19,6 +19,12 @@ HeldIsFront = (counts : List (ℕ × ℕ)) (sends : List Send) (conn : ℕ) → 
 -- The run that sent it emits it, and in time.
 abbrev pub HeldIsInTime : Type 0
 HeldIsInTime = (counts : List (ℕ × ℕ)) (state : State) → Covers (held counts state.sends) state × IsFeasible (held counts state.sends) state
+
+-- It stands in the order of its numbers of items, of which none is above that of the run.
+abbrev pub HeldIsInOrder : Type 0
+HeldIsInOrder =
+    (limits : Limits) (items : List Item) (plan : List Override) (image : Image) (path : Path) (counts : List (ℕ × ℕ)) → Served limits items plan (origin image) path →
+    AreInOrder path.state.machine.taken (held counts path.state.sends)
 
 -- Once a run has sent as much to a connection as its count says, what is held there stays as it is, with its numbers of items.
 abbrev pub HeldIsFixed : Type 0

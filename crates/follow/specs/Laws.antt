@@ -1,5 +1,5 @@
 -- What a report tells of the run that survives.
-use Rattle.std.specs.Prelude.{◌≡◌, ℕ, List, [], map, ◌⊎◌}
+use Rattle.std.specs.Prelude.{◌≡◌, ℕ, List, [], ◌∷◌, ◌++◌, map, None, ◌⊎◌}
 use Rattle.rx_io.specs.declared.bytes.Item.{Item}
 use Rattle.rx_io.specs.Prefix.{Prefix}
 use Rattle.links.specs.declared.journal.Entry.{Entry}
@@ -7,6 +7,8 @@ use Rattle.elf_image.specs.declared.image.Image.{Image}
 use Rattle.run_history.specs.Served.{AsksFor, Limits, Override, Path, Served, origin}
 use Rattle.session_history.specs.Lawful.{Chapter, Rules, Survivor}
 use Rattle.session_history.specs.Serving.{first_survivor}
+use Rattle.session_notes.specs.declared.episode.Episode.{Episode}
+use Rattle.trials.specs.Tables.{survivor_in}
 use Rattle.trials.specs.Episodes.{Recovery, episode_of, AreRecovered}
 use Rattle.follow.specs.Plans.{plan_from, plan_of}
 use Rattle.follow.specs.Runs.{AreWider, IsLonger}
@@ -22,6 +24,12 @@ abbrev pub PlanOfReport : Type 0
 PlanOfReport =
     (rules : Rules) (image : Image) (chapters : List Chapter) (recoveries : List Recovery) (now : Survivor) →
     AreRecovered rules image [] (first_survivor image) chapters recoveries now → now.plan ≡ plan_of (map episode_of recoveries)
+
+-- An episode that no trial survived adds nothing to the plan.
+abbrev pub GivenUpAddsNothing : Type 0
+GivenUpAddsNothing =
+    (episodes : List Episode) (recovery : Recovery) → survivor_in recovery.trials ≡ None →
+    plan_of (episodes ++ episode_of recovery ∷ []) ≡ plan_of episodes
 
 -- A run is there under wider limits too, and asks for the same items.
 abbrev pub ServedWider : Type 0

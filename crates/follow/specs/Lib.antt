@@ -3,3 +3,5 @@ pub mod Runs
 pub mod Held
 pub mod Laws
 pub mod HeldLaws
+pub mod Handed
+pub mod ReachLaws

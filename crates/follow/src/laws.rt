@@ -1,6 +1,7 @@
 //! Laws of a run that is followed, each as the contract of a function that does nothing.
-ghost use Rattle.follow.specs.Laws.{PlanIsTold, PlanOfReport, ServedWider, AsksWider, OneRun};
-ghost use Rattle.follow.specs.HeldLaws.{HeldIsFront, HeldIsInTime, HeldIsFixed, HeldIsPassed, PassedIsSent, StampsAreSafe};
+ghost use Rattle.follow.specs.Laws.{PlanIsTold, PlanOfReport, GivenUpAddsNothing, ServedWider, AsksWider, OneRun};
+ghost use Rattle.follow.specs.HeldLaws.{HeldIsFront, HeldIsInTime, HeldIsInOrder, HeldIsFixed, HeldIsPassed, PassedIsSent, StampsAreSafe};
+ghost use Rattle.follow.specs.ReachLaws.{ReachesInTime, FollowsBefore, NoWaiting};
 
 /// Behind recoveries the plan of the survivor is told by their episodes, from the plan that it had before them.
 pub fn plan_is_told()
@@ -10,6 +11,11 @@ pub fn plan_is_told()
 /// So the plan of a session's survivor is that of its report.
 pub fn plan_of_report()
     ensures { PlanOfReport }
+{}
+
+/// An episode that no trial survived adds nothing to it.
+pub fn given_up_adds_nothing()
+    ensures { GivenUpAddsNothing }
 {}
 
 /// A run is there under wider limits too.
@@ -37,6 +43,11 @@ pub fn held_is_in_time()
     ensures { HeldIsInTime }
 {}
 
+/// It stands in the order of the numbers of items at which it was sent.
+pub fn held_is_in_order()
+    ensures { HeldIsInOrder }
+{}
+
 /// It stays as it is, once a run has sent as much.
 pub fn held_is_fixed()
     ensures { HeldIsFixed }
@@ -55,4 +66,19 @@ pub fn passed_is_sent()
 /// So the numbers of items at which it was sent refuse all trials that those at which it was passed refuse.
 pub fn stamps_are_safe()
     ensures { StampsAreSafe }
+{}
+
+/// From where the first host stopped its run has reached what was handed over.
+pub fn reaches_in_time()
+    ensures { ReachesInTime }
+{}
+
+/// A run that follows has, or stands before that.
+pub fn follows_before()
+    ensures { FollowsBefore }
+{}
+
+/// So it asks for no item but those that the first host's run had taken.
+pub fn no_waiting()
+    ensures { NoWaiting }
 {}

@@ -1,0 +1,64 @@
+-- What a second host is handed, and when a run that follows has reached all that it tells.
+use Rattle.std.specs.Prelude.{◌≡◌, ℕ, ◌<◌, ◌≤◌, List, length, map, Option, None, IfSome, IsSome}
+use Rattle.std.specs.List.{last_or}
+use Rattle.rx_io.specs.Prefix.{Prefix}
+use Rattle.rx_io.specs.Sends.{sent_to}
+use Rattle.rx_io.specs.declared.bytes.Item.{Item}
+use Rattle.block_book.specs.declared.choice.Choice.{Choice}
+use Rattle.elf_image.specs.declared.image.Image.{Image}
+use Rattle.run_history.specs.declared.answer.Cause.{Cause}
+use Rattle.run_history.specs.Run.{output}
+use Rattle.run_history.specs.Served.{AsksFor, FailsBy, Limits, Override, Path, Served, origin}
+use Rattle.session_history.specs.Passing.{passed_in}
+use Rattle.session_history.specs.Lawful.{Rules}
+use Rattle.session_history.specs.Account.{Session, journal_of}
+use Rattle.session_notes.specs.declared.episode.Episode.{Episode}
+use Rattle.trials.specs.Episodes.{Recovery, episode_of}
+use Rattle.follow.specs.Plans.{plan_of}
+use Rattle.follow.specs.Held.{count_of}
+
+-- where a record's last line says that its run stood: how many instructions were done, and how many items taken
+pub record Finish : Type 0 where
+  pub steps : ℕ
+  pub taken : ℕ
+
+-- What a second host is handed: how many bytes each client has; the episodes of the report, the oldest first; the answers of the allocator that stand in
+-- the record; and its last line, if it is there.
+pub record Handed : Type 0 where
+  pub counts : List (ℕ × ℕ)
+  pub episodes : List Episode
+  pub choices : List Choice
+  pub finish : Option Finish
+
+-- It is handed by a session whose survivor stands where it stopped: the episodes of its recoveries, the first of the survivor's answers, and where it stands, if
+-- there is a last line; and no client has more than was passed to it.
+pub record IsHandedBy (rules : Rules) (session : Session) (recoveries : List Recovery) (handed : Handed) : Type 0 where
+  pub episodes : handed.episodes ≡ map episode_of recoveries
+  pub choices : Prefix handed.choices session.survivor.now.choices
+  pub finish : IfSome handed.finish (λ finish. (finish.steps ≡ session.survivor.now.steps) × (finish.taken ≡ session.survivor.now.state.machine.taken))
+  pub counts : (conn : ℕ) → count_of handed.counts conn ≤ length (sent_to conn (passed_in rules.bounds (journal_of session)))
+
+-- a run that follows: on the items received, under the plan of the report
+abbrev pub IsFollowed : Limits → Image → List Item → Handed → Path → Type 0
+IsFollowed limits image items handed path = Served limits items (plan_of handed.episodes) (origin image) path
+
+-- a run stands where it can be judged: at its request for an item, at its exit, or at a failure
+pub data Stand (limits : Limits) (plan : List Override) (path : Path) : Type 0 where
+  AtRequest : AsksFor limits plan path path.state.machine.taken → Stand limits plan path
+  AtExit : IsSome path.state.ended → Stand limits plan path
+  AtFailure : (cause : Cause) → FailsBy limits plan path cause → Stand limits plan path
+
+-- There it is past the failure of an episode: it has taken as many items as the run that failed, or ended; and where it fails itself it has
+-- taken more, since the survivor of that failure asked for the next item.
+abbrev pub IsPastFailure : {limits : Limits} {plan : List Override} {path : Path} → Stand limits plan path → Episode → Type 0
+IsPastFailure {path = path} (AtRequest asks) episode = episode.point ≤ path.state.machine.taken
+IsPastFailure (AtExit ended) episode = Unit {0}
+IsPastFailure {path = path} (AtFailure cause fails) episode = episode.point < path.state.machine.taken
+
+-- A run that stands there has reached all that was told: it is past the last episode, had each answer of the record, stands at or behind its last line, and
+-- sent what clients have.
+pub record HasReached (limits : Limits) (plan : List Override) (handed : Handed) (path : Path) (stand : Stand limits plan path) : Type 0 where
+  pub past : IfSome (last_or None handed.episodes) (IsPastFailure stand)
+  pub chose : Prefix handed.choices path.choices
+  pub finished : IfSome handed.finish (λ finish. finish.steps ≤ path.steps)
+  pub covers : (conn : ℕ) → count_of handed.counts conn ≤ length (output path.state conn)
