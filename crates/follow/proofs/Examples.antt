@@ -1,12 +1,7 @@
 -- What the definitions compute at values.
-use Rattle.std.proofs.Common.{◌≡◌, ℕ, List, [], ◌∷◌, map, refl}
-use Rattle.alloc_env.specs.declared.env.Env.{Env}
 use Rattle.alloc_env.specs.declared.env.Env.TheVariants.{All, Delay, Isolate, Pad, Plain, Zero}
-use Rattle.run_history.specs.declared.answer.Cause.TheVariants.{Hang}
-use Rattle.run_history.specs.Served.{env_at}
-use Rattle.session_notes.specs.declared.episode.Episode.{Episode}
 use Rattle.session_notes.specs.declared.episode.Tried.TheVariants.{Asks, Behind, Contradicts}
-use Rattle.follow.specs.Plans.{plan_of}
+use Rattle.follow.proofs.Terms.{List, [], map, refl, ℕ, ◌∷◌, ◌≡◌, Env, Hang, env_at, Episode, plan_of}
 
 -- an episode at a point, of which the second trial survived: from this checkpoint, in this environment
 abbrev survived : ℕ → Env → ℕ → Episode

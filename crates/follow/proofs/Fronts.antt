@@ -1,14 +1,6 @@
 -- What clients hold is a front of what was sent, and was sent in time.
-use Rattle.std.proofs.Common.{◌≡◌, ◌∙◌, ◌+◌, ◌-◌, ◌<◌, ◌≤◌, ◌++◌, ℕ, Bool, true, false, List, [], ◌∷◌, ap, append-nil, append_assoc, arith, cond, drop, eqb, inl, inr, leb, length, length-append, refl, subst, sym, take}
 use Rattle.std.proofs.Math.Seq.{take-append-add, take-nil}
-use Rattle.std.proofs.lemmas.Bool.{cases_lt, eqb-true}
-use Rattle.std.proofs.lemmas.List.{take-append-drop, take-append-le, take_all}
-use Rattle.rx_io.specs.Prefix.{Prefix}
-use Rattle.rx_io.specs.Sends.{Send, sent_to}
-use Rattle.run_history.proofs.Outputs.{sent_to-more}
-use Rattle.session_history.specs.Passing.{until}
-use Rattle.follow.specs.Held.{count_of, held_behind}
-use Rattle.follow.specs.HeldLaws.{HeldIsFront, HeldIsInTime}
+use Rattle.follow.proofs.Terms.{Bool, List, [], ap, append-nil, append_assoc, arith, cond, drop, eqb, false, inl, inr, leb, length, length-append, refl, subst, sym, take, true, ℕ, ◌++◌, ◌+◌, ◌-◌, ◌<◌, ◌∙◌, ◌∷◌, ◌≡◌, ◌≤◌, cases_lt, eqb-true, take-append-drop, take-append-le, take_all, Prefix, Send, sent_to, sent_to-more, until, count_of, held_behind, HeldIsFront, HeldIsInTime}
 
 -- the first bytes of two lists, one behind the other
 pub take_two : (n : ℕ) (xs ys : List ℕ) → take n (xs ++ ys) ≡ take n xs ++ take (n - length xs) ys

@@ -1,6 +1,9 @@
+pub mod Terms
 pub mod Told
 pub mod Runs
 pub mod Fronts
 pub mod Stamps
 pub mod Reached
+pub mod Agreed
+mod Meets
 mod Examples

@@ -1,38 +1,9 @@
 -- The first host's run has reached what it told, and so has each run that goes on from there.
 use Rattle.session_notes.specs.declared.episode.Tried.TheVariants as tried
-use Rattle.std.proofs.Common.{◌≡◌, ◌∙◌, ◌<◌, ◌≤◌, ◌++◌, ℕ, false, true, List, [], ◌∷◌, Option, None, Some, ap, arith, inl, inr, length, length-append, map, refl, subst, sym, ◌⊎◌}
-use Rattle.std.proofs.lemmas.Option.{IfSome_then}
-use Rattle.std.specs.List.{last_or}
-use Rattle.std.specs.Prelude.{IfSome, IsSome, MatchOption, is_some}
-use Rattle.rx_io.specs.Prefix.{Prefix}
-use Rattle.rx_io.specs.Sends.{Send, sent_to}
-use Rattle.rx_io.specs.declared.bytes.Item.{Item}
-use Rattle.links.specs.declared.journal.Entry.{Entry}
-use Rattle.elf_image.specs.declared.image.Image.{Image}
-use Rattle.run_history.specs.Run.{output}
-use Rattle.run_history.specs.Served.{AsksFor, Limits, Override, Path, Served, origin}
-use Rattle.run_history.proofs.Outputs.{prefix_trans}
-use Rattle.session_history.specs.Account.{Session, journal_of}
-use Rattle.session_history.specs.Heeding.{items_in}
-use Rattle.session_history.specs.Lawful.{Chapter, Rules, Survivor, place_of}
-use Rattle.session_history.specs.Passing.{passed_in}
-use Rattle.session_history.specs.Serving.{first_survivor}
-use Rattle.session_history.proofs.Asked.{later_of}
 use Rattle.session_history.proofs.Due.{due_ran}
-use Rattle.session_history.proofs.Paths.{served_on, served_same}
-use Rattle.session_notes.specs.declared.episode.Episode.{Episode}
 use Rattle.session_notes.specs.declared.episode.Tried.{Tried}
-use Rattle.session_notes.specs.Survival.{survives}
-use Rattle.trials.specs.Trials.{ComesTo}
-use Rattle.trials.specs.Tables.{Trial, survivor_in}
-use Rattle.trials.specs.Episodes.{AreRecovered, IsRecovery, Recovery, adopted_by, episode_of, point_of}
-use Rattle.trials.proofs.Going.{Before, Behind, Compared, Equal, compare, later_served, later_steps, taken_later}
-use Rattle.trials.proofs.Results.{apart_asks_fails, apart_ended, asks_on, ended_on}
 use Rattle.trials.proofs.Walked.{walk_adopts}
-use Rattle.follow.specs.Plans.{plan_of}
-use Rattle.follow.specs.Runs.{AreWider, IsLonger}
-use Rattle.follow.specs.Handed.{AtExit, AtFailure, AtRequest, Handed, HasReached, IsPastFailure, Stand}
-use Rattle.follow.specs.ReachLaws.{FollowsBefore, HandsOver, NoWaiting, ReachesInTime}
+use Rattle.follow.proofs.Terms.{List, None, Option, Some, [], ap, arith, false, inl, inr, length, length-append, map, refl, subst, sym, true, ℕ, ◌++◌, ◌<◌, ◌∙◌, ◌∷◌, ◌≡◌, ◌≤◌, ◌⊎◌, IfSome_then, last_or, IfSome, IsSome, MatchOption, is_some, Item, Prefix, Send, sent_to, Entry, Image, prefix_trans, output, AsksFor, Limits, Override, Path, Served, origin, later_of, served_on, served_same, Session, journal_of, items_in, Chapter, Rules, Survivor, place_of, passed_in, first_survivor, Episode, survives, Before, Behind, Compared, Equal, compare, later_served, later_steps, taken_later, apart_asks_fails, apart_ended, asks_on, ended_on, AreRecovered, IsRecovery, Recovery, adopted_by, episode_of, point_of, Trial, survivor_in, ComesTo, plan_of, AreWider, IsLonger, AtExit, AtFailure, AtRequest, Handed, HasReached, IsPastFailure, Stand, FollowsBefore, HandsOver, NoWaiting, ReachesInTime}
 use Rattle.follow.proofs.Runs.{asks_wider, is_longer, served_all, served_wider}
 use Rattle.follow.proofs.Told.{plan_of_report}
 
@@ -116,7 +87,7 @@ past_began rules image wider all now episode path stand are on began =
     (subst (λ (p : Path). Served wider all now.plan p path) began.begun on)
 
 -- a front is no longer
-front_length : (xs ys : List ℕ) → Prefix xs ys → length xs ≤ length ys
+pub front_length : (xs ys : List ℕ) → Prefix xs ys → length xs ≤ length ys
 front_length xs ys front = omega (arith, ap length (sym front.1), length-append xs front.0)
 
 -- a run from where the first host stopped, under its survivor's plan
@@ -156,7 +127,7 @@ reaches_in_time rules image session recoveries handed wider all path stand over 
     (same_plan rules image session recoveries handed wider all over) (reaches rules image session recoveries handed wider all path over) stand on
 
 -- the first host's run, under the second one's limits and on all items
-first_ran : (rules : Rules) (image : Image) (session : Session) (recoveries : List Recovery) (handed : Handed) (wider : Limits) (all : List Item) → HandsOver rules image session recoveries handed wider all
+pub first_ran : (rules : Rules) (image : Image) (session : Session) (recoveries : List Recovery) (handed : Handed) (wider : Limits) (all : List Item) → HandsOver rules image session recoveries handed wider all
     → Served wider all (plan_of handed.episodes) (origin image) session.survivor.now
 first_ran rules image session recoveries handed wider all over =
     let items : List Item = items_in rules.bounds (journal_of session) in

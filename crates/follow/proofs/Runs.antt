@@ -1,25 +1,8 @@
 -- A run under wider limits, and two runs under one plan.
-use Rattle.std.proofs.Common.{◌≡◌, ◌∙◌, ◌<◌, Bool, true, false, List, Option, None, Some, ap, arith, cond, leb, not, refl, subst, sym, ◌⊎◌, inl, inr}
-use Rattle.std.proofs.lemmas.Bool.{leb-false, lt-leb, not-false}
-use Rattle.std.specs.Prelude.{is_some, option_map, slice_get}
-use Rattle.rx_io.specs.declared.bytes.Item.{Item}
-use Rattle.rx_io.specs.Prefix.{Prefix}
-use Rattle.block_book.specs.Heap.{Heap}
-use Rattle.alloc_env.specs.declared.env.Env.{Env}
-use Rattle.run_history.specs.declared.answer.Cause.TheVariants.{BadAccess, Hang}
-use Rattle.run_history.specs.Machine.{Effect, Fails, Wants}
-use Rattle.run_history.specs.Run.{after}
-use Rattle.run_history.specs.Served.{Guest, Limits, Override, Path, Served, does_with, env_at, grant, guest_of, is_refused, listed, longer, origin, planned_next, served_next, serves}
 use Rattle.run_history.specs.Touching.{Range, touched}
-use Rattle.run_history.proofs.Outputs.{prefix_same, prefix_trans}
 use Rattle.run_history.proofs.Repeats.{repeated_as, repeated_keeps}
-use Rattle.run_history.proofs.Serves.{serves_to}
-use Rattle.session_history.proofs.Asked.{served_grows}
-use Rattle.session_history.proofs.Paths.{served_same, served_with}
 use Rattle.trials.proofs.Agreeing.{output_on}
-use Rattle.trials.proofs.Going.{Before, Behind, Compared, Equal, compare, later_served, steps_later, taken_later}
-use Rattle.follow.specs.Runs.{AreWider, IsLonger}
-use Rattle.follow.specs.Laws.{AsksWider, OneRun, ServedWider}
+use Rattle.follow.proofs.Terms.{Bool, List, None, Option, Some, ap, arith, cond, false, inl, inr, leb, not, refl, subst, sym, true, ◌<◌, ◌∙◌, ◌≡◌, ◌⊎◌, leb-false, lt-leb, not-false, is_some, option_map, slice_get, Item, Prefix, Heap, Env, BadAccess, Hang, prefix_same, prefix_trans, serves_to, Effect, Fails, Wants, after, Guest, Limits, Override, Path, Served, does_with, env_at, grant, guest_of, is_refused, listed, longer, origin, planned_next, served_next, serves, served_grows, served_same, served_with, Before, Behind, Compared, Equal, compare, later_served, steps_later, taken_later, AreWider, IsLonger, AsksWider, OneRun, ServedWider}
 
 -- what one rule permits, a wider one does
 refused_wider : (limits wider : Limits) (heap : Heap) (range : Option Range) → AreWider limits wider → is_refused limits heap range ≡ false → is_refused wider heap range ≡ false
@@ -35,7 +18,7 @@ serves_wider limits wider env item guest are early kept =
     (lt-leb wider.budget guest.machine.since (omega (arith, early, are.budget)))
     ∙ ap (λ (refused : Bool). cond refused (Fails BadAccess) (does_with (grant env guest) item guest.machine)) (refused_wider limits wider guest.heap (touched guest.machine) are kept)
 
-same_limits : (limits : Limits) → AreWider limits limits
+pub same_limits : (limits : Limits) → AreWider limits limits
 same_limits limits = record { budget = omega arith; permits = λ heap at count may. may }
 
 -- so is an instruction of a served run

@@ -1,26 +1,12 @@
 -- What clients hold was passed, and was sent no later.
-use Rattle.std.proofs.Common.{◌≡◌, ◌∙◌, ◌-◌, ◌≤◌, ◌++◌, ℕ, Bool, true, false, List, [], ◌∷◌, ap, append_assoc, append-nil, arith, cond, inl, inr, leb, length, refl, subst, sym, take}
-use Rattle.std.proofs.lemmas.Bool.{cases_lt, leb-false}
-use Rattle.std.proofs.lemmas.List.{take-append-le}
 use Rattle.std.proofs.lemmas.List.Elements.{filter-append}
-use Rattle.rx_io.specs.Prefix.{Prefix}
-use Rattle.rx_io.specs.Sends.{Send, sent_to}
-use Rattle.links.specs.declared.journal.Entry.{Entry}
 use Rattle.links.specs.declared.journal.Entry.TheVariants as entry
-use Rattle.run_history.specs.Run.{output}
-use Rattle.run_history.proofs.Outputs.{prefix_sent, prefix_trans, sent_to-append}
-use Rattle.run_history.proofs.Serves.{served_is_run}
-use Rattle.session_history.specs.Account.{journal_of}
-use Rattle.session_history.specs.Heeding.{Bounds, items_in, received}
-use Rattle.session_history.specs.Passing.{AreBetween, AreInOrder, passed_behind, passed_in, until}
-use Rattle.session_history.proofs.Asked.{served_grows}
 use Rattle.session_history.proofs.Closing.{received_longer}
 use Rattle.session_history.proofs.Connected.{run_connected}
 use Rattle.session_history.proofs.Growing.{between_wider}
 use Rattle.session_history.proofs.Passing.{all_until, none_until, until_front}
 use Rattle.trials.proofs.Recovered.{timed_from}
-use Rattle.follow.specs.Held.{count_of, held, held_behind}
-use Rattle.follow.specs.HeldLaws.{HeldIsFixed, HeldIsInOrder, HeldIsPassed, PassedIsSent, StampsAreSafe}
+use Rattle.follow.proofs.Terms.{Bool, List, [], ap, append-nil, append_assoc, arith, cond, false, inl, inr, leb, length, refl, subst, sym, take, true, ℕ, ◌++◌, ◌-◌, ◌∙◌, ◌∷◌, ◌≡◌, ◌≤◌, cases_lt, leb-false, take-append-le, Prefix, Send, sent_to, Entry, prefix_sent, prefix_trans, sent_to-append, served_is_run, output, served_grows, journal_of, Bounds, items_in, received, AreBetween, AreInOrder, passed_behind, passed_in, until, count_of, held, held_behind, HeldIsFixed, HeldIsInOrder, HeldIsPassed, PassedIsSent, StampsAreSafe}
 use Rattle.follow.proofs.Fronts.{held_is_front, none_behind, part_behind, take_two}
 
 -- what is held of more sends

@@ -1,18 +1,5 @@
 -- The plan that a report tells is that of the survivor.
-use Rattle.std.proofs.Common.{◌≡◌, ◌∙◌, ◌++◌, Bool, true, false, List, [], ◌∷◌, Option, None, Some, ap, cond, map, refl, sym}
-use Rattle.std.specs.Prelude.{MatchOption, option_map}
-use Rattle.std.specs.Option.{option_map_or}
-use Rattle.run_history.specs.Served.{Override}
-use Rattle.session_history.specs.Lawful.{Survivor}
-use Rattle.session_history.specs.Serving.{first_survivor}
-use Rattle.session_notes.specs.declared.episode.Episode.{Episode}
-use Rattle.session_notes.specs.declared.episode.Try.{Try}
-use Rattle.session_notes.specs.Survival.{survives}
-use Rattle.trials.specs.Trials.{plan_of_trial}
-use Rattle.trials.specs.Tables.{Trial, survivor_in, try_of}
-use Rattle.trials.specs.Episodes.{AreRecovered, Recovery, adopted_by, episode_of, point_of}
-use Rattle.follow.specs.Plans.{adopted_try, plan_behind, plan_from, plan_of}
-use Rattle.follow.specs.Laws.{GivenUpAddsNothing, PlanIsTold, PlanOfReport}
+use Rattle.follow.proofs.Terms.{Bool, List, None, Option, Some, [], ap, cond, false, map, refl, sym, true, ◌++◌, ◌∙◌, ◌∷◌, ◌≡◌, option_map_or, MatchOption, option_map, Override, Survivor, first_survivor, Episode, Try, survives, AreRecovered, Recovery, adopted_by, episode_of, point_of, Trial, survivor_in, try_of, plan_of_trial, adopted_try, plan_behind, plan_from, plan_of, GivenUpAddsNothing, PlanIsTold, PlanOfReport}
 
 -- the trial that survives is told as the one that does
 adopted_told : (trials : List Trial) → adopted_try (map try_of trials) ≡ option_map try_of (survivor_in trials)

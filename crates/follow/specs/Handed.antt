@@ -1,19 +1,7 @@
 -- What a second host is handed, and when a run that follows has reached all that it tells.
 use Rattle.std.specs.Prelude.{◌≡◌, ℕ, ◌<◌, ◌≤◌, List, length, map, Option, None, IfSome, IsSome}
-use Rattle.std.specs.List.{last_or}
-use Rattle.rx_io.specs.Prefix.{Prefix}
-use Rattle.rx_io.specs.Sends.{sent_to}
-use Rattle.rx_io.specs.declared.bytes.Item.{Item}
-use Rattle.block_book.specs.declared.choice.Choice.{Choice}
-use Rattle.elf_image.specs.declared.image.Image.{Image}
 use Rattle.run_history.specs.declared.answer.Cause.{Cause}
-use Rattle.run_history.specs.Run.{output}
-use Rattle.run_history.specs.Served.{AsksFor, FailsBy, Limits, Override, Path, Served, origin}
-use Rattle.session_history.specs.Passing.{passed_in}
-use Rattle.session_history.specs.Lawful.{Rules}
-use Rattle.session_history.specs.Account.{Session, journal_of}
-use Rattle.session_notes.specs.declared.episode.Episode.{Episode}
-use Rattle.trials.specs.Episodes.{Recovery, episode_of}
+use Rattle.follow.specs.Terms.{last_or, Item, Prefix, sent_to, Choice, Image, output, AsksFor, FailsBy, Limits, Override, Path, Served, origin, Session, journal_of, Rules, passed_in, Episode, Recovery, episode_of}
 use Rattle.follow.specs.Plans.{plan_of}
 use Rattle.follow.specs.Held.{count_of}
 
@@ -54,6 +42,12 @@ abbrev pub IsPastFailure : {limits : Limits} {plan : List Override} {path : Path
 IsPastFailure {path = path} (AtRequest asks) episode = episode.point ≤ path.state.machine.taken
 IsPastFailure (AtExit ended) episode = Unit {0}
 IsPastFailure {path = path} (AtFailure cause fails) episode = episode.point < path.state.machine.taken
+
+-- it can't go on there, with these items: it has ended, or fails, or took them all
+abbrev pub IsStuck : {limits : Limits} {plan : List Override} {path : Path} → List Item → Stand limits plan path → Type 0
+IsStuck {path = path} items (AtRequest asks) = length items ≤ path.state.machine.taken
+IsStuck items (AtExit ended) = Unit {0}
+IsStuck items (AtFailure cause fails) = Unit {0}
 
 -- A run that stands there has reached all that was told: it is past the last episode, had each answer of the record, stands at or behind its last line, and
 -- sent what clients have.

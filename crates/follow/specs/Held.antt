@@ -1,6 +1,6 @@
 -- What clients hold of what a run sent.
 use Rattle.std.specs.Prelude.{ℕ, ◌-◌, List, [], ◌∷◌, ◌++◌, length, take, if◌then◌else◌, ◌==◌}
-use Rattle.rx_io.specs.Sends.{Send, sent_to}
+use Rattle.follow.specs.Terms.{Send, sent_to}
 
 -- how many bytes a connection has: 0 without a line
 abbrev pub count_of : List (ℕ × ℕ) → ℕ → ℕ

@@ -1,15 +1,6 @@
 -- What holds of the bytes that clients hold.
 use Rattle.std.specs.Prelude.{◌≡◌, ℕ, ◌≤◌, List, length, take}
-use Rattle.rx_io.specs.Prefix.{Prefix}
-use Rattle.rx_io.specs.Sends.{Send, sent_to}
-use Rattle.rx_io.specs.declared.bytes.Item.{Item}
-use Rattle.elf_image.specs.declared.image.Image.{Image}
-use Rattle.run_history.specs.Machine.{State}
-use Rattle.run_history.specs.Run.{output}
-use Rattle.run_history.specs.Served.{Limits, Override, Path, Served, origin}
-use Rattle.session_history.specs.Passing.{AreInOrder, Covers, IsFeasible, passed_in, until}
-use Rattle.session_history.specs.Lawful.{Rules}
-use Rattle.session_history.specs.Account.{IsAccount, Session, journal_of}
+use Rattle.follow.specs.Terms.{Item, Prefix, Send, sent_to, Image, State, output, Limits, Override, Path, Served, origin, IsAccount, Session, journal_of, Rules, AreInOrder, Covers, IsFeasible, passed_in, until}
 use Rattle.follow.specs.Held.{count_of, held}
 
 -- What clients hold is, on each connection, as many first bytes of what was sent as the counts say, or all of it.

@@ -1,15 +1,6 @@
 -- What a report tells of the run that survives.
 use Rattle.std.specs.Prelude.{◌≡◌, ℕ, List, [], ◌∷◌, ◌++◌, map, None, ◌⊎◌}
-use Rattle.rx_io.specs.declared.bytes.Item.{Item}
-use Rattle.rx_io.specs.Prefix.{Prefix}
-use Rattle.links.specs.declared.journal.Entry.{Entry}
-use Rattle.elf_image.specs.declared.image.Image.{Image}
-use Rattle.run_history.specs.Served.{AsksFor, Limits, Override, Path, Served, origin}
-use Rattle.session_history.specs.Lawful.{Chapter, Rules, Survivor}
-use Rattle.session_history.specs.Serving.{first_survivor}
-use Rattle.session_notes.specs.declared.episode.Episode.{Episode}
-use Rattle.trials.specs.Tables.{survivor_in}
-use Rattle.trials.specs.Episodes.{Recovery, episode_of, AreRecovered}
+use Rattle.follow.specs.Terms.{Item, Prefix, Entry, Image, AsksFor, Limits, Override, Path, Served, origin, Chapter, Rules, Survivor, first_survivor, Episode, AreRecovered, Recovery, episode_of, survivor_in}
 use Rattle.follow.specs.Plans.{plan_from, plan_of}
 use Rattle.follow.specs.Runs.{AreWider, IsLonger}
 

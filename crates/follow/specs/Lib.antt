@@ -1,3 +1,4 @@
+pub mod Terms
 pub mod Plans
 pub mod Runs
 pub mod Held

@@ -1,11 +1,6 @@
 -- The plan of environments that a report tells.
 use Rattle.std.specs.Prelude.{List, [], ◌∷◌, Option, None, Some, if◌then◌else◌}
-use Rattle.std.specs.Option.{option_map_or}
-use Rattle.run_history.specs.Served.{Override}
-use Rattle.session_notes.specs.declared.episode.Episode.{Episode}
-use Rattle.session_notes.specs.declared.episode.Try.{Try}
-use Rattle.session_notes.specs.Survival.{survives}
-use Rattle.trials.specs.Trials.{plan_of_trial}
+use Rattle.follow.specs.Terms.{option_map_or, Override, Episode, Try, survives, plan_of_trial}
 
 -- the trial of an episode that survived, if one did
 abbrev pub adopted_try : List Try → Option Try

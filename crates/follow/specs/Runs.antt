@@ -1,10 +1,6 @@
 -- The run of one host beside that of another.
 use Rattle.std.specs.Prelude.{◌≡◌, ℕ, ◌≤◌, true, List}
-use Rattle.rx_io.specs.declared.bytes.Item.{Item}
-use Rattle.rx_io.specs.Prefix.{Prefix}
-use Rattle.block_book.specs.Heap.{Heap}
-use Rattle.run_history.specs.Run.{output}
-use Rattle.run_history.specs.Served.{Limits, Override, Path, Served}
+use Rattle.follow.specs.Terms.{Item, Prefix, Heap, output, Limits, Override, Path, Served}
 
 -- the second limits allow at least what the first do: as many instructions between two items, and with the same blocks each range of bytes
 pub record AreWider (limits wider : Limits) : Type 0 where

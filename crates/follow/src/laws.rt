@@ -1,7 +1,7 @@
 //! Laws of a run that is followed, each as the contract of a function that does nothing.
 ghost use Rattle.follow.specs.Laws.{PlanIsTold, PlanOfReport, GivenUpAddsNothing, ServedWider, AsksWider, OneRun};
 ghost use Rattle.follow.specs.HeldLaws.{HeldIsFront, HeldIsInTime, HeldIsInOrder, HeldIsFixed, HeldIsPassed, PassedIsSent, StampsAreSafe};
-ghost use Rattle.follow.specs.ReachLaws.{ReachesInTime, FollowsBefore, NoWaiting};
+ghost use Rattle.follow.specs.ReachLaws.{ReachesInTime, FollowsBefore, NoWaiting, StuckHasReached, AnswersAgree, FinishAgrees, HeldAtRelease};
 
 /// Behind recoveries the plan of the survivor is told by their episodes, from the plan that it had before them.
 pub fn plan_is_told()
@@ -81,4 +81,24 @@ pub fn follows_before()
 /// So it asks for no item but those that the first host's run had taken.
 pub fn no_waiting()
     ensures { NoWaiting }
+{}
+
+/// Where it can't go on, on all items that the first host heard, it has reached what was handed over.
+pub fn stuck_has_reached()
+    ensures { StuckHasReached }
+{}
+
+/// It has the answers of the record.
+pub fn answers_agree()
+    ensures { AnswersAgree }
+{}
+
+/// It stands where the record's last line says.
+pub fn finish_agrees()
+    ensures { FinishAgrees }
+{}
+
+/// Where it has reached what was handed over, what clients hold is what the first host passed to them.
+pub fn held_at_release()
+    ensures { HeldAtRelease }
 {}
