@@ -1,7 +1,6 @@
 -- What the definitions compute at values.
-use Rattle.alloc_env.specs.declared.env.Env.TheVariants.{All, Delay, Isolate, Pad, Plain, Zero}
 use Rattle.session_notes.specs.declared.episode.Tried.TheVariants.{Asks, Behind, Contradicts}
-use Rattle.follow.proofs.Terms.{List, [], map, refl, ℕ, ◌∷◌, ◌≡◌, Env, Hang, env_at, Episode, plan_of}
+use Rattle.follow.proofs.Terms.{List, [], map, refl, ℕ, ◌∷◌, ◌≡◌, Env, All, Delay, Isolate, Pad, Plain, Zero, Hang, env_at, Episode, plan_of, ranges_of}
 
 -- an episode at a point, of which the second trial survived: from this checkpoint, in this environment
 abbrev survived : ℕ → Env → ℕ → Episode
@@ -35,3 +34,10 @@ from_earlier = refl
 -- one that no trial survived changes nothing
 none_survived : in_force (survived 0 Zero 0 ∷ given_up 5 ∷ []) ≡ Zero ∷ Zero ∷ Zero ∷ Zero ∷ Plain ∷ Plain ∷ Plain ∷ Plain ∷ Plain ∷ Plain ∷ Plain ∷ Plain ∷ []
 none_survived = refl
+
+-- as ranges: the first of them has two, and the third one
+two_ranges : ranges_of (survived 1 Pad 2 ∷ survived 3 Delay 5 ∷ []) ≡ record { low = 4; until = 9; env = Delay } ∷ record { low = 2; until = 6; env = Pad } ∷ []
+two_ranges = refl
+
+one_range : ranges_of (survived 3 Pad 5 ∷ survived 1 Delay 7 ∷ []) ≡ record { low = 2; until = 11; env = Delay } ∷ []
+one_range = refl

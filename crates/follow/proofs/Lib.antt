@@ -1,5 +1,6 @@
 pub mod Terms
 pub mod Told
+pub mod Ranges
 pub mod Runs
 pub mod Fronts
 pub mod Stamps

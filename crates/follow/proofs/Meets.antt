@@ -1,7 +1,8 @@
 -- Something meets what the laws ask for.
 use Rattle.session_history.proofs.Endings.{ending_account, ending_none}
 use Rattle.session_history.proofs.Sessions.{serving_first}
-use Rattle.follow.proofs.Terms.{Bool, List, None, Some, [], ap, arith, cond, eqb, false, length, map, refl, true, ℕ, ◌∷◌, ◌≡◌, ◌≤◌, eqb-true, sent_to, Image, prefix_same, IsAccount, Session, journal_of, items_in, Rules, passed_in, first_survivor, AreRecovered, Recovery, episode_of, Handed, HandsOver}
+use Rattle.follow.proofs.Terms.{Bool, List, None, Some, [], ap, arith, cond, eqb, false, length, map, refl, true, ℕ, ◌∷◌, ◌≡◌, ◌≤◌, eqb-true, sent_to, Image, prefix_same, origin, IsAccount, Session, journal_of, items_in, Rules, passed_in, first_survivor, AreRecovered, Recovery, episode_of, IsFollowed, IsTakeover, Takeover}
+use Rattle.follow.proofs.Reached.{first_served}
 use Rattle.follow.proofs.Runs.{same_limits}
 
 -- a session at its start
@@ -15,19 +16,28 @@ account_at_start rules image = ending_account rules image [] (first_survivor ima
 recovered_at_start : (rules : Rules) (image : Image) → AreRecovered rules image [] (first_survivor image) [] [] (first_survivor image)
 recovered_at_start rules image = (refl, refl)
 
--- all that a session may hand over, with as much for a client as was passed to it
-abbrev handed_all : Rules → Session → List Recovery → ℕ → Handed
-handed_all rules session recoveries conn = record {
-  counts = (conn, length (sent_to conn (passed_in rules.bounds (journal_of session)))) ∷ [];
-  episodes = map episode_of recoveries;
-  choices = session.survivor.now.choices;
-  finish = Some (record { steps = session.survivor.now.steps; taken = session.survivor.now.state.machine.taken });
+-- a takeover of all that a session may hand over, with as much for a client as was passed to it
+abbrev whole : Rules → Image → Session → List Recovery → ℕ → Takeover
+whole rules image session recoveries conn = record {
+  image = image;
+  rules = rules;
+  session = session;
+  recoveries = recoveries;
+  handed =
+      record {
+        counts = (conn, length (sent_to conn (passed_in rules.bounds (journal_of session)))) ∷ [];
+        episodes = map episode_of recoveries;
+        choices = session.survivor.now.choices;
+        finish = Some (record { steps = session.survivor.now.steps; taken = session.survivor.now.state.machine.taken });
+      };
+  limits = rules.limits;
+  items = items_in rules.bounds (journal_of session);
 }
 
--- each session that has an account and its recoveries can hand that over, as an engine's does at each answer
-hands_over : (rules : Rules) (image : Image) (session : Session) (recoveries : List Recovery) (conn : ℕ) → IsAccount rules image session → AreRecovered rules image [] (first_survivor image) session.earlier recoveries session.survivor
-    → HandsOver rules image session recoveries (handed_all rules session recoveries conn) rules.limits (items_in rules.bounds (journal_of session))
-hands_over rules image session recoveries conn account recovered = record {
+-- it is one for each session that has an account and its recoveries, as an engine's does at each answer
+takes_over : (rules : Rules) (image : Image) (session : Session) (recoveries : List Recovery) (conn : ℕ) → IsAccount rules image session → AreRecovered rules image [] (first_survivor image) session.earlier recoveries session.survivor
+    → IsTakeover (whole rules image session recoveries conn)
+takes_over rules image session recoveries conn account recovered = record {
   account = account;
   recovered = recovered;
   handed_by =
@@ -38,10 +48,18 @@ hands_over rules image session recoveries conn account recovered = record {
         counts = λ other. of other (eqb conn other) refl;
       };
   wide = same_limits rules.limits;
-  items = prefix_same (items_in rules.bounds (journal_of session));
+  first = prefix_same (items_in rules.bounds (journal_of session));
 }
   where
     of : (other : ℕ) (here : Bool) → eqb conn other ≡ here
         → cond here (length (sent_to conn (passed_in rules.bounds (journal_of session)))) 0 ≤ length (sent_to other (passed_in rules.bounds (journal_of session)))
     of other true is = omega (arith, ap (λ (to : ℕ). length (sent_to to (passed_in rules.bounds (journal_of session)))) (eqb-true conn other is))
     of other false is = omega arith
+
+-- and the first host's run follows itself
+follows_itself : (rules : Rules) (image : Image) (session : Session) (recoveries : List Recovery) (conn : ℕ) → IsTakeover (whole rules image session recoveries conn) → IsFollowed (whole rules image session recoveries conn) session.survivor.now
+follows_itself rules image session recoveries conn is = record {
+  heard = items_in rules.bounds (journal_of session);
+  first = prefix_same (items_in rules.bounds (journal_of session));
+  ran = first_served (whole rules image session recoveries conn) (origin image) session.survivor.now is is.account.served;
+}

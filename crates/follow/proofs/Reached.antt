@@ -3,7 +3,7 @@ use Rattle.session_notes.specs.declared.episode.Tried.TheVariants as tried
 use Rattle.session_history.proofs.Due.{due_ran}
 use Rattle.session_notes.specs.declared.episode.Tried.{Tried}
 use Rattle.trials.proofs.Walked.{walk_adopts}
-use Rattle.follow.proofs.Terms.{List, None, Option, Some, [], ap, arith, false, inl, inr, length, length-append, map, refl, subst, sym, true, ℕ, ◌++◌, ◌<◌, ◌∙◌, ◌∷◌, ◌≡◌, ◌≤◌, ◌⊎◌, IfSome_then, last_or, IfSome, IsSome, MatchOption, is_some, Item, Prefix, Send, sent_to, Entry, Image, prefix_trans, output, AsksFor, Limits, Override, Path, Served, origin, later_of, served_on, served_same, Session, journal_of, items_in, Chapter, Rules, Survivor, place_of, passed_in, first_survivor, Episode, survives, Before, Behind, Compared, Equal, compare, later_served, later_steps, taken_later, apart_asks_fails, apart_ended, asks_on, ended_on, AreRecovered, IsRecovery, Recovery, adopted_by, episode_of, point_of, Trial, survivor_in, ComesTo, plan_of, AreWider, IsLonger, AtExit, AtFailure, AtRequest, Handed, HasReached, IsPastFailure, Stand, FollowsBefore, HandsOver, NoWaiting, ReachesInTime}
+use Rattle.follow.proofs.Terms.{List, None, Option, Some, [], ap, arith, false, inl, inr, length, length-append, map, refl, subst, sym, true, ℕ, ◌++◌, ◌<◌, ◌∙◌, ◌∷◌, ◌≡◌, ◌≤◌, ◌⊎◌, IfSome_then, last_or, IfSome, IsSome, MatchOption, is_some, Item, Prefix, Send, sent_to, Entry, Image, prefix_trans, output, AsksFor, Limits, Override, Path, Served, origin, Later, later_of, served_on, served_same, items_in, Chapter, Rules, Survivor, place_of, passed_in, first_survivor, Episode, survives, Before, Behind, Compared, Equal, compare, later_served, later_steps, taken_later, apart_asks_fails, apart_ended, asks_on, ended_on, AreRecovered, IsRecovery, Recovery, adopted_by, episode_of, point_of, Trial, survivor_in, ComesTo, plan_of, AreWider, IsLonger, AtExit, AtFailure, AtRequest, HasReached, IsPastFailure, Stand, IsFollowed, IsTakeover, Takeover, heard_first, passed_first, plan_in, stopped, FollowsBefore, NoWaiting, ReachesInTime}
 use Rattle.follow.proofs.Runs.{asks_wider, is_longer, served_all, served_wider}
 use Rattle.follow.proofs.Told.{plan_of_report}
 
@@ -72,99 +72,90 @@ began_behind rules image before first (chapter ∷ chapters) (recovery ∷ recov
     of (Some trial) is so rest = so trial (record { entries = before ++ chapter.entries; recovery = recovery; trial = trial; was = are.2; is = is; point = refl; plan = refl; begun = refl }) rest
 
 -- a run from where a survivor began, under its plan, is past the episode behind which it began
-past_began : (rules : Rules) (image : Image) (wider : Limits) (all : List Item) (now : Survivor) (episode : Episode) (path : Path) (stand : Stand wider now.plan path)
-    → AreWider rules.limits wider → Served wider all now.plan now.begun path → Began rules image now episode → IsPastFailure stand episode
-past_began rules image wider all now episode path stand are on began =
+past_began : (rules : Rules) (image : Image) (wider : Limits) (all : List Item) (plan : List Override) (now : Survivor) (episode : Episode) (path : Path) (stand : Stand wider plan path) → now.plan ≡ plan
+    → AreWider rules.limits wider → Served wider all plan now.begun path → Began rules image now episode → IsPastFailure stand episode
+past_began rules image wider all plan now episode path stand same are on began =
     let items : List Item = items_in rules.bounds began.entries in
     let pieces : List Send = passed_in rules.bounds began.entries in
     let checkpoint : Path = began.trial.chance.checkpoint in
     let it =
     walk_adopts rules.limits items began.recovery.survivor.plan pieces (point_of began.recovery) began.recovery.ring began.recovery.trials began.trial began.was.walks began.is in
     let planned =
-    subst (λ (plan : List Override). ComesTo rules.limits items plan checkpoint pieces (point_of began.recovery) began.trial.path began.trial.result) (sym began.plan) it.right.comes in
-    let comes = subst (λ (point : ℕ). ComesTo rules.limits items now.plan checkpoint pieces point began.trial.path began.trial.result) (sym began.point) planned in
-    past_stand rules.limits wider items all now.plan checkpoint pieces episode began.trial.path path began.trial.result stand are it.survives_it comes
-    (subst (λ (p : Path). Served wider all now.plan p path) began.begun on)
+    subst (λ (p : List Override). ComesTo rules.limits items p checkpoint pieces (point_of began.recovery) began.trial.path began.trial.result) (sym began.plan ∙ same) it.right.comes in
+    let comes = subst (λ (point : ℕ). ComesTo rules.limits items plan checkpoint pieces point began.trial.path began.trial.result) (sym began.point) planned in
+    past_stand rules.limits wider items all plan checkpoint pieces episode began.trial.path path began.trial.result stand are it.survives_it comes
+    (subst (λ (p : Path). Served wider all plan p path) began.begun on)
 
 -- a front is no longer
 pub front_length : (xs ys : List ℕ) → Prefix xs ys → length xs ≤ length ys
 front_length xs ys front = omega (arith, ap length (sym front.1), length-append xs front.0)
 
--- a run from where the first host stopped, under its survivor's plan
-reaches : (rules : Rules) (image : Image) (session : Session) (recoveries : List Recovery) (handed : Handed) (wider : Limits) (all : List Item) (path : Path) → HandsOver rules image session recoveries handed wider all
-    → (stand : Stand wider session.survivor.plan path) → Served wider all session.survivor.plan session.survivor.now path → HasReached wider session.survivor.plan handed path stand
-reaches rules image session recoveries handed wider all path over stand on =
-    let items : List Item = items_in rules.bounds (journal_of session) in
-    let plan : List Override = session.survivor.plan in
-    let begun : Path = session.survivor.begun in
-    let now : Path = session.survivor.now in
-    let longer = is_longer wider all plan now path on in
-    let ran = due_ran rules items session.survivor (place_of session.earlier [] false) session.since over.account.since in
-    let whole = served_on wider all plan begun now path (served_all wider items all plan begun now over.items (served_wider rules.limits wider items plan begun now over.wide ran)) on in
-    let began = began_behind rules image [] (first_survivor image) session.earlier recoveries session.survivor None tt over.recovered in
+-- the survivor's plan is the one that was told
+same_plan : (over : Takeover) → IsTakeover over → over.session.survivor.plan ≡ plan_in over
+same_plan over is = plan_of_report over.rules over.image over.session.earlier over.recoveries over.session.survivor is.recovered ∙ ap plan_of (sym is.handed_by.episodes)
+
+-- the first host's run, under the second one's limits and on all items
+pub first_served : (over : Takeover) (first second : Path) → IsTakeover over → Served over.rules.limits (heard_first over) over.session.survivor.plan first second → Served over.limits over.items (plan_in over) first second
+first_served over first second is served =
+    subst (λ (plan : List Override). Served over.limits over.items plan first second) (same_plan over is)
+    (served_all over.limits (heard_first over) over.items over.session.survivor.plan first second is.first (served_wider over.rules.limits over.limits (heard_first over) over.session.survivor.plan first second is.wide served))
+
+pub reaches_in_time : ReachesInTime
+reaches_in_time over path stand is on =
+    let now : Path = stopped over in
+    let begun : Path = over.session.survivor.begun in
+    let longer = is_longer over.limits over.items (plan_in over) now path on in
+    let ran = due_ran over.rules (heard_first over) over.session.survivor (place_of over.session.earlier [] false) over.session.since is.account.since in
+    let all = served_on over.limits over.items (plan_in over) begun now path (first_served over begun now is ran) on in
+    let began = began_behind over.rules over.image [] (first_survivor over.image) over.session.earlier over.recoveries over.session.survivor None tt is.recovered in
     record {
       past =
-          subst (λ (episodes : List Episode). IfSome (last_or None episodes) (IsPastFailure stand)) (sym over.handed_by.episodes)
-          (IfSome_then (last_or None (map episode_of recoveries)) began (λ episode it. past_began rules image wider all session.survivor episode path stand over.wide whole it));
-      chose = prefix_trans handed.choices now.choices path.choices over.handed_by.choices longer.choices;
-      finished = IfSome_then handed.finish over.handed_by.finish (λ finish is. omega (arith, is.0, longer.steps));
+          subst (λ (episodes : List Episode). IfSome (last_or None episodes) (IsPastFailure stand)) (sym is.handed_by.episodes)
+          (IfSome_then (last_or None (map episode_of over.recoveries)) began
+          (λ episode it. past_began over.rules over.image over.limits over.items (plan_in over) over.session.survivor episode path stand (same_plan over is) is.wide all it));
+      chose = prefix_trans over.handed.choices now.choices path.choices is.handed_by.choices longer.choices;
+      finished = IfSome_then over.handed.finish is.handed_by.finish (λ finish here. omega (arith, here.0, longer.steps));
       covers = λ conn.
           omega (
             arith,
-            over.handed_by.counts conn,
-            front_length (sent_to conn (passed_in rules.bounds (journal_of session))) (output now.state conn) (over.account.passed conn),
+            is.handed_by.counts conn,
+            front_length (sent_to conn (passed_first over)) (output now.state conn) (is.account.passed conn),
             front_length (output now.state conn) (output path.state conn) (longer.outputs conn),
           );
     }
 
--- the survivor's plan is the one that was told
-same_plan : (rules : Rules) (image : Image) (session : Session) (recoveries : List Recovery) (handed : Handed) (wider : Limits) (all : List Item) → HandsOver rules image session recoveries handed wider all → session.survivor.plan ≡ plan_of handed.episodes
-same_plan rules image session recoveries handed wider all over = plan_of_report rules image session.earlier recoveries session.survivor over.recovered ∙ ap plan_of (sym over.handed_by.episodes)
+-- of a run that follows and the first host's, on all items, one goes on as the other
+pub beside : (over : Takeover) (path : Path) → IsTakeover over → IsFollowed over path → Compared over.limits over.items (plan_in over) path (stopped over)
+beside over path is followed =
+    compare over.limits over.items (plan_in over) (origin over.image) path (stopped over) (served_all over.limits followed.heard over.items (plan_in over) (origin over.image) path followed.first followed.ran)
+    (first_served over (origin over.image) (stopped over) is is.account.served)
 
-pub reaches_in_time : ReachesInTime
-reaches_in_time rules image session recoveries handed wider all path stand over on =
-    subst (λ (plan : List Override). (stand : Stand wider plan path) → Served wider all plan session.survivor.now path → HasReached wider plan handed path stand)
-    (same_plan rules image session recoveries handed wider all over) (reaches rules image session recoveries handed wider all path over) stand on
+-- where the first host stopped, or behind that
+pub reached_there : (over : Takeover) (path : Path) (stand : Stand over.limits (plan_in over) path) → IsTakeover over → path ≡ stopped over → HasReached over.limits over.handed path stand
+reached_there over path stand is same =
+    reaches_in_time over path stand is
+    (subst (λ (p : Path). Served over.limits over.items (plan_in over) (stopped over) p) (sym same) (served_same over.limits over.items (plan_in over) (stopped over)))
 
--- the first host's run, under the second one's limits and on all items
-pub first_ran : (rules : Rules) (image : Image) (session : Session) (recoveries : List Recovery) (handed : Handed) (wider : Limits) (all : List Item) → HandsOver rules image session recoveries handed wider all
-    → Served wider all (plan_of handed.episodes) (origin image) session.survivor.now
-first_ran rules image session recoveries handed wider all over =
-    let items : List Item = items_in rules.bounds (journal_of session) in
-    let plan : List Override = session.survivor.plan in
-    let now : Path = session.survivor.now in
-    subst (λ (p : List Override). Served wider all p (origin image) now) (same_plan rules image session recoveries handed wider all over)
-    (served_all wider items all plan (origin image) now over.items (served_wider rules.limits wider items plan (origin image) now over.wide over.account.served))
+pub reached_behind : (over : Takeover) (path : Path) (stand : Stand over.limits (plan_in over) path) → IsTakeover over → Later over.limits over.items (plan_in over) (stopped over) path → HasReached over.limits over.handed path stand
+reached_behind over path stand is later = reaches_in_time over path stand is (later_served over.limits over.items (plan_in over) (stopped over) path later)
 
 pub follows_before : FollowsBefore
-follows_before rules image session recoveries handed wider others all path stand over front followed =
-    of_compared
-    (compare wider all (plan_of handed.episodes) (origin image) path session.survivor.now (served_all wider others all (plan_of handed.episodes) (origin image) path front followed)
-    (first_ran rules image session recoveries handed wider all over))
+follows_before over path stand is followed = of_compared (beside over path is followed)
   where
-    of_compared : Compared wider all (plan_of handed.episodes) path session.survivor.now
-        → HasReached wider (plan_of handed.episodes) handed path stand ⊎ (IsLonger wider all (plan_of handed.episodes) path session.survivor.now × (path.steps < session.survivor.now.steps))
-    of_compared (Equal same) =
-        inl (reaches_in_time rules image session recoveries handed wider all path stand over
-        (subst (λ (p : Path). Served wider all (plan_of handed.episodes) session.survivor.now p) (sym same) (served_same wider all (plan_of handed.episodes) session.survivor.now)))
+    of_compared : Compared over.limits over.items (plan_in over) path (stopped over)
+        → HasReached over.limits over.handed path stand ⊎ (IsLonger over.limits over.items (plan_in over) path (stopped over) × (path.steps < (stopped over).steps))
+    of_compared (Equal same) = inl (reached_there over path stand is same)
     of_compared (Before later) =
         inr (
-          is_longer wider all (plan_of handed.episodes) path session.survivor.now (later_served wider all (plan_of handed.episodes) path session.survivor.now later),
-          later_steps wider all (plan_of handed.episodes) path session.survivor.now later,
+          is_longer over.limits over.items (plan_in over) path (stopped over) (later_served over.limits over.items (plan_in over) path (stopped over) later),
+          later_steps over.limits over.items (plan_in over) path (stopped over) later,
         )
-    of_compared (Behind later) =
-        inl (reaches_in_time rules image session recoveries handed wider all path stand over (later_served wider all (plan_of handed.episodes) session.survivor.now path later))
+    of_compared (Behind later) = inl (reached_behind over path stand is later)
 
 pub no_waiting : NoWaiting
-no_waiting rules image session recoveries handed wider others all path asks over front followed =
-    elim (follows_before rules image session recoveries handed wider others all path (AtRequest asks) over front followed) [
-      | inl reached ↦ inl reached
-      | inr before ↦ inr (took before.0.served before.1)
-    ]
+no_waiting over path asks is followed = of_compared (beside over path is followed)
   where
-    took : Served wider all (plan_of handed.episodes) path session.survivor.now → path.steps < session.survivor.now.steps → path.state.machine.taken < session.survivor.now.state.machine.taken
-    took served fewer =
-        elim (later_of wider all (plan_of handed.episodes) path session.survivor.now served) [
-          | inl same ↦ absurd (omega (arith, fewer, ap (λ (p : Path). p.steps) same))
-          | inr later ↦ asks_on wider all (plan_of handed.episodes) path session.survivor.now path.state.machine.taken asks later
-        ]
+    of_compared : Compared over.limits over.items (plan_in over) path (stopped over) → HasReached over.limits over.handed path (AtRequest asks) ⊎ (path.state.machine.taken < (stopped over).state.machine.taken)
+    of_compared (Equal same) = inl (reached_there over path (AtRequest asks) is same)
+    of_compared (Before later) = inr (asks_on over.limits over.items (plan_in over) path (stopped over) path.state.machine.taken asks later)
+    of_compared (Behind later) = inl (reached_behind over path (AtRequest asks) is later)

@@ -1,7 +1,7 @@
 -- What a second host is handed, and when a run that follows has reached all that it tells.
 use Rattle.std.specs.Prelude.{◌≡◌, ℕ, ◌<◌, ◌≤◌, List, length, map, Option, None, IfSome, IsSome}
 use Rattle.run_history.specs.declared.answer.Cause.{Cause}
-use Rattle.follow.specs.Terms.{last_or, Item, Prefix, sent_to, Choice, Image, output, AsksFor, FailsBy, Limits, Override, Path, Served, origin, Session, journal_of, Rules, passed_in, Episode, Recovery, episode_of}
+use Rattle.follow.specs.Terms.{last_or, Item, Prefix, sent_to, Choice, output, AsksFor, FailsBy, Limits, Override, Path, Session, journal_of, Rules, passed_in, Episode, Recovery, episode_of}
 use Rattle.follow.specs.Plans.{plan_of}
 use Rattle.follow.specs.Held.{count_of}
 
@@ -26,10 +26,6 @@ pub record IsHandedBy (rules : Rules) (session : Session) (recoveries : List Rec
   pub finish : IfSome handed.finish (λ finish. (finish.steps ≡ session.survivor.now.steps) × (finish.taken ≡ session.survivor.now.state.machine.taken))
   pub counts : (conn : ℕ) → count_of handed.counts conn ≤ length (sent_to conn (passed_in rules.bounds (journal_of session)))
 
--- a run that follows: on the items received, under the plan of the report
-abbrev pub IsFollowed : Limits → Image → List Item → Handed → Path → Type 0
-IsFollowed limits image items handed path = Served limits items (plan_of handed.episodes) (origin image) path
-
 -- a run stands where it can be judged: at its request for an item, at its exit, or at a failure
 pub data Stand (limits : Limits) (plan : List Override) (path : Path) : Type 0 where
   AtRequest : AsksFor limits plan path path.state.machine.taken → Stand limits plan path
@@ -51,7 +47,7 @@ IsStuck items (AtFailure cause fails) = Unit {0}
 
 -- A run that stands there has reached all that was told: it is past the last episode, had each answer of the record, stands at or behind its last line, and
 -- sent what clients have.
-pub record HasReached (limits : Limits) (plan : List Override) (handed : Handed) (path : Path) (stand : Stand limits plan path) : Type 0 where
+pub record HasReached (limits : Limits) (handed : Handed) (path : Path) (stand : Stand limits (plan_of handed.episodes) path) : Type 0 where
   pub past : IfSome (last_or None handed.episodes) (IsPastFailure stand)
   pub chose : Prefix handed.choices path.choices
   pub finished : IfSome handed.finish (λ finish. finish.steps ≤ path.steps)

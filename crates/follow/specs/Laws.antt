@@ -1,7 +1,8 @@
 -- What a report tells of the run that survives.
 use Rattle.std.specs.Prelude.{◌≡◌, ℕ, List, [], ◌∷◌, ◌++◌, map, None, ◌⊎◌}
-use Rattle.follow.specs.Terms.{Item, Prefix, Entry, Image, AsksFor, Limits, Override, Path, Served, origin, Chapter, Rules, Survivor, first_survivor, Episode, AreRecovered, Recovery, episode_of, survivor_in}
+use Rattle.follow.specs.Terms.{Item, Prefix, Entry, Image, AsksFor, Limits, Override, Path, Served, env_at, origin, Chapter, Rules, Survivor, first_survivor, Episode, AreRecovered, Recovery, episode_of, survivor_in}
 use Rattle.follow.specs.Plans.{plan_from, plan_of}
+use Rattle.follow.specs.Ranges.{AreFalling, ranges_of}
 use Rattle.follow.specs.Runs.{AreWider, IsLonger}
 
 -- Behind recoveries the plan of the survivor is told by their episodes, from the plan that it had before them.
@@ -21,6 +22,13 @@ abbrev pub GivenUpAddsNothing : Type 0
 GivenUpAddsNothing =
     (episodes : List Episode) (recovery : Recovery) → survivor_in recovery.trials ≡ None →
     plan_of (episodes ++ episode_of recovery ∷ []) ≡ plan_of episodes
+
+-- As ranges the plan of a report says the same at each count of items, and each range begins before those in front of it.
+abbrev pub RangesAreExact : Type 0
+RangesAreExact = (episodes : List Episode) (count : ℕ) → env_at (ranges_of episodes) count ≡ env_at (plan_of episodes) count
+
+abbrev pub RangesFall : Type 0
+RangesFall = (episodes : List Episode) → AreFalling (ranges_of episodes)
 
 -- A run is there under wider limits too, and asks for the same items.
 abbrev pub ServedWider : Type 0

@@ -1,8 +1,10 @@
 pub mod Terms
 pub mod Plans
+pub mod Ranges
 pub mod Runs
 pub mod Held
 pub mod Laws
 pub mod HeldLaws
 pub mod Handed
+pub mod Takeover
 pub mod ReachLaws

@@ -8,6 +8,7 @@ pub use Rattle.links.specs.declared.journal.Entry.{Entry}
 pub use Rattle.block_book.specs.declared.choice.Choice.{Choice}
 pub use Rattle.block_book.specs.Heap.{Heap}
 pub use Rattle.alloc_env.specs.declared.env.Env.{Env}
+pub use Rattle.alloc_env.specs.declared.env.Env.TheVariants.{All, Delay, Isolate, Pad, Plain, Zero}
 pub use Rattle.elf_image.specs.declared.image.Image.{Image}
 pub use Rattle.run_history.specs.declared.answer.Cause.TheVariants.{BadAccess, Hang}
 pub use Rattle.run_history.specs.Machine.{Effect, Fails, State, Wants}

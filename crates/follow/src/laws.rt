@@ -1,5 +1,5 @@
 //! Laws of a run that is followed, each as the contract of a function that does nothing.
-ghost use Rattle.follow.specs.Laws.{PlanIsTold, PlanOfReport, GivenUpAddsNothing, ServedWider, AsksWider, OneRun};
+ghost use Rattle.follow.specs.Laws.{PlanIsTold, PlanOfReport, GivenUpAddsNothing, RangesAreExact, RangesFall, ServedWider, AsksWider, OneRun};
 ghost use Rattle.follow.specs.HeldLaws.{HeldIsFront, HeldIsInTime, HeldIsInOrder, HeldIsFixed, HeldIsPassed, PassedIsSent, StampsAreSafe};
 ghost use Rattle.follow.specs.ReachLaws.{ReachesInTime, FollowsBefore, NoWaiting, StuckHasReached, AnswersAgree, FinishAgrees, HeldAtRelease};
 
@@ -16,6 +16,16 @@ pub fn plan_of_report()
 /// An episode that no trial survived adds nothing to it.
 pub fn given_up_adds_nothing()
     ensures { GivenUpAddsNothing }
+{}
+
+/// As ranges it says the same at each count of items.
+pub fn ranges_are_exact()
+    ensures { RangesAreExact }
+{}
+
+/// Each range begins before those in front of it.
+pub fn ranges_fall()
+    ensures { RangesFall }
 {}
 
 /// A run is there under wider limits too.
