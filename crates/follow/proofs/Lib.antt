@@ -6,5 +6,6 @@ pub mod Fronts
 pub mod Stamps
 pub mod Reached
 pub mod Agreed
+pub mod Released
 mod Meets
 mod Examples

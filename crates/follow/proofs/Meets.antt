@@ -1,7 +1,7 @@
 -- Something meets what the laws ask for.
 use Rattle.session_history.proofs.Endings.{ending_account, ending_none}
 use Rattle.session_history.proofs.Sessions.{serving_first}
-use Rattle.follow.proofs.Terms.{Bool, List, None, Some, [], ap, arith, cond, eqb, false, length, map, refl, true, ℕ, ◌∷◌, ◌≡◌, ◌≤◌, eqb-true, sent_to, Image, prefix_same, origin, IsAccount, Session, journal_of, items_in, Rules, passed_in, first_survivor, AreRecovered, Recovery, episode_of, IsFollowed, IsTakeover, Takeover}
+use Rattle.follow.proofs.Terms.{Bool, List, None, Some, [], ap, arith, cond, eqb, false, length, length-append, map, refl, true, ℕ, ◌++◌, ◌∷◌, ◌≡◌, ◌≤◌, eqb-true, sent_to, LinkEvent, Image, prefix_same, origin, served_same, IsAccount, Session, journal_of, items_in, Rules, passed_in, first_survivor, AreRecovered, Recovery, episode_of, Handed, Stand, IsFollowed, IsTakeover, Takeover, HasFollowed}
 use Rattle.follow.proofs.Reached.{first_served}
 use Rattle.follow.proofs.Runs.{same_limits}
 
@@ -63,3 +63,19 @@ follows_itself rules image session recoveries conn is = record {
   first = prefix_same (items_in rules.bounds (journal_of session));
   ran = first_served (whole rules image session recoveries conn) (origin image) session.survivor.now is is.account.served;
 }
+
+-- a second host that is handed nothing is released at the start, if its run can be judged there
+abbrev nothing : Handed
+nothing = record { counts = []; episodes = []; choices = []; finish = None }
+
+released_at_start : (rules : Rules) (image : Image) → Stand rules.limits [] (origin image) → HasFollowed rules image nothing [] (origin image)
+released_at_start rules image stand = record {
+  ran = served_same rules.limits (items_in rules.bounds []) [] (origin image);
+  stand = stand;
+  reached = record { past = tt; chose = ([], refl); finished = tt; covers = λ conn. omega arith };
+  first = λ path there served fewer. absurd (omega (arith, fewer));
+  asked = λ front back event same. absurd (none_behind_none front back event same);
+}
+  where
+    none_behind_none : (front back : List LinkEvent) (event : LinkEvent) → [] ≡ front ++ event ∷ back → ⊥
+    none_behind_none front back event same = omega (arith, ap length same, length-append front (event ∷ back))

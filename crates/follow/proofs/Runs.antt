@@ -1,8 +1,7 @@
 -- A run under wider limits, and two runs under one plan.
 use Rattle.run_history.specs.Touching.{Range, touched}
-use Rattle.run_history.proofs.Repeats.{repeated_as, repeated_keeps}
 use Rattle.trials.proofs.Agreeing.{output_on}
-use Rattle.follow.proofs.Terms.{Bool, List, None, Option, Some, ap, arith, cond, false, inl, inr, leb, not, refl, subst, sym, true, ◌<◌, ◌∙◌, ◌≡◌, ◌⊎◌, leb-false, lt-leb, not-false, is_some, option_map, slice_get, Item, Prefix, Heap, Env, BadAccess, Hang, prefix_same, prefix_trans, serves_to, Effect, Fails, Wants, after, Guest, Limits, Override, Path, Served, does_with, env_at, grant, guest_of, is_refused, listed, longer, origin, planned_next, served_next, serves, served_grows, served_same, served_with, Before, Behind, Compared, Equal, compare, later_served, steps_later, taken_later, AreWider, IsLonger, AsksWider, OneRun, ServedWider}
+use Rattle.follow.proofs.Terms.{Bool, List, None, Option, Some, ap, arith, cond, false, inl, inr, leb, not, refl, subst, sym, true, ◌<◌, ◌∙◌, ◌≡◌, ◌⊎◌, leb-false, lt-leb, not-false, is_some, option_map, slice_get, Item, Prefix, Heap, Env, BadAccess, Hang, prefix_same, prefix_trans, repeated_as, repeated_keeps, serves_to, Effect, Fails, Wants, after, Guest, Limits, Override, Path, Served, does_with, env_at, grant, guest_of, is_refused, listed, longer, origin, planned_next, served_next, serves, served_grows, served_same, served_with, Before, Behind, Compared, Equal, compare, later_served, steps_later, taken_later, AreWider, IsLonger, AsksWider, OneRun, ServedWider}
 
 -- what one rule permits, a wider one does
 refused_wider : (limits wider : Limits) (heap : Heap) (range : Option Range) → AreWider limits wider → is_refused limits heap range ≡ false → is_refused wider heap range ≡ false

@@ -3,10 +3,9 @@ use Rattle.std.proofs.lemmas.List.Elements.{filter-append}
 use Rattle.links.specs.declared.journal.Entry.TheVariants as entry
 use Rattle.session_history.proofs.Closing.{received_longer}
 use Rattle.session_history.proofs.Connected.{run_connected}
-use Rattle.session_history.proofs.Growing.{between_wider}
 use Rattle.session_history.proofs.Passing.{all_until, none_until, until_front}
 use Rattle.trials.proofs.Recovered.{timed_from}
-use Rattle.follow.proofs.Terms.{Bool, List, [], ap, append-nil, append_assoc, arith, cond, false, inl, inr, leb, length, refl, subst, sym, take, true, ℕ, ◌++◌, ◌-◌, ◌∙◌, ◌∷◌, ◌≡◌, ◌≤◌, cases_lt, leb-false, take-append-le, Prefix, Send, sent_to, Entry, prefix_sent, prefix_trans, sent_to-append, served_is_run, output, served_grows, journal_of, Bounds, items_in, received, AreBetween, AreInOrder, passed_behind, passed_in, until, count_of, held, held_behind, HeldIsFixed, HeldIsInOrder, HeldIsPassed, PassedIsSent, StampsAreSafe}
+use Rattle.follow.proofs.Terms.{Bool, List, [], ap, append-nil, append_assoc, arith, cond, false, inl, inr, leb, length, refl, subst, sym, take, true, ℕ, ◌++◌, ◌-◌, ◌∙◌, ◌∷◌, ◌≡◌, ◌≤◌, cases_lt, leb-false, take-append-le, Prefix, Send, sent_to, Entry, prefix_sent, prefix_trans, sent_to-append, served_is_run, output, served_grows, between_wider, journal_of, Bounds, items_in, received, AreBetween, AreInOrder, passed_behind, passed_in, until, count_of, held, held_behind, HeldIsFixed, HeldIsInOrder, HeldIsPassed, PassedIsSent, StampsAreSafe}
 use Rattle.follow.proofs.Fronts.{held_is_front, none_behind, part_behind, take_two}
 
 -- what is held of more sends

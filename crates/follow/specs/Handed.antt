@@ -18,8 +18,8 @@ pub record Handed : Type 0 where
   pub choices : List Choice
   pub finish : Option Finish
 
--- It is handed by a session whose survivor stands where it stopped: the episodes of its recoveries, the first of the survivor's answers, and where it stands, if
--- there is a last line; and no client has more than was passed to it.
+-- It is handed by a session whose survivor stands where it stopped: the episodes of its recoveries, the first of the survivor's answers,
+-- and where it stands, if there is a last line; and no client has more than was passed to it.
 pub record IsHandedBy (rules : Rules) (session : Session) (recoveries : List Recovery) (handed : Handed) : Type 0 where
   pub episodes : handed.episodes ≡ map episode_of recoveries
   pub choices : Prefix handed.choices session.survivor.now.choices

@@ -8,3 +8,5 @@ pub mod HeldLaws
 pub mod Handed
 pub mod Takeover
 pub mod ReachLaws
+pub mod Following
+pub mod FollowLaws

@@ -31,8 +31,8 @@ passed_first over = passed_in over.rules.bounds (journal_of over.session)
 abbrev pub plan_in : Takeover → List Override
 plan_in over = plan_of over.handed.episodes
 
--- There is an account of the first host's session, behind these recoveries, and it handed that over; the second host's limits are as wide, and the first host heard
--- the first items.
+-- There is an account of the first host's session, behind these recoveries, and it handed that over; the second host's limits are as wide,
+-- and the first host heard the first items.
 pub record IsTakeover (over : Takeover) : Type 0 where
   pub account : IsAccount over.rules over.image over.session
   pub recovered : AreRecovered over.rules over.image [] (first_survivor over.image) over.session.earlier over.recoveries over.session.survivor

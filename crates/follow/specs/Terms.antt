@@ -5,6 +5,7 @@ pub use Rattle.rx_io.specs.declared.bytes.Item.{Item}
 pub use Rattle.rx_io.specs.Prefix.{Prefix}
 pub use Rattle.rx_io.specs.Sends.{Send, sent_to}
 pub use Rattle.links.specs.declared.journal.Entry.{Entry}
+pub use Rattle.links.specs.declared.journal.LinkEvent.{LinkEvent}
 pub use Rattle.block_book.specs.declared.choice.Choice.{Choice}
 pub use Rattle.block_book.specs.Heap.{Heap}
 pub use Rattle.alloc_env.specs.declared.env.Env.{Env}
@@ -13,6 +14,7 @@ pub use Rattle.elf_image.specs.declared.image.Image.{Image}
 pub use Rattle.run_history.specs.declared.answer.Cause.TheVariants.{BadAccess, Hang}
 pub use Rattle.run_history.specs.Machine.{Effect, Fails, State, Wants}
 pub use Rattle.run_history.specs.Run.{after, output}
+unfoldable pub use Rattle.run_history.specs.Run.{does}
 pub use Rattle.run_history.specs.Served.{AsksFor, FailsBy, Guest, Limits, Override, Path, Served, does_with, env_at, guest_of, is_refused, listed, longer, origin, planned_next}
 unfoldable pub use Rattle.run_history.specs.Served.{grant, served_next, serves}
 pub use Rattle.session_history.specs.Account.{IsAccount, Session, journal_of}

@@ -2,6 +2,7 @@
 ghost use Rattle.follow.specs.Laws.{PlanIsTold, PlanOfReport, GivenUpAddsNothing, RangesAreExact, RangesFall, ServedWider, AsksWider, OneRun};
 ghost use Rattle.follow.specs.HeldLaws.{HeldIsFront, HeldIsInTime, HeldIsInOrder, HeldIsFixed, HeldIsPassed, PassedIsSent, StampsAreSafe};
 ghost use Rattle.follow.specs.ReachLaws.{ReachesInTime, FollowsBefore, NoWaiting, StuckHasReached, AnswersAgree, FinishAgrees, HeldAtRelease};
+ghost use Rattle.follow.specs.FollowLaws.{StaysReached, OneRelease};
 
 /// Behind recoveries the plan of the survivor is told by their episodes, from the plan that it had before them.
 pub fn plan_is_told()
@@ -111,4 +112,14 @@ pub fn finish_agrees()
 /// Where it has reached what was handed over, what clients hold is what the first host passed to them.
 pub fn held_at_release()
     ensures { HeldAtRelease }
+{}
+
+/// A run that has reached it has reached it wherever it stands later.
+pub fn stays_reached()
+    ensures { StaysReached }
+{}
+
+/// With the events of one trunk a second host is released at one place.
+pub fn one_release()
+    ensures { OneRelease }
 {}

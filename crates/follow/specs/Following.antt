@@ -1,0 +1,27 @@
+-- The part of a second host's session in which it follows: up to the first place that has reached what was handed over.
+use Rattle.std.specs.Prelude.{◌≡◌, ◌<◌, List, ◌∷◌, ◌++◌, map}
+use Rattle.links.specs.declared.journal.Entry.TheVariants as entry
+use Rattle.follow.specs.Terms.{Entry, LinkEvent, Image, AsksFor, Path, Served, origin, items_in, received, Rules}
+use Rattle.follow.specs.Plans.{plan_of}
+use Rattle.follow.specs.Handed.{Handed, HasReached, Stand}
+
+-- the journal of a host that gave nothing: events alone
+abbrev pub heard_alone : List LinkEvent → List Entry
+heard_alone events = map (λ (event : LinkEvent). entry.Took event) events
+
+-- with some events a run that follows asked for the item that is received next, and hadn't reached what was handed over
+pub record AsksForMore (rules : Rules) (image : Image) (handed : Handed) (events : List LinkEvent) : Type 0 where
+  pub path : Path
+  pub ran : Served rules.limits (items_in rules.bounds (heard_alone events)) (plan_of handed.episodes) (origin image) path
+  pub asks : AsksFor rules.limits (plan_of handed.episodes) path (received rules.bounds (heard_alone events))
+  pub not_yet : (stand : Stand rules.limits (plan_of handed.episodes) path) → ¬ HasReached rules.limits handed path stand
+
+-- A second host followed, and was released there: its run stands where it has reached what was handed over, and nowhere before it had. Each event was
+-- taken where the run asked for more.
+pub record HasFollowed (rules : Rules) (image : Image) (handed : Handed) (events : List LinkEvent) (released : Path) : Type 0 where
+  pub ran : Served rules.limits (items_in rules.bounds (heard_alone events)) (plan_of handed.episodes) (origin image) released
+  pub stand : Stand rules.limits (plan_of handed.episodes) released
+  pub reached : HasReached rules.limits handed released stand
+  pub first : (path : Path) (there : Stand rules.limits (plan_of handed.episodes) path) → Served rules.limits (items_in rules.bounds (heard_alone events)) (plan_of handed.episodes) (origin image) path → path.steps < released.steps →
+      ¬ HasReached rules.limits handed path there
+  pub asked : (front back : List LinkEvent) (event : LinkEvent) → events ≡ front ++ event ∷ back → AsksForMore rules image handed front
