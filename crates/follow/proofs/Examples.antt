@@ -1,6 +1,6 @@
 -- What the definitions compute at values.
 use Rattle.session_notes.specs.declared.episode.Tried.TheVariants.{Asks, Behind, Contradicts}
-use Rattle.follow.proofs.Terms.{List, [], map, refl, ℕ, ◌∷◌, ◌≡◌, Env, All, Delay, Isolate, Pad, Plain, Zero, Hang, env_at, Episode, plan_of, ranges_of}
+use Rattle.follow.proofs.Terms.{List, [], map, refl, ℕ, ◌++◌, ◌∷◌, ◌≡◌, Send, sent_to, Env, All, Delay, Isolate, Pad, Plain, Zero, Hang, env_at, until, Episode, plan_of, ranges_of, held}
 
 -- an episode at a point, of which the second trial survived: from this checkpoint, in this environment
 abbrev survived : ℕ → Env → ℕ → Episode
@@ -41,3 +41,14 @@ two_ranges = refl
 
 one_range : ranges_of (survived 3 Pad 5 ∷ survived 1 Delay 7 ∷ []) ≡ record { low = 2; until = 11; env = Delay } ∷ []
 one_range = refl
+
+-- A run sent a reply with 2 items taken, and one with 3. The first host passed the first one with 4 items received, and a second host gives the other with
+-- 3: by these stamps the other one would have come alone. So what clients hold stands by the numbers of items at which it was sent.
+abbrev given : List Send
+given = record { conn = 0; bytes = 98 ∷ []; taken = 3 } ∷ []
+
+by_first_stamps : sent_to 0 (until 3 (record { conn = 0; bytes = 97 ∷ []; taken = 4 } ∷ given)) ≡ 98 ∷ []
+by_first_stamps = refl
+
+as_held : sent_to 0 (until 3 (held ((0, 1) ∷ []) (record { conn = 0; bytes = 97 ∷ []; taken = 2 } ∷ given) ++ given)) ≡ 97 ∷ 98 ∷ []
+as_held = refl
