@@ -1,8 +1,9 @@
 pub mod Terms
 pub mod Digits
 pub mod Written
-pub mod Cutting
+pub mod LineLemmas
 pub mod Refusing
+pub mod Finished
 pub mod Same
 pub mod Whole
 pub mod Told

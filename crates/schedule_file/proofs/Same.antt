@@ -1,103 +1,141 @@
 -- A text has one reading at most, and one where no line is refused.
-use Rattle.std.proofs.Common.{◌==◌}
 use Rattle.std.specs.List.{concat}
-use Rattle.schedule_file.proofs.Terms.{Bool, List, None, Option, Some, [], ap, append_assoc, arith, cond, false, option_map, refl, sym, true, ℕ, ◌++◌, ◌+◌, ◌<◌, ◌^◌, ◌∙◌, ◌∷◌, ◌≡◌, ◌≤◌, append-nil, flat_map-append, All-cons, All-head, All-nil, All-tail, same_Some, All, is_some, map, Choice, Framing, End, Head, Line, Recorded, MAX_TAKEN, MAX_WINDOW, VERSION, choice_line, choice_lines, end_line, head_line, line_of, line_text, lines_text, IsAnswer, IsChoice, IsReading, IsRecord, record_of, text_of, lines_of, onto, refused_behind, refused_from, refused_line, refused_lines, refused_under, answer_of, end_of, head_of, is_end, is_head}
-use Rattle.schedule_file.proofs.Cutting.{lines_of-line, is_line-head, is_line-line, is_line-end}
-use Rattle.schedule_file.proofs.Written.{head_of-written, head_of-sound, is_head-from, is_head-facts, answer_of-line, answer_of-sound, is_end-from, is_end-facts, end_of-line, end_of-sound, answer_of-end}
+use Rattle.std.proofs.lemmas.Option.{same_Some}
+use Rattle.schedule_file.proofs.Terms.{Bool, IfSome, List, None, Option, Some, [], ap, append_assoc, arith, cond, false, inl, inr, length, refl, subst, sym, true, ℕ, ◌++◌, ◌+◌, ◌<◌, ◌^◌, ◌∙◌, ◌∷◌, ◌≡◌, ◌≤◌, append-nil, flat_map-append, All-cons, All-head, All-nil, All-tail, All, is_some, map, ◌≢◌, Choice, Framing, AreLines, are_lines, is_line-torn, joined, lines_of-line, IsTorn, is_line, lines_of, Finish, Head, Line, Recorded, MAX_TAKEN, MAX_WINDOW, VERSION, Unfinished, choice_line, choice_lines, end_line, head_line, line_of, line_text, lines_text, IsAnswer, IsChoice, IsReading, IsRecord, record_of, text_of, judged_from, judged_lines, judged_under, refused_behind, refused_line, unfinished_last, unfinished_line, unfinished_with, answer_of, end_of, head_of, IsFinish, IsTornBehind, IsUnfinished, IsUnfinishedReading, finish_text, text_before, unfinished_of}
+use Rattle.schedule_file.proofs.LineLemmas.{is_line-line}
+use Rattle.schedule_file.proofs.Written.{head_of-sound, is_head-facts, answer_of-line, answer_of-sound, is_end-facts, end_of-sound}
+use Rattle.schedule_file.proofs.Refusing.{IsRead, cut_head, last_lines, lines_of-last, missing, read_end, read_head, read_torn, reading-missing, refused_too}
+use Rattle.schedule_file.proofs.Finished.{recorded_with, reads_finished, unfinished_reading}
 
 -- ---- a reader of lines
 
-abbrev rest_by : Option Line → Option End → Option (List Line × End) → Option (List Line × End)
-rest_by (Some line) finish rest = option_map (λ rest. (line ∷ rest.0, rest.1)) rest
-rest_by None finish rest = option_map (λ finish. ([], finish)) finish
+abbrev lines_by : Option Line → List Line → List Line
+lines_by (Some line) rest = line ∷ rest
+lines_by None rest = []
 
-abbrev rest_of : ℕ → List (List ℕ) → Option (List Line × End)
-rest_of version [] = None
-rest_of version (line ∷ lines) = rest_by (answer_of version line) (end_of line) (rest_of version lines)
+abbrev finish_by : Option Line → Option Finish → Option Finish → Option Finish
+finish_by (Some line) last rest = rest
+finish_by None last rest = last
 
-abbrev recorded : Head → List Line → End → Recorded
-recorded head lines finish = record { version = head.version; window = head.window; frame = head.frame; lines = lines; steps = finish.steps; taken = finish.taken }
+-- the answers whose lines stand in front, and what the line behind them is read as
+abbrev lines_read : ℕ → List (List ℕ) → List Line
+lines_read version [] = []
+lines_read version (line ∷ lines) = lines_by (answer_of version line) (lines_read version lines)
 
-abbrev whole_by : Option Head → List (List ℕ) → Option Recorded
-whole_by (Some head) lines = option_map (λ rest. recorded head rest.0 rest.1) (rest_of head.version lines)
-whole_by None lines = None
+abbrev finish_read : ℕ → List (List ℕ) → Option Finish
+finish_read version [] = None
+finish_read version (line ∷ lines) = finish_by (answer_of version line) (end_of line) (finish_read version lines)
 
-abbrev whole_of : List (List ℕ) → Option Recorded
-whole_of [] = None
-whole_of (line ∷ lines) = whole_by (head_of line) lines
+abbrev read_by : Option Head → List (List ℕ) → Option Unfinished
+read_by (Some head) lines = Some (unfinished_with head (lines_read head.version lines) (finish_read head.version lines))
+read_by None lines = None
 
-rest_of-end : (version : ℕ) (finish : End) → is_end finish ≡ true → finish.steps < 2 ^ 63 → finish.taken ≤ MAX_TAKEN → rest_of version (lines_of (end_line finish.steps finish.taken)) ≡ Some ([], finish)
-rest_of-end version finish ok small few =
-    let line : List ℕ = end_line finish.steps finish.taken in
-    let alone : lines_of line ≡ line ∷ [] = ap lines_of (sym (append-nil line)) ∙ lines_of-line line [] (is_line-end finish.steps finish.taken (omega arith) (omega arith)) in
-    ap (rest_of version) alone ∙ rw (answer_of-end version finish.steps finish.taken, end_of-line finish ok) refl
+abbrev read_of : List (List ℕ) → Option Unfinished
+read_of [] = None
+read_of (line ∷ lines) = read_by (head_of line) lines
 
-rest_of-lines : (version : ℕ) (lines : List Line) (finish : End) (text : List ℕ) → All (IsAnswer version) lines → rest_of version (lines_of text) ≡ Some ([], finish) → rest_of version (lines_of (lines_text lines ++ text)) ≡ Some (lines, finish)
-rest_of-lines version [] finish text are h = h
-rest_of-lines version (line ∷ lines) finish text are h =
+-- what is read of some lines
+record AreRead (version : ℕ) (text : List (List ℕ)) (lines : List Line) (finish : Option Finish) : Type 0 where
+  as_lines : lines_read version text ≡ lines
+  as_finish : finish_read version text ≡ finish
+
+read_alone : (version : ℕ) (line : List ℕ) (finish : Option Finish) → IsRead version line finish → AreRead version (line ∷ []) [] finish
+read_alone version line finish is =
+    let none : answer_of version line ≡ None = is.no_answer in
+    record { as_lines = rw none refl; as_finish = rw none is.as_end }
+
+read_last : (version : ℕ) (finish : Option Finish) (torn : List ℕ) → IfSome finish IsFinish → IsTornBehind finish torn → AreRead version (last_lines finish torn) [] finish
+read_last version None [] range is = record { as_lines = refl; as_finish = refl }
+read_last version None (byte ∷ bytes) range is = read_alone version (byte ∷ bytes) None (read_torn version (byte ∷ bytes) is)
+read_last version (Some finish) torn range is = read_alone version (end_line finish.steps finish.taken) (Some finish) (read_end version finish range)
+
+read_more : (version : ℕ) (line : Line) (text : List (List ℕ)) (lines : List Line) (finish : Option Finish) → IsAnswer version line → AreRead version text lines finish → AreRead version (line_text line ∷ text) (line ∷ lines) finish
+read_more version line text lines finish is are =
+    let first : answer_of version (line_text line) ≡ Some line = answer_of-line version line is in
+    record { as_lines = rw first (ap (λ rest. line ∷ rest) are.as_lines); as_finish = rw first are.as_finish }
+
+read_lines : (version : ℕ) (lines : List Line) (finish : Option Finish) (text : List ℕ) → All (IsAnswer version) lines → AreRead version (lines_of text) [] finish → AreRead version (lines_of (lines_text lines ++ text)) lines finish
+read_lines version [] finish text are h = h
+read_lines version (line ∷ lines) finish text are h =
     let behind : List ℕ = lines_text lines ++ text in
     let cut : lines_of ((line_text line ++ lines_text lines) ++ text) ≡ line_text line ∷ lines_of behind
     = ap lines_of (append_assoc (line_text line) (lines_text lines) text) ∙ lines_of-line (line_text line) behind (is_line-line line) in
-    let first : answer_of version (line_text line) ≡ Some line = answer_of-line version line (All-head (IsAnswer version) line lines are) in
-    let more : rest_of version (lines_of behind) ≡ Some (lines, finish) = rest_of-lines version lines finish text (All-tail (IsAnswer version) line lines are) h in
-    ap (rest_of version) cut ∙ rw (first, more) refl
+    let more : AreRead version (lines_of behind) lines finish = read_lines version lines finish text (All-tail (IsAnswer version) line lines are) h in
+    subst (λ (cut : List (List ℕ)). AreRead version cut (line ∷ lines) finish) (sym cut) (read_more version line (lines_of behind) lines finish (All-head (IsAnswer version) line lines are) more)
 
-whole_of-text : (value : Recorded) → IsRecord value → whole_of (lines_of (text_of value)) ≡ Some value
-whole_of-text value is =
+read_same : (head : Head) (a lines : List Line) (b finish : Option Finish) → a ≡ lines → b ≡ finish → Some (unfinished_with head a b) ≡ Some (unfinished_with head lines finish)
+read_same head a lines b finish h k = rw (h, k) refl
+
+read_of-reading : (text : List ℕ) (value : Unfinished) → IsUnfinishedReading text value → read_of (lines_of text) ≡ Some value
+read_of-reading text value reading =
     let head : Head = record { version = value.version; window = value.window; frame = value.frame } in
-    let finish : End = record { steps = value.steps; taken = value.taken } in
-    let version : value.version ≤ VERSION = is.version in
-    let window : value.window ≤ MAX_WINDOW = is.window in
-    let rest : List ℕ = lines_text value.lines ++ end_line value.steps value.taken in
+    let torn : List ℕ = reading.torn in
+    let behind : List ℕ = finish_text value.finish ++ torn in
+    let rest : List ℕ = lines_text value.lines ++ behind in
     let line : List ℕ = head_line value.version value.window value.frame in
-    let cut : lines_of (text_of value) ≡ line ∷ lines_of rest = lines_of-line line rest (is_line-head value.version value.window value.frame (omega arith) (omega arith)) in
-    let ok : is_head head ≡ true = is_head-from head (record { some_version = is.some_version; version = is.version; some_window = is.some_window; window = is.window }) in
-    let first : head_of line ≡ Some head = head_of-written head ok in
-    let more : rest_of value.version (lines_of rest) ≡ Some (value.lines, finish)
-    = rest_of-lines value.version value.lines finish (end_line value.steps value.taken) is.lines (rest_of-end value.version finish (is_end-from finish is.steps is.taken) is.steps is.taken) in
-    ap whole_of cut ∙ rw (first, more) refl
+    let last : AreRead value.version (lines_of behind) [] value.finish
+    = subst (λ (cut : List (List ℕ)). AreRead value.version cut [] value.finish) (sym (lines_of-last value.finish torn reading.is.finish reading.is_torn)) (read_last value.version value.finish torn reading.is.finish reading.is_torn) in
+    let are = read_lines value.version value.lines value.finish behind reading.is.lines last in
+    let first : head_of line ≡ Some head = read_head value reading.is in
+    let step : read_of (line ∷ lines_of rest) ≡ Some (unfinished_with head (lines_read value.version (lines_of rest)) (finish_read value.version (lines_of rest))) = rw first refl in
+    ap (λ bytes. read_of (lines_of bytes)) (sym reading.text_is) ∙ ap read_of (cut_head value rest reading.is) ∙ step
+    ∙ read_same head (lines_read value.version (lines_of rest)) value.lines (finish_read value.version (lines_of rest)) value.finish are.as_lines are.as_finish
+
+pub one_unfinished : (text : List ℕ) (a b : Unfinished) → IsUnfinishedReading text a → IsUnfinishedReading text b → a ≡ b
+one_unfinished text a b is_a is_b = same_Some _ _ (sym (read_of-reading text a is_a) ∙ read_of-reading text b is_b)
+
+-- a record by its reading
+abbrev recorded_by : Recorded → Option Finish → Unfinished → Recorded
+recorded_by other (Some finish) read = record { version = read.version; window = read.window; frame = read.frame; lines = read.lines; steps = finish.steps; taken = finish.taken }
+recorded_by other None read = other
 
 pub one_reading : (a b : Recorded) → IsRecord a → IsRecord b → text_of a ≡ text_of b → a ≡ b
-one_reading a b is_a is_b same = same_Some _ _ (sym (whole_of-text a is_a) ∙ ap (λ text. whole_of (lines_of text)) same ∙ whole_of-text b is_b)
+one_reading a b is_a is_b same =
+    ap (λ (read : Unfinished). recorded_by a read.finish read)
+    (one_unfinished (text_of b) (unfinished_of a) (unfinished_of b) (unfinished_reading (text_of b) a (is_a, same)) (unfinished_reading (text_of b) b (is_b, refl)))
 
 -- ---- a text none of whose lines is refused
-
-joined-onto : (byte : ℕ) (lines : List (List ℕ)) → concat (onto byte lines) ≡ byte ∷ concat lines
-joined-onto byte [] = refl
-joined-onto byte (line ∷ lines) = refl
-
-joined_step : (test : Bool) (byte : ℕ) (bytes : List ℕ) → concat (lines_of bytes) ≡ bytes → concat (cond test ((byte ∷ []) ∷ lines_of bytes) (onto byte (lines_of bytes))) ≡ byte ∷ bytes
-joined_step true byte bytes h = ap (λ rest. byte ∷ rest) h
-joined_step false byte bytes h = joined-onto byte (lines_of bytes) ∙ ap (λ rest. byte ∷ rest) h
-
-joined : (text : List ℕ) → concat (lines_of text) ≡ text
-joined [] = refl
-joined (byte ∷ bytes) = joined_step (byte == 10) byte bytes (joined bytes)
 
 -- what unrefused lines behind the first one say
 record Says (version : ℕ) (text : List ℕ) : Type 0 where
   lines : List Line
-  finish : End
+  finish : Option Finish
+  torn : List ℕ
   are : All (IsAnswer version) lines
-  ok : is_end finish ≡ true
-  text_is : lines_text lines ++ end_line finish.steps finish.taken ≡ text
+  range : IfSome finish IsFinish
+  is_torn : IsTornBehind finish torn
+  text_is : lines_text lines ++ (finish_text finish ++ torn) ≡ text
+
+says_torn : (version : ℕ) (torn : List ℕ) → IsTorn torn → Says version torn
+says_torn version torn is = record { lines = []; finish = None; torn = torn; are = All-nil (IsAnswer version); range = tt; is_torn = is; text_is = refl }
 
 nothing_behind : (number : ℕ) (lines : List (List ℕ)) → refused_behind number lines ≡ None → concat lines ≡ []
 nothing_behind number [] h = refl
 nothing_behind number (line ∷ lines) h = absurd (cc)
 
-says_end : (version number : ℕ) (line : List ℕ) (lines : List (List ℕ)) (finish : Option End) → end_of line ≡ finish → cond (is_some finish) (refused_behind (number + 1) lines) (Some number) ≡ None → Says version (line ++ concat lines)
-says_end version number line lines None e h = absurd (cc)
-says_end version number line lines (Some finish) e h =
+says_end : (version number : ℕ) (line : List ℕ) (lines : List (List ℕ)) (finish : Finish) → end_of line ≡ Some finish → refused_behind (number + 1) lines ≡ None → Says version (line ++ concat lines)
+says_end version number line lines finish e h =
     let parts = end_of-sound line finish e in
-    let nothing : concat lines ≡ [] = nothing_behind (number + 1) lines h in
     record {
       lines = [];
-      finish = finish;
+      finish = Some finish;
+      torn = [];
       are = All-nil (IsAnswer version);
-      ok = parts.0;
-      text_is = parts.1 ∙ sym (append-nil line) ∙ ap (λ rest. line ++ rest) (sym nothing);
+      range = is_end-facts finish parts.0;
+      is_torn = refl;
+      text_is = ap (λ front. front ++ []) parts.1 ∙ ap (λ rest. line ++ rest) (sym (nothing_behind (number + 1) lines h));
     }
+
+-- a line that isn't the last one is torn where it isn't refused, and nothing stands behind it
+says_rest : (version number : ℕ) (line : List ℕ) (lines : List (List ℕ)) (whole : Bool) → is_line line ≡ whole → cond whole (Some number) None ≡ None → AreLines (line ∷ lines) → Says version (line ++ concat lines)
+says_rest version number line lines true e h are = absurd (cc)
+says_rest version number line lines false e h (inl whole) = let both : is_line line ≡ true = whole.0 in absurd (cc)
+says_rest version number line lines false e h (inr torn) =
+    subst (λ (text : List ℕ). Says version text) (sym (append-nil line) ∙ ap (λ rest. line ++ concat rest) (sym torn.1)) (says_torn version line torn.0)
+
+says_last : (version number : ℕ) (line : List ℕ) (lines : List (List ℕ)) (finish : Option Finish) → end_of line ≡ finish → cond (is_some finish) (refused_behind (number + 1) lines) (cond (is_line line) (Some number) None) ≡ None → AreLines (line ∷ lines) → Says version (line ++ concat lines)
+says_last version number line lines (Some finish) e h are = says_end version number line lines finish e h
+says_last version number line lines None e h are = says_rest version number line lines (is_line line) refl h are
 
 says_answer : (version : ℕ) (line text : List ℕ) (answer : Line) → answer_of version line ≡ Some answer → Says version text → Says version (line ++ text)
 says_answer version line text answer e says =
@@ -105,38 +143,70 @@ says_answer version line text answer e says =
     record {
       lines = answer ∷ says.lines;
       finish = says.finish;
+      torn = says.torn;
       are = All-cons (IsAnswer version) answer says.lines parts.0 says.are;
-      ok = says.ok;
-      text_is = append_assoc (line_text answer) (lines_text says.lines) (end_line says.finish.steps says.finish.taken) ∙ ap (λ rest. line_text answer ++ rest) says.text_is ∙ ap (λ front. front ++ text) parts.1;
+      range = says.range;
+      is_torn = says.is_torn;
+      text_is = append_assoc (line_text answer) (lines_text says.lines) (finish_text says.finish ++ says.torn) ∙ ap (λ rest. line_text answer ++ rest) says.text_is ∙ ap (λ front. front ++ text) parts.1;
     }
 
+-- behind the line of an answer the other lines are lines
+behind_answer : (version : ℕ) (line : List ℕ) (lines : List (List ℕ)) (answer : Line) → answer_of version line ≡ Some answer → AreLines (line ∷ lines) → AreLines lines
+behind_answer version line lines answer e (inl whole) = whole.1
+behind_answer version line lines answer e (inr torn) =
+    let is : is_line line ≡ true = ap is_line (sym (answer_of-sound version line answer e).1) ∙ is_line-line answer in
+    let other : is_line line ≡ false = is_line-torn line torn.0 in
+    absurd (cc)
+
 says_line : (version number : ℕ) (line : List ℕ) (lines : List (List ℕ)) (answer : Option Line) → answer_of version line ≡ answer →
-    cond (is_some answer) (refused_from version (number + 1) lines) (cond (is_some (end_of line)) (refused_behind (number + 1) lines) (Some number)) ≡ None →
-    (refused_from version (number + 1) lines ≡ None → Says version (concat lines)) → Says version (line ++ concat lines)
-says_line version number line lines None e h more = says_end version number line lines (end_of line) refl h
-says_line version number line lines (Some answer) e h more = says_answer version line (concat lines) answer e (more h)
+    cond (is_some answer) (judged_from unfinished_last version (number + 1) lines) (unfinished_last number (line ∷ lines)) ≡ None → AreLines (line ∷ lines) →
+    (judged_from unfinished_last version (number + 1) lines ≡ None → AreLines lines → Says version (concat lines)) → Says version (line ++ concat lines)
+says_line version number line lines None e h are more = says_last version number line lines (end_of line) refl h are
+says_line version number line lines (Some answer) e h are more = says_answer version line (concat lines) answer e (more h (behind_answer version line lines answer e are))
 
-says : (version number : ℕ) (lines : List (List ℕ)) → refused_from version number lines ≡ None → Says version (concat lines)
-says version number [] h = absurd (cc)
-says version number (line ∷ lines) h = says_line version number line lines (answer_of version line) refl h (says version (number + 1) lines)
+says : (version number : ℕ) (lines : List (List ℕ)) → judged_from unfinished_last version number lines ≡ None → AreLines lines → Says version (concat lines)
+says version number [] h are = says_torn version [] (All-nil (λ (byte : ℕ). byte ≢ 10))
+says version number (line ∷ lines) h are = says_line version number line lines (answer_of version line) refl h are (says version (number + 1) lines)
 
-read_head : (line : List ℕ) (lines : List (List ℕ)) (head : Option Head) → head_of line ≡ head → refused_under head lines ≡ None → (value : Recorded) × IsReading (line ++ concat lines) value
-read_head line lines None e h = absurd (cc)
-read_head line lines (Some head) e h =
+whole_head : (line : List ℕ) (lines : List (List ℕ)) (head : Head) → head_of line ≡ Some head → AreLines (line ∷ lines) → AreLines lines
+whole_head line lines head e (inl whole) = whole.1
+whole_head line lines head e (inr torn) = subst (λ (rest : List (List ℕ)). AreLines rest) (sym torn.1) tt
+
+read_first : (line : List ℕ) (lines : List (List ℕ)) (head : Option Head) → head_of line ≡ head → judged_under unfinished_last head lines ≡ None → AreLines (line ∷ lines) → (value : Unfinished) × IsUnfinishedReading (line ++ concat lines) value
+read_first line lines None e h are = absurd (cc)
+read_first line lines (Some head) e h are =
     let parts = head_of-sound line head e in
-    let rest = says head.version 2 lines h in
+    let rest = says head.version 2 lines h (whole_head line lines head e are) in
     let range = is_head-facts head parts.0 in
-    let limits = is_end-facts rest.finish rest.ok in
-    let value : Recorded = recorded head rest.lines rest.finish in
-    let is : IsRecord value = record { some_version = range.some_version; version = range.version; some_window = range.some_window; window = range.window; lines = rest.are; steps = limits.0; taken = limits.1 } in
-    (value, (is, ap (λ behind. head_line head.version head.window head.frame ++ behind) rest.text_is ∙ ap (λ front. front ++ concat lines) parts.1))
+    let value : Unfinished = unfinished_with head rest.lines rest.finish in
+    let is : IsUnfinished value = record { some_version = range.some_version; version = range.version; some_window = range.some_window; window = range.window; lines = rest.are; finish = rest.range } in
+    let text_is : text_before value rest.torn ≡ line ++ concat lines = ap (λ behind. head_line head.version head.window head.frame ++ behind) rest.text_is ∙ ap (λ front. front ++ concat lines) parts.1 in
+    (value, record { is = is; torn = rest.torn; is_torn = rest.is_torn; text_is = text_is })
 
-read_lines : (lines : List (List ℕ)) → refused_lines lines ≡ None → (value : Recorded) × IsReading (concat lines) value
-read_lines [] h = absurd (cc)
-read_lines (line ∷ lines) h = read_head line lines (head_of line) refl h
+read_all : (lines : List (List ℕ)) → judged_lines unfinished_last lines ≡ None → AreLines lines → (value : Unfinished) × IsUnfinishedReading (concat lines) value
+read_all [] h are = absurd (cc)
+read_all (line ∷ lines) h are = read_first line lines (head_of line) refl h are
+
+pub unfinished-unless : (text : List ℕ) → unfinished_line text ≡ None → (value : Unfinished) × IsUnfinishedReading text value
+unfinished-unless text h =
+    let found = read_all (lines_of text) h (are_lines text) in
+    (found.0, subst (λ (bytes : List ℕ). IsUnfinishedReading bytes found.0) (joined text) found.1)
+
+-- a text that is refused nowhere as a record's isn't refused without a last line either
+fewer : (text : List ℕ) (found : Option ℕ) → unfinished_line text ≡ found → refused_line text ≡ None → found ≡ None
+fewer text None e h = refl
+fewer text (Some line) e h = let too : refused_line text ≡ Some line = refused_too text line e in absurd (cc)
+
+by_finish : (text : List ℕ) (read : Unfinished) (finish : Option Finish) → read.finish ≡ finish → IsUnfinishedReading text read → refused_line text ≡ None → (value : Recorded) × IsReading text value
+by_finish text read None e reading h =
+    let short : refused_line text ≡ Some (2 + length read.lines) = reading-missing text read reading ∙ ap (λ (o : Option Finish). missing o (2 + length read.lines)) e in
+    absurd (cc)
+by_finish text read (Some finish) e reading h = (recorded_with read finish, reads_finished text read finish reading e)
 
 pub unrefused : (text : List ℕ) → refused_line text ≡ None → (value : Recorded) × IsReading text value
-unrefused text h = let found = read_lines (lines_of text) h in (found.0, (found.1.0, found.1.1 ∙ joined text))
+unrefused text h =
+    let found = unfinished-unless text (fewer text (unfinished_line text) refl h) in
+    by_finish text found.0 found.0.finish refl found.1 h
 
 -- ---- a text in pieces
 

@@ -1,14 +1,6 @@
 -- What the code tells of a first line and of a last line.
-use Rattle.schedule_file.proofs.Terms.{Bool, List, None, Some, ap, arith, cond, drop, false, refl, sym, true, ℕ, ◌&&◌, ◌-◌, ◌<◌, ◌^◌, ◌∙◌, ◌≡◌, ◌≤◌, nat_tests, bytes_eq, nat_le, nat_lt, Framing, Line, MAX_TAKEN, MAX_WINDOW, VERSION, end_line, head_line, line_text, answer_of, behind_digits, clipped, end_of, end_told, frame_told, head_of, head_told, if_written, is_answer, is_end, is_head, line_told, number_from, window_part, written_end, written_head}
+use Rattle.schedule_file.proofs.Terms.{Bool, List, None, Some, ap, arith, cond, drop, false, refl, sym, true, ℕ, ◌&&◌, ◌-◌, ◌<◌, ◌^◌, ◌∙◌, ◌≡◌, ◌≤◌, nat_tests, bytes_eq, nat_le, nat_lt, Framing, by_same, not_in_range, behind_digits, clipped, first_number, number_from, second_number, Line, MAX_TAKEN, MAX_WINDOW, VERSION, end_line, head_line, line_text, answer_of, end_of, end_told, frame_told, head_of, head_told, is_answer, is_end, is_head, line_told, window_part, written_end, written_head}
 use Rattle.schedule_file.proofs.Written.{head_with, head_same, end_with, end_same}
-
--- ---- any form
-
-not_in_range : {Value : Type 0} (test : Value → Bool) (write : Value → List ℕ) (told : Value) (line : List ℕ) → test told ≡ false → None ≡ if_written test write told line
-not_in_range test write told line h = rw h refl
-
-by_same : {Value : Type 0} (test : Value → Bool) (write : Value → List ℕ) (told value : Value) (line : List ℕ) (same : Bool) → told ≡ value → test value ≡ true → bytes_eq (write value) line ≡ same → if_written test write told line ≡ cond same (Some value) None
-by_same test write told value line same is ok h = rw is (rw (ok, h) refl)
 
 -- ---- the first line
 
@@ -75,24 +67,22 @@ steps_whole steps taken h =
     let small : clipped taken ≤ MAX_TAKEN = grind (arith, nat_tests) in
     (omega arith, omega arith)
 
-pub no_end : (line rest : List ℕ) (steps taken : ℕ) → steps ≡ clipped (number_from 0 (drop 4 line)) → rest ≡ behind_digits (drop 4 line) → taken ≡ clipped (number_from 0 (drop 1 rest)) → (nat_lt steps (2 ^ 63) && nat_le taken MAX_TAKEN) ≡ false → None ≡ end_of line
+pub no_end : (line : List ℕ) (steps taken : ℕ) → steps ≡ clipped (first_number (drop 4 line)) → taken ≡ clipped (second_number (drop 4 line)) → (nat_lt steps (2 ^ 63) && nat_le taken MAX_TAKEN) ≡ false → None ≡ end_of line
 unfolding end_of
-no_end line rest steps taken steps_is rest_is taken_is h =
-    let whole : ℕ = number_from 0 (drop 4 line) in
-    let items : ℕ = number_from 0 (drop 1 (behind_digits (drop 4 line))) in
-    let taken_told : taken ≡ clipped items = taken_is ∙ ap (λ bytes. clipped (number_from 0 (drop 1 bytes))) rest_is in
+no_end line steps taken steps_is taken_is h =
+    let whole : ℕ = first_number (drop 4 line) in
+    let items : ℕ = second_number (drop 4 line) in
     not_in_range is_end written_end (end_told line) line
-    (sym (end_test whole items) ∙ ap (λ n. nat_lt n (2 ^ 63) && nat_le (clipped items) MAX_TAKEN) (sym steps_is) ∙ ap (λ n. nat_lt steps (2 ^ 63) && nat_le n MAX_TAKEN) (sym taken_told) ∙ h)
+    (sym (end_test whole items) ∙ ap (λ n. nat_lt n (2 ^ 63) && nat_le (clipped items) MAX_TAKEN) (sym steps_is) ∙ ap (λ n. nat_lt steps (2 ^ 63) && nat_le n MAX_TAKEN) (sym taken_is) ∙ h)
 
-pub end_by : (line rest : List ℕ) (steps taken : ℕ) (same : Bool) → steps ≡ clipped (number_from 0 (drop 4 line)) → rest ≡ behind_digits (drop 4 line) → taken ≡ clipped (number_from 0 (drop 1 rest)) → (nat_lt steps (2 ^ 63) && nat_le taken MAX_TAKEN) ≡ true → bytes_eq (end_line steps taken) line ≡ same → end_of line ≡ cond same (Some (end_with steps taken)) None
+pub end_by : (line : List ℕ) (steps taken : ℕ) (same : Bool) → steps ≡ clipped (first_number (drop 4 line)) → taken ≡ clipped (second_number (drop 4 line)) → (nat_lt steps (2 ^ 63) && nat_le taken MAX_TAKEN) ≡ true → bytes_eq (end_line steps taken) line ≡ same → end_of line ≡ cond same (Some (end_with steps taken)) None
 unfolding end_of
-end_by line rest steps taken same steps_is rest_is taken_is ok h =
-    let whole : ℕ = number_from 0 (drop 4 line) in
-    let items : ℕ = number_from 0 (drop 1 (behind_digits (drop 4 line))) in
-    let taken_told : taken ≡ clipped items = taken_is ∙ ap (λ bytes. clipped (number_from 0 (drop 1 bytes))) rest_is in
+end_by line steps taken same steps_is taken_is ok h =
+    let whole : ℕ = first_number (drop 4 line) in
+    let items : ℕ = second_number (drop 4 line) in
     let in_range : (nat_lt (clipped whole) (2 ^ 63) && nat_le (clipped items) MAX_TAKEN) ≡ true
-    = ap (λ n. nat_lt n (2 ^ 63) && nat_le (clipped items) MAX_TAKEN) (sym steps_is) ∙ ap (λ n. nat_lt steps (2 ^ 63) && nat_le n MAX_TAKEN) (sym taken_told) ∙ ok in
+    = ap (λ n. nat_lt n (2 ^ 63) && nat_le (clipped items) MAX_TAKEN) (sym steps_is) ∙ ap (λ n. nat_lt steps (2 ^ 63) && nat_le n MAX_TAKEN) (sym taken_is) ∙ ok in
     let both = steps_whole whole items in_range in
     by_same is_end written_end (end_told line) (end_with steps taken) line same
-    (end_same (end_with steps taken) whole items (sym (steps_is ∙ both.0)) (sym (taken_told ∙ both.1)))
+    (end_same (end_with steps taken) whole items (sym (steps_is ∙ both.0)) (sym (taken_is ∙ both.1)))
     ok h

@@ -1,23 +1,9 @@
 -- A line is read as the value that it was written of, and as no other.
-use Rattle.std.proofs.lemmas.Slice.Eq.{bytes_eq-Decides}
+use Rattle.std.proofs.lemmas.Bool.{and_parts}
 use Rattle.msg_frame.specs.declared.framing.Framing.TheVariants as framing
-use Rattle.schedule_file.proofs.Terms.{Bool, List, None, Option, Some, [], ap, arith, cond, drop, false, refl, sym, true, ℕ, ◌&&◌, ◌++◌, ◌<◌, ◌^◌, ◌∙◌, ◌∷◌, ◌≡◌, ◌≤◌, and_parts, nat_tests, same_Some, decimal, bytes_eq, nat_le, nat_lt, slice_index, ◌==◌, Ask, Calloc, Malloc, Realloc, Framing, End, Head, Line, MAX_TAKEN, MAX_WINDOW, VERSION, arguments, eight_digits, end_line, frame_name, head_line, letter, line_text, mark, IsAnswer, IsAsk, IsAskOf, WasCalloc, answer_of, ask_told, asked_told, behind_digits, end_of, end_told, frame_told, head_of, head_told, hex_at, if_written, is_answer, is_ask, is_ask_of, is_end, is_head, is_marked, line_told, number_from, was_calloc, written_end, written_head}
-use Rattle.schedule_file.proofs.Digits.{number-decimal, behind-decimal, hex-front}
-
--- ---- any form
-
-by_test : {Value : Type 0} (test same : Bool) (told value : Value) → cond (test && same) (Some told) None ≡ Some value → (test ≡ true) × (same ≡ true) × (told ≡ value)
-by_test true true told value h = (refl, refl, same_Some _ _ h)
-by_test true false told value h = absurd (cc)
-by_test false same told value h = absurd (cc)
-
-pub written_sound : {Value : Type 0} (test : Value → Bool) (write : Value → List ℕ) (told : Value) (line : List ℕ) (value : Value) → if_written test write told line ≡ Some value → (test value ≡ true) × (write value ≡ line)
-written_sound test write told line value h =
-    let parts = by_test (test told) (bytes_eq (write told) line) told value h in
-    (rw (sym parts.2) parts.0, rw (sym parts.2) ((bytes_eq-Decides (write told) line).0 parts.1))
-
-pub written_complete : {Value : Type 0} (test : Value → Bool) (write : Value → List ℕ) (told value : Value) → test value ≡ true → told ≡ value → if_written test write told (write value) ≡ Some value
-written_complete test write told value ok same = rw same (rw (ok, (bytes_eq-Decides (write value) (write value)).1 refl) refl)
+use Rattle.text_lines.proofs.Digits.{number-decimal, behind-decimal, two-decimals}
+use Rattle.schedule_file.proofs.Terms.{Bool, List, None, Option, Some, [], ap, arith, drop, false, refl, true, ℕ, ◌&&◌, ◌++◌, ◌<◌, ◌^◌, ◌∙◌, ◌∷◌, ◌≡◌, ◌≤◌, nat_tests, decimal, nat_le, nat_lt, slice_index, ◌==◌, Ask, Calloc, Malloc, Realloc, Framing, by_option, written_complete, written_sound, behind_digits, first_number, number_from, second_number, Finish, Head, Line, MAX_TAKEN, MAX_WINDOW, VERSION, arguments, eight_digits, end_line, frame_name, head_line, letter, line_text, mark, IsAnswer, IsAsk, IsAskOf, WasCalloc, answer_of, ask_told, asked_told, end_of, end_told, frame_told, head_of, head_told, hex_at, is_answer, is_ask, is_ask_of, is_end, is_head, is_marked, line_told, was_calloc, written_end, written_head}
+use Rattle.schedule_file.proofs.Digits.{hex-front}
 
 -- ---- the first line
 
@@ -199,27 +185,20 @@ answer_of-sound version line answer h =
     let parts = written_sound (is_answer version) line_text (line_told version line) line answer h in
     (is_answer-facts version answer parts.0, parts.1)
 
-by_option : {Value : Type 0} (o : Option Value) → ((value : Value) → o ≡ Some value → ⊥) → o ≡ None
-by_option None h = refl
-by_option (Some value) h = absurd (h value refl)
-
 -- ---- the last line
 
-abbrev pub end_with : ℕ → ℕ → End
+abbrev pub end_with : ℕ → ℕ → Finish
 end_with steps taken = record { steps = steps; taken = taken }
 
-pub end_same : (finish : End) (steps taken : ℕ) → steps ≡ finish.steps → taken ≡ finish.taken → end_with steps taken ≡ finish
+pub end_same : (finish : Finish) (steps taken : ℕ) → steps ≡ finish.steps → taken ≡ finish.taken → end_with steps taken ≡ finish
 end_same finish steps taken h k = rw (h, k) refl
 
-pub end_told-line : (finish : End) → finish.steps < 2 ^ 64 → finish.taken < 2 ^ 64 → end_told (end_line finish.steps finish.taken) ≡ finish
+pub end_told-line : (finish : Finish) → finish.steps < 2 ^ 64 → finish.taken < 2 ^ 64 → end_told (end_line finish.steps finish.taken) ≡ finish
 unfolding end_line
 end_told-line finish small few =
-    let behind : List ℕ = decimal finish.taken ++ 10 ∷ [] in
-    let rest : List ℕ = behind_digits (decimal finish.steps ++ 32 ∷ behind) in
-    let rest_is : rest ≡ 32 ∷ behind = behind-decimal finish.steps 32 behind small refl in
-    end_same finish (number_from 0 (decimal finish.steps ++ 32 ∷ behind)) (number_from 0 (drop 1 rest))
-    (number-decimal finish.steps 32 behind small refl)
-    (ap (λ bytes. number_from 0 (drop 1 bytes)) rest_is ∙ number-decimal finish.taken 10 [] few refl)
+    let bytes : List ℕ = decimal finish.steps ++ 32 ∷ (decimal finish.taken ++ 10 ∷ []) in
+    let told = two-decimals finish.steps finish.taken 32 10 [] small few refl refl in
+    end_same finish (first_number bytes) (second_number bytes) told.0 told.1
 
 end_small : (steps taken : ℕ) → (nat_lt steps (2 ^ 63) && nat_le taken MAX_TAKEN) ≡ true → (steps < 2 ^ 63) × (taken ≤ MAX_TAKEN)
 end_small steps taken h = (grind (arith, nat_tests), grind (arith, nat_tests))
@@ -227,19 +206,19 @@ end_small steps taken h = (grind (arith, nat_tests), grind (arith, nat_tests))
 end_test : (steps taken : ℕ) → steps < 2 ^ 63 → taken ≤ MAX_TAKEN → (nat_lt steps (2 ^ 63) && nat_le taken MAX_TAKEN) ≡ true
 end_test steps taken h k = grind (arith, nat_tests)
 
-pub is_end-from : (finish : End) → finish.steps < 2 ^ 63 → finish.taken ≤ MAX_TAKEN → is_end finish ≡ true
+pub is_end-from : (finish : Finish) → finish.steps < 2 ^ 63 → finish.taken ≤ MAX_TAKEN → is_end finish ≡ true
 is_end-from finish h k = end_test finish.steps finish.taken h k
 
-pub is_end-facts : (finish : End) → is_end finish ≡ true → (finish.steps < 2 ^ 63) × (finish.taken ≤ MAX_TAKEN)
+pub is_end-facts : (finish : Finish) → is_end finish ≡ true → (finish.steps < 2 ^ 63) × (finish.taken ≤ MAX_TAKEN)
 is_end-facts finish h = end_small finish.steps finish.taken h
 
-pub end_of-line : (finish : End) → is_end finish ≡ true → end_of (end_line finish.steps finish.taken) ≡ Some finish
+pub end_of-line : (finish : Finish) → is_end finish ≡ true → end_of (end_line finish.steps finish.taken) ≡ Some finish
 unfolding end_of
 end_of-line finish ok =
     let facts = is_end-facts finish ok in
     written_complete is_end written_end (end_told (end_line finish.steps finish.taken)) finish ok (end_told-line finish (omega (arith, facts.0)) (omega (arith, facts.1)))
 
-pub end_of-sound : (line : List ℕ) (finish : End) → end_of line ≡ Some finish → (is_end finish ≡ true) × (end_line finish.steps finish.taken ≡ line)
+pub end_of-sound : (line : List ℕ) (finish : Finish) → end_of line ≡ Some finish → (is_end finish ≡ true) × (end_line finish.steps finish.taken ≡ line)
 unfolding end_of
 end_of-sound line finish h = written_sound is_end written_end (end_told line) line finish h
 

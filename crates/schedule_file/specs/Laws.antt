@@ -1,10 +1,11 @@
 -- What holds of every record and its text.
 use Rattle.std.specs.Prelude.{◌≡◌, ℕ, ◌^◌, ◌<◌, ◌≤◌, true, None, Some, List, ◌++◌, All}
-use Rattle.schedule_file.specs.Terms.{Choice, Framing, End, Head, Line, Recorded, MAX_TAKEN, MAX_WINDOW, VERSION}
+use Rattle.schedule_file.specs.Terms.{Choice, Framing, Finish, Head, Line, Recorded, MAX_TAKEN, MAX_WINDOW, VERSION, Unfinished}
 use Rattle.schedule_file.specs.Lines.{head_line, line_text, end_line, choice_lines}
 use Rattle.schedule_file.specs.Records.{IsAnswer, IsChoice, IsRecord, IsReading, text_of, record_of}
 use Rattle.schedule_file.specs.Telling.{is_head, head_of, answer_of, is_end, end_of}
-use Rattle.schedule_file.specs.Refusals.{is_line, refused_line}
+use Rattle.schedule_file.specs.Refusals.{is_line, refused_line, unfinished_line}
+use Rattle.schedule_file.specs.Unfinished.{IsUnfinishedReading, unfinished_of}
 
 -- two records with the same text are the same
 abbrev pub OneReading : Type 0
@@ -44,5 +45,27 @@ ReadAsWritten =
     × ((head : Head) → is_head head ≡ true → head_of (head_line head.version head.window head.frame) ≡ Some head)
     × ((version : ℕ) (line : List ℕ) (answer : Line) → answer_of version line ≡ Some answer → IsAnswer version answer × (line_text answer ≡ line))
     × ((version : ℕ) (answer : Line) → IsAnswer version answer → answer_of version (line_text answer) ≡ Some answer)
-    × ((line : List ℕ) (finish : End) → end_of line ≡ Some finish → (is_end finish ≡ true) × (end_line finish.steps finish.taken ≡ line))
-    × ((finish : End) → is_end finish ≡ true → end_of (end_line finish.steps finish.taken) ≡ Some finish)
+    × ((line : List ℕ) (finish : Finish) → end_of line ≡ Some finish → (is_end finish ≡ true) × (end_line finish.steps finish.taken ≡ line))
+    × ((finish : Finish) → is_end finish ≡ true → end_of (end_line finish.steps finish.taken) ≡ Some finish)
+
+-- ---- of a record that may lack its last line
+
+-- two readings of one text are the same
+abbrev pub OneUnfinished : Type 0
+OneUnfinished = (text : List ℕ) (a b : Unfinished) → IsUnfinishedReading text a → IsUnfinishedReading text b → a ≡ b
+
+-- a text has a reading exactly where no line of it is refused
+abbrev pub UnfinishedUnlessRefused : Type 0
+UnfinishedUnlessRefused =
+    (text : List ℕ) →
+    ((value : Unfinished) → IsUnfinishedReading text value → unfinished_line text ≡ None)
+    × (unfinished_line text ≡ None → (value : Unfinished) × IsUnfinishedReading text value)
+
+-- a text is a record's exactly where its reading has a last line, and then it has the record's values
+abbrev pub FinishedIsRecord : Type 0
+FinishedIsRecord =
+    (text : List ℕ) (value : Recorded) → (IsReading text value → IsUnfinishedReading text (unfinished_of value)) × (IsUnfinishedReading text (unfinished_of value) → IsReading text value)
+
+-- at which line a text is refused that may lack its last line, there it is refused as a record's too
+abbrev pub RefusedAsRecord : Type 0
+RefusedAsRecord = (text : List ℕ) (line : ℕ) → unfinished_line text ≡ Some line → refused_line text ≡ Some line

@@ -6,3 +6,4 @@ pub mod Records
 pub mod Refusals
 pub mod Steps
 pub mod Telling
+pub mod Unfinished

@@ -1,25 +1,11 @@
 -- What the parts of the code answer. Nothing here is promised to callers of the crate.
-use Rattle.std.specs.Prelude.{◌≡◌, ℕ, List, [], ◌∷◌, ◌++◌, All, Option, None, Result, Ok, Err, if◌then◌else◌, ◌==◌}
-use Rattle.schedule_file.specs.Terms.{AllocError, Line}
+use Rattle.std.specs.Prelude.{◌≡◌, ℕ, List, ◌++◌, All, Option, None}
+use Rattle.schedule_file.specs.Terms.{first_line, Finish, Head, Line, Unfinished}
 use Rattle.schedule_file.specs.declared.writing.LineBytes.{LineBytes}
 use Rattle.schedule_file.specs.declared.writing.LineBytes.TheVariants.{Alone, One, Two}
 use Rattle.schedule_file.specs.Lines.{lines_text}
 use Rattle.schedule_file.specs.Records.{IsAnswer}
 use Rattle.schedule_file.specs.Telling.{answer_of}
-
--- the first line of a text, with its line feed, and what stands behind it
-abbrev pub first_line : List ℕ → List ℕ
-first_line [] = []
-first_line (byte ∷ bytes) = if byte == 10 then byte ∷ [] else byte ∷ first_line bytes
-
-abbrev pub behind_line : List ℕ → List ℕ
-behind_line [] = []
-behind_line (byte ∷ bytes) = if byte == 10 then bytes else behind_line bytes
-
--- a value is what a line is read as, or memory ran out
-abbrev pub Tells : {Value : Type 0} → Option Value → Result (Option Value) AllocError → Type 0
-Tells told (Ok value) = value ≡ told
-Tells told (Err error) = Unit {0}
 
 -- the bytes of a line, by how many arguments it has
 abbrev pub bytes_of : LineBytes → List ℕ
@@ -36,3 +22,6 @@ pub record IsBehind (version : ℕ) (text : List ℕ) (lines : List Line) (rest 
 pub record AreAllLines (version : ℕ) (text : List ℕ) (lines : List Line) (rest : List ℕ) : Type 0 where
   pub behind : IsBehind version text lines rest
   pub no_more : answer_of version (first_line rest) ≡ None
+
+abbrev pub unfinished_with : Head → List Line → Option Finish → Unfinished
+unfinished_with head lines finish = record { version = head.version; window = head.window; frame = head.frame; lines = lines; finish = finish }

@@ -1,23 +1,10 @@
 -- What a line is read as. A line tells some values by its places, whatever stands there; it is of its form exactly where they are
 -- in their ranges and it is what is written of them.
-use Rattle.std.specs.Prelude.{ℕ, ◌+◌, ◌-◌, ◌*◌, ◌^◌, min, Bool, false, not, ◌&&◌, ◌||◌, List, [], ◌∷◌, length, take, drop, Option, Some, None, bytes_eq, slice_index, nat_le, nat_lt, if◌then◌else◌, ◌==◌}
+use Rattle.std.specs.Prelude.{ℕ, ◌+◌, ◌-◌, ◌*◌, ◌^◌, Bool, false, not, ◌&&◌, ◌||◌, List, [], ◌∷◌, length, take, drop, Option, Some, None, slice_index, nat_le, nat_lt, if◌then◌else◌, ◌==◌}
 use Rattle.msg_frame.specs.declared.framing.Framing.TheVariants as framing
-use Rattle.schedule_file.specs.Terms.{is_ascii_digit, Ask, Calloc, Malloc, Realloc, is_calloc, Framing, End, Head, Line, MAX_TAKEN, MAX_WINDOW, VERSION}
+use Rattle.text_lines.specs.Written.{if_written}
+use Rattle.schedule_file.specs.Terms.{Ask, Calloc, Malloc, Realloc, is_calloc, Framing, behind_digits, first_number, number_from, second_number, Finish, Head, Line, MAX_TAKEN, MAX_WINDOW, VERSION}
 use Rattle.schedule_file.specs.Lines.{head_line, line_text, end_line}
-
--- the number of the decimal digits in front of some bytes, which stand behind others of this number
-abbrev pub number_from : ℕ → List ℕ → ℕ
-number_from number [] = number
-number_from number (byte ∷ bytes) = if is_ascii_digit byte then number_from (10 * number + (byte - 48)) bytes else number
-
--- what stands behind the decimal digits in front
-abbrev pub behind_digits : List ℕ → List ℕ
-behind_digits [] = []
-behind_digits (byte ∷ bytes) = if is_ascii_digit byte then behind_digits bytes else byte ∷ bytes
-
--- a number as far as it is told: those above the largest of their type are in no range
-abbrev pub clipped : ℕ → ℕ
-clipped n = min n (2 ^ 64 - 1)
 
 -- the number that a lower-case hexadecimal digit stands for
 abbrev pub hex_value : ℕ → ℕ
@@ -30,10 +17,6 @@ hex_value byte =
 abbrev pub hex_from : ℕ → List ℕ → ℕ
 hex_from number [] = number
 hex_from number (digit ∷ digits) = hex_from (16 * number + hex_value digit) digits
-
--- the value that a line tells, if that is in range and the line is what is written of it
-abbrev pub if_written : {Value : Type 0} → (Value → Bool) → (Value → List ℕ) → Value → List ℕ → Option Value
-if_written in_range write told line = if in_range told && bytes_eq (write told) line then Some told else None
 
 -- ---- the first line
 
@@ -102,14 +85,14 @@ answer_of version line = if_written (is_answer version) line_text (line_told ver
 
 -- ---- the last line
 
-abbrev pub end_told : List ℕ → End
-end_told line = record { steps = number_from 0 (drop 4 line); taken = number_from 0 (drop 1 (behind_digits (drop 4 line))) }
+abbrev pub end_told : List ℕ → Finish
+end_told line = record { steps = first_number (drop 4 line); taken = second_number (drop 4 line) }
 
-abbrev pub is_end : End → Bool
+abbrev pub is_end : Finish → Bool
 is_end finish = nat_lt finish.steps (2 ^ 63) && nat_le finish.taken MAX_TAKEN
 
-abbrev pub written_end : End → List ℕ
+abbrev pub written_end : Finish → List ℕ
 written_end finish = end_line finish.steps finish.taken
 
-unfoldable pub end_of : List ℕ → Option End
+unfoldable pub end_of : List ℕ → Option Finish
 end_of line = if_written is_end written_end (end_told line) line

@@ -1,7 +1,7 @@
-// Digits of numbers, written and read.
+// Hexadecimal digits, written and read.
 ghost use Rattle.std.specs.Prelude.{◌≡◌, ◌≤◌, ◌<◌};
 ghost use Rattle.schedule_file.specs.Lines.{hex_digit, eight_digits};
-ghost use Rattle.schedule_file.specs.Telling.{hex_value, number_from, behind_digits, clipped};
+ghost use Rattle.schedule_file.specs.Telling.{hex_value};
 
 // The lower-case hexadecimal digit of a number.
 pub(crate) fn hex_digit(number: u32) -> u8
@@ -48,23 +48,4 @@ pub(crate) fn hex_value(byte: u8) -> u32
         b'a'..=b'f' => u32::from(byte - b'a') + 10,
         _ => 0,
     }
-}
-
-// The number of the decimal digits in front, or the largest of its type where it is above that, and the bytes behind them.
-pub(crate) fn number_in_front(bytes: &[u8]) -> (u64, &[u8])
-    ensures number { result.0 ≡ clipped (number_from 0 bytes.now) }
-    ensures rest { result.1.now ≡ behind_digits bytes.now }
-{
-    let mut number: u64 = 0;
-    let mut rest = bytes;
-    'digits: while let [byte, behind @ ..] = rest {
-        if !byte.is_ascii_digit() {
-            return (number, rest);
-        }
-        number = number
-            .saturating_mul(10)
-            .saturating_add(u64::from(*byte - b'0'));
-        rest = behind;
-    }
-    (number, rest)
 }

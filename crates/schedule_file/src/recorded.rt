@@ -66,6 +66,24 @@ pub struct Recorded {
     pub taken: u64,
 }
 
+/// What the last line of a record says: how many instructions were executed, and how many items were taken.
+#[derive(Clone, Copy, Debug, PartialEq, Eq)]
+pub struct Finish {
+    pub steps: u64,
+    pub taken: u64,
+}
+
+/// What a record says of a session that may have been killed: its version, its window in MiB, its framing, the answers whose lines
+/// are whole, and the last line where that is there.
+#[derive(Debug, Drop)]
+pub struct Unfinished {
+    pub version: u8,
+    pub window: u32,
+    pub frame: Framing,
+    pub lines: Lines,
+    pub finish: Option<Finish>,
+}
+
 /// Why a text wasn't read: its first line, counted from 1, that isn't of its form; or memory ran out.
 #[derive(Clone, Copy, Debug, PartialEq, Eq)]
 pub enum RecordRefusal {
@@ -87,11 +105,4 @@ pub(crate) struct Head {
     pub version: u8,
     pub window: u32,
     pub frame: Framing,
-}
-
-// What a record's last line says.
-#[derive(Clone, Copy)]
-pub(crate) struct End {
-    pub steps: u64,
-    pub taken: u64,
 }

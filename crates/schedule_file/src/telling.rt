@@ -1,17 +1,17 @@
 // What a line is read as. A line tells some values by its places; it is of its form where they are in their ranges and it is
 // what is written of them.
-ghost use Rattle.std.specs.Prelude.{◌≡◌, ◌==◌, ◌&&◌, ◌^◌, nat_le, nat_lt, bytes_eq, slice_index};
+ghost use Rattle.std.specs.Prelude.{◌≡◌, ◌==◌, ◌&&◌, ◌^◌, nat_le, nat_lt, slice_index};
 ghost use Rattle.schedule_file.specs.declared.recorded.TheConstants.{VERSION};
-ghost use Rattle.schedule_file.specs.Steps.{Tells};
+ghost use Rattle.text_lines.specs.Written.{Tells};
 ghost use Rattle.schedule_file.specs.Telling.{frame_told, hex_from, hex_at, ask_told, asked_told, line_told, is_ask_of, is_marked, was_calloc, is_answer, head_of, answer_of, end_of};
 
-use crate::numbers::{hex_value, number_in_front};
-use crate::parts::behind;
-use crate::recorded::{End, Head, Line, MAX_TAKEN, MAX_WINDOW, VERSION};
+use crate::numbers::hex_value;
+use crate::recorded::{Finish, Head, Line, MAX_TAKEN, MAX_WINDOW, VERSION};
 use crate::writing::{end_line, head_text, line_text};
 use block_book::Ask;
 use msg_frame::Framing;
 use std::alloc::{AllocError, Global};
+use text_lines::{behind, is_same, number_in_front, two_numbers};
 
 // The framing that the bytes behind the window tell.
 fn frame_told(behind: &[u8]) -> Framing
@@ -28,12 +28,6 @@ fn is_head(version: u64, window: u64) -> bool
     ensures { result ≡ ((nat_le 1 version && nat_le version VERSION) && (nat_le 1 window && nat_le window MAX_WINDOW)) }
 {
     1 <= version && version <= u64::from(VERSION) && 1 <= window && window <= u64::from(MAX_WINDOW)
-}
-
-fn is_same(text: &[u8], line: &[u8]) -> bool
-    ensures { result ≡ bytes_eq text.now line.now }
-{
-    text == line
 }
 
 // What a first line says, if it is one.
@@ -188,17 +182,16 @@ fn is_end(steps: u64, taken: u64) -> bool
 }
 
 // What a last line says, if it is one.
-pub(crate) fn end_of(alloc: Global, line: &[u8]) -> Result<Option<End>, AllocError>
+pub(crate) fn end_of(alloc: Global, line: &[u8]) -> Result<Option<Finish>, AllocError>
     ensures { Tells (end_of line.now) result }
 {
-    let (steps, rest) = number_in_front(behind(line, 4));
-    let (taken, _) = number_in_front(behind(rest, 1));
+    let (steps, taken) = two_numbers(behind(line, 4));
     if !is_end(steps, taken) {
         return Ok(None);
     }
     let text = end_line(alloc, steps, taken)?;
     if is_same(text.as_slice(), line) {
-        Ok(Some(End { steps, taken }))
+        Ok(Some(Finish { steps, taken }))
     } else {
         Ok(None)
     }

@@ -1,4 +1,4 @@
-use Rattle.schedule_file.proofs.Cutting.{is_line-head, is_line-line, is_line-end}
+use Rattle.schedule_file.proofs.LineLemmas.{is_line-head, is_line-line, is_line-end}
 use Rattle.schedule_file.proofs.laws.lines_are_lines.Goals as goal
 
 pub returns : goal.returns

@@ -1,4 +1,4 @@
-use Rattle.schedule_file.proofs.Refusing.{reading-unrefused}
+use Rattle.schedule_file.proofs.Finished.{reading-unrefused}
 use Rattle.schedule_file.proofs.Same.{unrefused}
 use Rattle.schedule_file.proofs.laws.read_unless_refused.Goals as goal
 

@@ -1,5 +1,5 @@
-use Rattle.schedule_file.proofs.Terms.{drop, take, ◌++◌, ◌≡◌, behind_line, first_line}
-use Rattle.schedule_file.proofs.parts.split_line.Given as goal
+use Rattle.text_lines.proofs.Terms.{drop, take, ◌++◌, ◌≡◌, behind_line, first_line}
+use Rattle.text_lines.proofs.cutting.split_line.Given as goal
 
 abbrev pub invariant-loop-i : goal.invariant-loop-i
 invariant-loop-i l = record {

@@ -1,6 +1,6 @@
-use Rattle.schedule_file.proofs.Terms.{length}
-use Rattle.schedule_file.proofs.Digits.{IsNumberSoFar}
-use Rattle.schedule_file.proofs.numbers.number_in_front.Given as goal
+use Rattle.text_lines.proofs.Terms.{length}
+use Rattle.text_lines.proofs.Digits.{IsNumberSoFar}
+use Rattle.text_lines.proofs.numbers.number_in_front.Given as goal
 
 abbrev pub invariant-digits : goal.invariant-digits
 invariant-digits l = IsNumberSoFar l.bytes l.rest l.number

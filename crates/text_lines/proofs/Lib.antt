@@ -1,0 +1,4 @@
+pub mod Terms
+pub mod Lines
+pub mod Digits
+pub mod Written
