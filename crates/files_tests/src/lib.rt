@@ -1,6 +1,8 @@
-//! Tests of records, reports and diagnoses as text, and of notes in two files: what no clause of their crates says.
+//! Tests of records, counts, reports and diagnoses as text, and of notes in two files: what no clause of their crates says.
 #![tactic(auto)]
 
+#[cfg(test)]
+mod counts_file_tests;
 #[cfg(test)]
 mod diagnosis_tests;
 #[cfg(test)]

@@ -3,6 +3,7 @@ use block_book::{Ask, Choice};
 use msg_frame::Framing;
 use schedule_file::{
     Line, RecordRefusal, Recorded, add_choice, choice_line, end_line, head_line, read_record,
+    read_unfinished,
 };
 use std::alloc::Global;
 use std::test::Fail;
@@ -251,6 +252,77 @@ fn lines_of_version_2_are_refused(rt: HostRuntime) -> Result<(), Fail> {
     ];
     for (line, wanted) in cases {
         assert_eq!(rt; refused_line(rt.alloc(), line)?, wanted, "{line}");
+    }
+    Ok(())
+}
+
+// What is read of a record that may lack its last line: the line at which it is refused, or 0; how many answers it has; and its steps,
+// or 0 where it has no last line.
+fn unfinished(alloc: Global, text: &[u8]) -> (u64, usize, u64) {
+    match read_unfinished(alloc, text) {
+        Ok(read) => {
+            let steps = match read.finish {
+                Some(finish) => finish.steps,
+                None => 0,
+            };
+            (0, read.lines.as_slice().len(), steps)
+        }
+        Err(RecordRefusal::Refused { line }) => (line, 0, 0),
+        Err(RecordRefusal::Memory) => (u64::MAX, 0, 0),
+    }
+}
+
+// The first line has 32 bytes, that of the answer 22, and the last one 8.
+fn cut_short(length: usize) -> (u64, usize, u64) {
+    match length {
+        0..=31 => (1, 0, 0),
+        32..=53 => (0, 0, 0),
+        54..=61 => (0, 1, 0),
+        _ => (0, 1, 7),
+    }
+}
+
+#[test]
+fn a_record_is_read_cut_behind_each_byte(rt: HostRuntime) -> Result<(), Fail> {
+    let text = b"rx record 2 window 4 frame line\nm 0012ab90 z 00000010\nend 7 1\n";
+    assert_eq!(rt; text.len(), 62);
+    for length in 0..=text.len() {
+        let (front, _) = text.split_at(length);
+        assert_eq!(rt;
+            unfinished(rt.alloc(), front),
+            cut_short(length),
+            "{length}"
+        );
+    }
+    Ok(())
+}
+
+#[test]
+fn unfinished_records_are_refused_at_a_line(rt: HostRuntime) -> Result<(), Fail> {
+    let cases = [
+        ("", (1, 0, 0)),
+        ("\n", (1, 0, 0)),
+        ("rx record 3 window 4 frame line\n", (1, 0, 0)),
+        ("rx record 2 window 4 frame line\n\n", (2, 0, 0)),
+        ("rx record 2 window 4 frame line\nm 0012ab90 -\n", (2, 0, 0)),
+        ("rx record 2 window 4 frame line\nm 0012ab90 -", (0, 0, 0)),
+        ("rx record 2 window 4 frame line\nnot a line", (0, 0, 0)),
+        ("rx record 1 window 4 frame line\nm 0012ab90 -\n", (0, 1, 0)),
+        (
+            "rx record 1 window 4 frame line\nm 0012ab90 -\n\nend 7 1\n",
+            (3, 0, 0),
+        ),
+        ("rx record 1 window 4 frame line\nend 7 1\n", (0, 0, 7)),
+        ("rx record 1 window 4 frame line\nend 07 1\n", (2, 0, 0)),
+        ("rx record 1 window 4 frame line\nend 7 1\n\n", (3, 0, 0)),
+        ("rx record 1 window 4 frame line\nend 7 1\nm", (3, 0, 0)),
+        (
+            "rx record 1 window 4 frame line\nend 7 1\nend 7 1\n",
+            (3, 0, 0),
+        ),
+    ];
+    for (text, wanted) in cases {
+        assert_eq!(rt; unfinished(rt.alloc(), text.as_bytes()), wanted, "{text}");
     }
     Ok(())
 }
