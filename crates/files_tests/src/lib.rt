@@ -8,6 +8,8 @@ mod diagnosis_tests;
 #[cfg(test)]
 mod file_notes_tests;
 #[cfg(test)]
+mod report_reading_tests;
+#[cfg(test)]
 mod run_report_tests;
 #[cfg(test)]
 mod schedule_file_tests;

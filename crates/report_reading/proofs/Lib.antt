@@ -1,0 +1,11 @@
+pub mod Terms
+pub mod Plain
+pub mod Compact
+pub mod Worded
+pub mod Told
+pub mod Cuttings
+pub mod Completing
+pub mod Sounding
+pub mod Coded
+pub mod Exiting
+pub mod Stopping
