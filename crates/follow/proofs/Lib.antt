@@ -4,8 +4,10 @@ pub mod Ranges
 pub mod Runs
 pub mod Fronts
 pub mod Stamps
+pub mod Past
 pub mod Reached
 pub mod Agreed
 pub mod Released
+pub mod Behind
 mod Meets
 mod Examples

@@ -1,32 +1,33 @@
 -- Something meets what the laws ask for.
 use Rattle.session_history.proofs.Endings.{ending_account, ending_none}
 use Rattle.session_history.proofs.Sessions.{serving_first}
-use Rattle.follow.proofs.Terms.{Bool, List, None, Some, [], ap, arith, cond, eqb, false, length, length-append, map, refl, true, ℕ, ◌++◌, ◌∷◌, ◌≡◌, ◌≤◌, eqb-true, sent_to, LinkEvent, Image, prefix_same, origin, served_same, IsAccount, Session, journal_of, items_in, Rules, passed_in, first_survivor, AreRecovered, Recovery, episode_of, Handed, Stand, IsFollowed, IsTakeover, Takeover, HasFollowed}
+use Rattle.follow.proofs.Terms.{Bool, List, None, Some, [], ap, arith, cond, eqb, false, length, length-append, map, refl, true, ℕ, ◌++◌, ◌∷◌, ◌≡◌, ◌≤◌, eqb-true, sent_to, LinkEvent, Image, prefix_same, origin, served_same, IsAccount, Session, journal_of, items_in, Rules, passed_in, first_survivor, starting_path, IsSoundBefore, Episode, plan_of, last_or, IfSome, StandsPast, AreRecovered, Recovery, episode_of, Handed, Stand, IsFollowed, IsTakeover, Takeover, HasFollowed}
 use Rattle.follow.proofs.Reached.{first_served}
 use Rattle.follow.proofs.Runs.{same_limits}
 
 -- a session at its start
-abbrev started : Image → Session
-started image = record { earlier = []; survivor = first_survivor image; since = []; came = None; ending = []; broken = [] }
+abbrev started : Rules → Image → Session
+started rules image = record { earlier = []; survivor = first_survivor rules image; since = []; came = None; ending = []; broken = [] }
 
--- it has an account, and no recovery
-account_at_start : (rules : Rules) (image : Image) → IsAccount rules image (started image)
-account_at_start rules image = ending_account rules image [] (first_survivor image) [] [] None (ending_none rules image [] (first_survivor image) [] false (serving_first rules image))
+-- it has an account where what came before it is sound, and no recovery
+account_at_start : (rules : Rules) (image : Image) → IsSoundBefore rules image → IsAccount rules image (started rules image)
+account_at_start rules image sound = ending_account rules image [] (first_survivor rules image) [] [] None (ending_none rules image [] (first_survivor rules image) [] false (serving_first rules image sound))
 
-recovered_at_start : (rules : Rules) (image : Image) → AreRecovered rules image [] (first_survivor image) [] [] (first_survivor image)
+recovered_at_start : (rules : Rules) (image : Image) → AreRecovered rules image [] (first_survivor rules image) [] [] (first_survivor rules image)
 recovered_at_start rules image = (refl, refl)
 
 -- a takeover of all that a session may hand over, with as much for a client as was passed to it
-abbrev whole : Rules → Image → Session → List Recovery → ℕ → Takeover
-whole rules image session recoveries conn = record {
+abbrev whole : Rules → Image → List Episode → Session → List Recovery → ℕ → Takeover
+whole rules image before session recoveries conn = record {
   image = image;
   rules = rules;
+  before = before;
   session = session;
   recoveries = recoveries;
   handed =
       record {
         counts = (conn, length (sent_to conn (passed_in rules.bounds (journal_of session)))) ∷ [];
-        episodes = map episode_of recoveries;
+        episodes = before ++ map episode_of recoveries;
         choices = session.survivor.now.choices;
         finish = Some (record { steps = session.survivor.now.steps; taken = session.survivor.now.state.machine.taken });
       };
@@ -35,11 +36,13 @@ whole rules image session recoveries conn = record {
 }
 
 -- it is one for each session that has an account and its recoveries, as an engine's does at each answer
-takes_over : (rules : Rules) (image : Image) (session : Session) (recoveries : List Recovery) (conn : ℕ) → IsAccount rules image session → AreRecovered rules image [] (first_survivor image) session.earlier recoveries session.survivor
-    → IsTakeover (whole rules image session recoveries conn)
-takes_over rules image session recoveries conn account recovered = record {
+takes_over : (rules : Rules) (image : Image) (before : List Episode) (session : Session) (recoveries : List Recovery) (conn : ℕ) → IsAccount rules image session → AreRecovered rules image [] (first_survivor rules image) session.earlier recoveries session.survivor
+    → rules.bounds.before.plan ≡ plan_of before → IfSome (last_or None before) (StandsPast rules.limits rules.bounds.before.plan (starting_path rules image)) → IsTakeover (whole rules image before session recoveries conn)
+takes_over rules image before session recoveries conn account recovered told past = record {
   account = account;
   recovered = recovered;
+  told = told;
+  past = past;
   handed_by =
       record {
         episodes = refl;
@@ -57,11 +60,11 @@ takes_over rules image session recoveries conn account recovered = record {
     of other false is = omega arith
 
 -- and the first host's run follows itself
-follows_itself : (rules : Rules) (image : Image) (session : Session) (recoveries : List Recovery) (conn : ℕ) → IsTakeover (whole rules image session recoveries conn) → IsFollowed (whole rules image session recoveries conn) session.survivor.now
-follows_itself rules image session recoveries conn is = record {
+follows_itself : (rules : Rules) (image : Image) (before : List Episode) (session : Session) (recoveries : List Recovery) (conn : ℕ) → IsTakeover (whole rules image before session recoveries conn) → IsFollowed (whole rules image before session recoveries conn) session.survivor.now
+follows_itself rules image before session recoveries conn is = record {
   heard = items_in rules.bounds (journal_of session);
   first = prefix_same (items_in rules.bounds (journal_of session));
-  ran = first_served (whole rules image session recoveries conn) (origin image) session.survivor.now is is.account.served;
+  ran = first_served (whole rules image before session recoveries conn) (origin image) session.survivor.now is is.account.served;
 }
 
 -- a second host that is handed nothing is released at the start, if its run can be judged there

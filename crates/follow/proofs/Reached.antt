@@ -2,9 +2,11 @@
 use Rattle.session_notes.specs.declared.episode.Tried.TheVariants as tried
 use Rattle.session_history.proofs.Due.{due_ran}
 use Rattle.session_notes.specs.declared.episode.Tried.{Tried}
+use Rattle.trials.specs.Episodes.{BeginsAs}
 use Rattle.trials.proofs.Walked.{walk_adopts}
-use Rattle.follow.proofs.Terms.{List, None, Option, Some, [], ap, arith, false, inl, inr, length, length-append, map, refl, subst, sym, true, ℕ, ◌++◌, ◌<◌, ◌∙◌, ◌∷◌, ◌≡◌, ◌≤◌, ◌⊎◌, IfSome_then, last_or, IfSome, IsSome, MatchOption, is_some, Item, Prefix, Send, sent_to, Entry, Image, prefix_trans, output, AsksFor, Limits, Override, Path, Served, origin, Later, later_of, served_on, served_same, items_in, Chapter, Rules, Survivor, place_of, passed_in, first_survivor, Episode, survives, Before, Behind, Compared, Equal, compare, later_served, later_steps, taken_later, apart_asks_fails, apart_ended, asks_on, ended_on, AreRecovered, IsRecovery, Recovery, adopted_by, episode_of, point_of, Trial, survivor_in, ComesTo, plan_of, AreWider, IsLonger, AtExit, AtFailure, AtRequest, HasReached, IsPastFailure, Stand, IsFollowed, IsTakeover, Takeover, heard_first, passed_first, plan_in, stopped, FollowsBefore, NoWaiting, ReachesInTime}
+use Rattle.follow.proofs.Terms.{List, None, Option, Some, [], ap, arith, false, inl, inr, length, length-append, map, refl, subst, sym, true, ℕ, ◌++◌, ◌<◌, ◌∙◌, ◌∷◌, ◌≡◌, ◌≤◌, ◌⊎◌, IfSome_then, last_or, IfSome, IsSome, MatchOption, is_some, Item, Prefix, Send, sent_to, Entry, Image, prefix_trans, output, AsksFor, Limits, Override, Path, Served, origin, Later, later_of, served_on, served_same, items_in, Chapter, Rules, Survivor, place_of, passed_in, first_survivor, Episode, survives, Before, Behind, Compared, Equal, compare, later_served, later_steps, taken_later, apart_asks_fails, asks_on, ended_on, AreRecovered, IsRecovery, Recovery, adopted_by, episode_of, point_of, Trial, survivor_in, ComesTo, plan_of, AreWider, IsLonger, AtExit, AtFailure, AtRequest, HasReached, IsPastFailure, Stand, IsFollowed, IsTakeover, Takeover, heard_first, passed_first, plan_in, stopped, FollowsBefore, NoWaiting, ReachesInTime, StandsPast}
 use Rattle.follow.proofs.Runs.{asks_wider, is_longer, served_all, served_wider}
+use Rattle.follow.proofs.Past.{past_exit, past_on}
 use Rattle.follow.proofs.Told.{plan_of_report}
 
 -- a run that goes on from a trial that survived is past the failure wherever it stands
@@ -20,14 +22,9 @@ past_stand limits wider items all plan checkpoint pieces episode begun path trie
     ]
 past_stand limits wider items all plan checkpoint pieces episode begun path (tried.Exits code) stand are is comes on =
     elim (later_of wider all plan begun path on) [
-      | inl same ↦ at_exit stand (subst (λ (p : Path). IsSome p.state.ended) same (ap is_some comes.1))
+      | inl same ↦ past_exit wider plan path episode stand (subst (λ (p : Path). IsSome p.state.ended) same (ap is_some comes.1))
       | inr later ↦ absurd (ended_on wider all plan begun path (ap is_some comes.1) later)
     ]
-  where
-    at_exit : (stand : Stand wider plan path) → IsSome path.state.ended → IsPastFailure stand episode
-    at_exit (AtRequest asks) ended = absurd (apart_ended path asks.lives ended)
-    at_exit (AtExit was) ended = tt
-    at_exit (AtFailure cause fails) ended = absurd (apart_ended path fails.lives ended)
 past_stand limits wider items all plan checkpoint pieces episode begun path (tried.Failed cause) stand are is comes on = absurd (cc)
 past_stand limits wider items all plan checkpoint pieces episode begun path tried.Contradicts stand are is comes on = absurd (cc)
 past_stand limits wider items all plan checkpoint pieces episode begun path tried.Behind stand are is comes on = absurd (cc)
@@ -43,38 +40,48 @@ record Began (rules : Rules) (image : Image) (now : Survivor) (episode : Episode
   plan : now.plan ≡ (adopted_by recovery trial).plan
   begun : now.begun ≡ trial.path
 
+-- or it began past that episode, as the first survivor does where the session followed another one
+abbrev BeganPast : Rules → Image → Survivor → Episode → Type 0
+BeganPast rules image now episode = Began rules image now episode ⊎ StandsPast rules.limits now.plan now.begun episode
+
+began_same : (rules : Rules) (image : Image) (first now : Survivor) (episode : Episode) → BeginsAs first now → BeganPast rules image first episode → BeganPast rules image now episode
+began_same rules image first now episode same (inl began) = inl (record {
+  entries = began.entries;
+  recovery = began.recovery;
+  trial = began.trial;
+  was = began.was;
+  is = began.is;
+  point = began.point;
+  plan = same.0 ∙ began.plan;
+  begun = same.1 ∙ began.begun;
+})
+began_same rules image first now episode same (inr past) =
+    inr (subst (λ (plan : List Override). StandsPast rules.limits plan now.begun episode) (sym same.0) (subst (λ (begun : Path). StandsPast rules.limits first.plan begun episode) (sym same.1) past))
+
 -- so the last survivor began behind the last episode
 began_behind : (rules : Rules) (image : Image) (before : List Entry) (first : Survivor) (chapters : List Chapter) (recoveries : List Recovery) (now : Survivor) (last : Option Episode)
-    → IfSome last (Began rules image first) → AreRecovered rules image before first chapters recoveries now → IfSome (last_or last (map episode_of recoveries)) (Began rules image now)
-began_behind rules image before first [] [] now last was are =
-    IfSome_then last was
-    (λ episode began. record {
-      entries = began.entries;
-      recovery = began.recovery;
-      trial = began.trial;
-      was = began.was;
-      is = began.is;
-      point = began.point;
-      plan = are.0 ∙ began.plan;
-      begun = are.1 ∙ began.begun;
-    })
+    → IfSome last (BeganPast rules image first) → AreRecovered rules image before first chapters recoveries now → IfSome (last_or last (map episode_of recoveries)) (BeganPast rules image now)
+began_behind rules image before first [] [] now last was are = IfSome_then last was (λ episode began. began_same rules image first now episode are began)
 began_behind rules image before first [] (recovery ∷ recoveries) now last was are = absurd are
 began_behind rules image before first (chapter ∷ chapters) [] now last was are = absurd are
 began_behind rules image before first (chapter ∷ chapters) (recovery ∷ recoveries) now last was are =
     of (survivor_in recovery.trials) refl (λ trial began rest. began_behind rules image (before ++ chapter.entries) (adopted_by recovery trial) chapters recoveries now (Some (episode_of recovery)) began rest) are.3
   where
     of : (o : Option Trial) → survivor_in recovery.trials ≡ o
-        → ((trial : Trial) → Began rules image (adopted_by recovery trial) (episode_of recovery) → AreRecovered rules image (before ++ chapter.entries) (adopted_by recovery trial) chapters recoveries now
-        → IfSome (last_or (Some (episode_of recovery)) (map episode_of recoveries)) (Began rules image now))
+        → ((trial : Trial) → BeganPast rules image (adopted_by recovery trial) (episode_of recovery) → AreRecovered rules image (before ++ chapter.entries) (adopted_by recovery trial) chapters recoveries now
+        → IfSome (last_or (Some (episode_of recovery)) (map episode_of recoveries)) (BeganPast rules image now))
         → MatchOption o ⊥ (λ trial. AreRecovered rules image (before ++ chapter.entries) (adopted_by recovery trial) chapters recoveries now)
-        → IfSome (last_or (Some (episode_of recovery)) (map episode_of recoveries)) (Began rules image now)
+        → IfSome (last_or (Some (episode_of recovery)) (map episode_of recoveries)) (BeganPast rules image now)
     of None is so rest = absurd rest
-    of (Some trial) is so rest = so trial (record { entries = before ++ chapter.entries; recovery = recovery; trial = trial; was = are.2; is = is; point = refl; plan = refl; begun = refl }) rest
+    of (Some trial) is so rest = so trial (inl (record { entries = before ++ chapter.entries; recovery = recovery; trial = trial; was = are.2; is = is; point = refl; plan = refl; begun = refl })) rest
 
 -- a run from where a survivor began, under its plan, is past the episode behind which it began
 past_began : (rules : Rules) (image : Image) (wider : Limits) (all : List Item) (plan : List Override) (now : Survivor) (episode : Episode) (path : Path) (stand : Stand wider plan path) → now.plan ≡ plan
-    → AreWider rules.limits wider → Served wider all plan now.begun path → Began rules image now episode → IsPastFailure stand episode
-past_began rules image wider all plan now episode path stand same are on began =
+    → AreWider rules.limits wider → Served wider all plan now.begun path → BeganPast rules image now episode → IsPastFailure stand episode
+past_began rules image wider all plan now episode path stand same are on (inr past) =
+    let there : StandsPast rules.limits plan now.begun episode = subst (λ (p : List Override). StandsPast rules.limits p now.begun episode) same past in
+    past_on rules.limits wider all plan now.begun path episode there.0 stand are there.1 on
+past_began rules image wider all plan now episode path stand same are on (inl began) =
     let items : List Item = items_in rules.bounds began.entries in
     let pieces : List Send = passed_in rules.bounds began.entries in
     let checkpoint : Path = began.trial.chance.checkpoint in
@@ -86,13 +93,18 @@ past_began rules image wider all plan now episode path stand same are on began =
     past_stand rules.limits wider items all plan checkpoint pieces episode began.trial.path path began.trial.result stand are it.survives_it comes
     (subst (λ (p : Path). Served wider all plan p path) began.begun on)
 
+-- the last of two lists
+last_of_both : {X : Type 0} (last : Option X) (xs ys : List X) → last_or last (xs ++ ys) ≡ last_or (last_or last xs) ys
+last_of_both last [] ys = refl
+last_of_both last (x ∷ xs) ys = last_of_both (Some x) xs ys
+
 -- a front is no longer
 pub front_length : (xs ys : List ℕ) → Prefix xs ys → length xs ≤ length ys
 front_length xs ys front = omega (arith, ap length (sym front.1), length-append xs front.0)
 
 -- the survivor's plan is the one that was told
 same_plan : (over : Takeover) → IsTakeover over → over.session.survivor.plan ≡ plan_in over
-same_plan over is = plan_of_report over.rules over.image over.session.earlier over.recoveries over.session.survivor is.recovered ∙ ap plan_of (sym is.handed_by.episodes)
+same_plan over is = plan_of_report over.rules over.image over.before over.session.earlier over.recoveries over.session.survivor is.told is.recovered ∙ ap plan_of (sym is.handed_by.episodes)
 
 -- the first host's run, under the second one's limits and on all items
 pub first_served : (over : Takeover) (first second : Path) → IsTakeover over → Served over.rules.limits (heard_first over) over.session.survivor.plan first second → Served over.limits over.items (plan_in over) first second
@@ -107,11 +119,13 @@ reaches_in_time over path stand is on =
     let longer = is_longer over.limits over.items (plan_in over) now path on in
     let ran = due_ran over.rules (heard_first over) over.session.survivor (place_of over.session.earlier [] false) over.session.since is.account.since in
     let all = served_on over.limits over.items (plan_in over) begun now path (first_served over begun now is ran) on in
-    let began = began_behind over.rules over.image [] (first_survivor over.image) over.session.earlier over.recoveries over.session.survivor None tt is.recovered in
+    let began = began_behind over.rules over.image [] (first_survivor over.rules over.image) over.session.earlier over.recoveries over.session.survivor (last_or None over.before)
+    (IfSome_then (last_or None over.before) is.past (λ episode past. inr past)) is.recovered in
     record {
       past =
-          subst (λ (episodes : List Episode). IfSome (last_or None episodes) (IsPastFailure stand)) (sym is.handed_by.episodes)
-          (IfSome_then (last_or None (map episode_of over.recoveries)) began
+          subst (λ (last : Option Episode). IfSome last (IsPastFailure stand))
+          (sym (ap (last_or None) is.handed_by.episodes ∙ last_of_both None over.before (map episode_of over.recoveries)))
+          (IfSome_then (last_or (last_or None over.before) (map episode_of over.recoveries)) began
           (λ episode it. past_began over.rules over.image over.limits over.items (plan_in over) over.session.survivor episode path stand (same_plan over is) is.wide all it));
       chose = prefix_trans over.handed.choices now.choices path.choices is.handed_by.choices longer.choices;
       finished = IfSome_then over.handed.finish is.handed_by.finish (λ finish here. omega (arith, here.0, longer.steps));

@@ -1,44 +1,17 @@
 -- A run that has reached what was handed over stays there, and is released at one place.
 use Rattle.run_history.proofs.Runs.{allocated_keeps, received_keeps}
 use Rattle.trials.proofs.Planned.{start_taken}
-use Rattle.follow.proofs.Terms.{List, None, Option, Some, [], append-nil, arith, inl, inr, length, refl, subst, ◌∷◌, ◌≡◌, ◌≤◌, IfSome_then, slice_get_within, last_or, slice_get, Item, LinkEvent, Choice, Image, prefix_trans, repeated_keeps, serves_to, State, after, does, output, AsksFor, Limits, Override, Path, Served, env_at, origin, planned_next, Later, later_of, ByChoice, ByEnd, ByItem, ByItself, BySend, Moved, moved, items_in, received, Rules, Episode, Before, Behind, Compared, Equal, compare, later_served, later_steps, apart_asks_fails, apart_ended, asks_on, ended_on, fails_on, plan_of, AtExit, AtFailure, AtRequest, Handed, HasReached, IsPastFailure, Stand, AsksForMore, HasFollowed, heard_alone}
+use Rattle.follow.proofs.Terms.{List, None, Option, Some, [], append-nil, arith, length, refl, subst, ◌∷◌, ◌≡◌, ◌≤◌, IfSome_then, slice_get_within, last_or, slice_get, Item, LinkEvent, Choice, Image, prefix_trans, repeated_keeps, serves_to, State, after, does, output, AsksFor, Limits, Override, Path, Served, env_at, origin, planned_next, ByChoice, ByEnd, ByItem, ByItself, BySend, Moved, moved, items_in, received, Rules, Before, Behind, Compared, Equal, compare, later_served, later_steps, asks_on, plan_of, AtRequest, Handed, HasReached, Stand, AsksForMore, HasFollowed, heard_alone}
 use Rattle.follow.specs.FollowLaws.{OneRelease, StaysReached}
-use Rattle.follow.proofs.Runs.{is_longer}
+use Rattle.follow.proofs.Past.{past_on}
+use Rattle.follow.proofs.Runs.{is_longer, same_limits}
 use Rattle.follow.proofs.Reached.{front_length}
-
--- what is past at one stand of a place is so at each
-past_here : (limits : Limits) (plan : List Override) (path : Path) (episode : Episode) (stand next : Stand limits plan path) → IsPastFailure stand episode → IsPastFailure next episode
-past_here limits plan path episode (AtRequest asks) (AtRequest others) past = past
-past_here limits plan path episode (AtRequest asks) (AtExit ended) past = tt
-past_here limits plan path episode (AtRequest asks) (AtFailure cause fails) past = absurd (apart_asks_fails limits plan path path.state.machine.taken cause asks fails)
-past_here limits plan path episode (AtExit ended) (AtRequest asks) past = absurd (apart_ended path asks.lives ended)
-past_here limits plan path episode (AtExit ended) (AtExit also) past = tt
-past_here limits plan path episode (AtExit ended) (AtFailure cause fails) past = absurd (apart_ended path fails.lives ended)
-past_here limits plan path episode (AtFailure cause fails) (AtRequest asks) past = omega (arith, past)
-past_here limits plan path episode (AtFailure cause fails) (AtExit ended) past = tt
-past_here limits plan path episode (AtFailure cause fails) (AtFailure other also) past = past
-
--- and wherever the run goes on to
-past_later : (limits : Limits) (items : List Item) (plan : List Override) (path later : Path) (episode : Episode) (stand : Stand limits plan path) (next : Stand limits plan later) → IsPastFailure stand episode → Later limits items plan path later → IsPastFailure next episode
-past_later limits items plan path later episode (AtRequest asks) (AtRequest others) past goes = omega (arith, past, asks_on limits items plan path later path.state.machine.taken asks goes)
-past_later limits items plan path later episode (AtRequest asks) (AtExit ended) past goes = tt
-past_later limits items plan path later episode (AtRequest asks) (AtFailure cause fails) past goes = omega (arith, past, asks_on limits items plan path later path.state.machine.taken asks goes)
-past_later limits items plan path later episode (AtExit ended) next past goes = absurd (ended_on limits items plan path later ended goes)
-past_later limits items plan path later episode (AtFailure cause fails) next past goes = absurd (fails_on limits items plan path later cause fails goes)
-
-past_on : (limits : Limits) (items : List Item) (plan : List Override) (path later : Path) (episode : Episode) (stand : Stand limits plan path) (next : Stand limits plan later) → IsPastFailure stand episode → Served limits items plan path later → IsPastFailure next episode
-past_on limits items plan path later episode stand next past served =
-    elim (later_of limits items plan path later served) [
-      | inl same ↦
-          subst (λ (p : Path). (there : Stand limits plan p) → IsPastFailure there episode) same (λ (there : Stand limits plan path). past_here limits plan path episode stand there past) next
-      | inr goes ↦ past_later limits items plan path later episode stand next past goes
-    ]
 
 pub stays_reached : StaysReached
 stays_reached limits items handed path later stand next reached served =
     let longer = is_longer limits items (plan_of handed.episodes) path later served in
     record {
-      past = IfSome_then (last_or None handed.episodes) reached.past (λ episode past. past_on limits items (plan_of handed.episodes) path later episode stand next past served);
+      past = IfSome_then (last_or None handed.episodes) reached.past (λ episode past. past_on limits limits items (plan_of handed.episodes) path later episode stand next (same_limits limits) past served);
       chose = prefix_trans handed.choices path.choices later.choices reached.chose longer.choices;
       finished = IfSome_then handed.finish reached.finished (λ finish few. omega (arith, few, longer.steps));
       covers = λ conn. omega (arith, reached.covers conn, front_length (output path.state conn) (output later.state conn) (longer.outputs conn));
@@ -59,7 +32,7 @@ after_within s t items choice goes low = by (moved s t (slice_get items s.machin
     by (ByChoice ask it there may is) = within _ is (omega (arith, low, (allocated_keeps it s.machine).taken))
 
 -- so does a run
-taken_within : (limits : Limits) (items : List Item) (plan : List Override) (first second : Path) → Served limits items plan first second → first.state.machine.taken ≤ length items → second.state.machine.taken ≤ length items
+pub taken_within : (limits : Limits) (items : List Item) (plan : List Override) (first second : Path) → Served limits items plan first second → first.state.machine.taken ≤ length items → second.state.machine.taken ≤ length items
 taken_within limits items plan first second served =
     repeated_keeps (planned_next limits items plan) (λ a b. a.state.machine.taken ≤ length items → b.state.machine.taken ≤ length items) (λ a low. low) (λ a b c one other low. other (one low))
     (λ a b goes low. let parts = serves_to limits items (env_at plan a.state.machine.taken) a b goes in after_within a.state b.state items parts.given.chosen parts.goes low) served.more first second served.ran

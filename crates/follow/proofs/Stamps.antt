@@ -1,11 +1,9 @@
 -- What clients hold was passed, and was sent no later.
 use Rattle.std.proofs.lemmas.List.Elements.{filter-append}
-use Rattle.links.specs.declared.journal.Entry.TheVariants as entry
-use Rattle.session_history.proofs.Closing.{received_longer}
 use Rattle.session_history.proofs.Connected.{run_connected}
 use Rattle.session_history.proofs.Passing.{all_until, none_until, until_front}
 use Rattle.trials.proofs.Recovered.{timed_from}
-use Rattle.follow.proofs.Terms.{Bool, List, [], ap, append-nil, append_assoc, arith, cond, false, inl, inr, leb, length, refl, subst, sym, take, true, ℕ, ◌++◌, ◌-◌, ◌∙◌, ◌∷◌, ◌≡◌, ◌≤◌, cases_lt, leb-false, take-append-le, Prefix, Send, sent_to, Entry, prefix_sent, prefix_trans, sent_to-append, served_is_run, output, served_grows, between_wider, journal_of, Bounds, items_in, received, AreBetween, AreInOrder, passed_behind, passed_in, until, count_of, held, held_behind, HeldIsFixed, HeldIsInOrder, HeldIsPassed, PassedIsSent, StampsAreSafe}
+use Rattle.follow.proofs.Terms.{Bool, List, [], ap, append-nil, append_assoc, cond, false, inl, inr, leb, length, refl, subst, sym, take, true, ℕ, ◌++◌, ◌-◌, ◌∙◌, ◌∷◌, ◌≡◌, cases_lt, leb-false, take-append-le, Prefix, Send, sent_to, prefix_sent, prefix_trans, sent_to-append, served_is_run, output, served_grows, journal_of, items_in, received, AreBetween, AreInOrder, passed_in, until, count_of, held, held_behind, HeldIsFixed, HeldIsInOrder, HeldIsPassed, PassedIsSent, StampsAreSafe}
 use Rattle.follow.proofs.Fronts.{held_is_front, none_behind, part_behind, take_two}
 
 -- what is held of more sends
@@ -31,24 +29,6 @@ held_is_passed rules image session counts conn account few =
     let front = account.passed conn in
     held_is_front counts session.survivor.now.state.sends conn ∙ ap (take (count_of counts conn)) (sym front.1) ∙ take-append-le (count_of counts conn) passed front.0 few
 
--- pieces were passed in the order of their stamps
-in_order_behind : (bounds : Bounds) (before entries : List Entry) (high : ℕ) → received bounds (before ++ entries) ≤ high
-    → AreBetween (received bounds before) high (passed_behind bounds before entries) × AreInOrder high (passed_behind bounds before entries)
-in_order_behind bounds before [] high low = (tt, tt)
-in_order_behind bounds before (entry.Took event ∷ entries) high low =
-    let after = before ++ entry.Took event ∷ [] in
-    let more = in_order_behind bounds after entries high (subst (λ (es : List Entry). received bounds es ≤ high) (sym (append_assoc before (entry.Took event ∷ []) entries)) low) in
-    (between_wider (received bounds after) high (received bounds before) high (passed_behind bounds after entries) (received_longer bounds before (entry.Took event ∷ [])) (omega arith) more.0, more.1)
-in_order_behind bounds before (entry.Gave conn bytes gone ∷ entries) high low =
-    let after = before ++ entry.Gave conn bytes gone ∷ [] in
-    let more = in_order_behind bounds after entries high (subst (λ (es : List Entry). received bounds es ≤ high) (sym (append_assoc before (entry.Gave conn bytes gone ∷ []) entries)) low) in
-    let rest = between_wider (received bounds after) high (received bounds before) high (passed_behind bounds after entries) (received_longer bounds before (entry.Gave conn bytes gone ∷ [])) (omega arith) more.0 in
-    let early : received bounds before ≤ high = omega (arith, received_longer bounds before (entry.Gave conn bytes gone ∷ entries), low) in
-    ((omega arith, early, rest), (rest, early, more.1))
-
-passed_in_order : (bounds : Bounds) (entries : List Entry) → AreInOrder (received bounds entries) (passed_in bounds entries)
-passed_in_order bounds entries = (in_order_behind bounds [] entries (received bounds entries) (omega arith)).1
-
 pub passed_is_sent : PassedIsSent
 passed_is_sent rules image session item conn account =
     let now = session.survivor.now in
@@ -59,7 +39,7 @@ passed_is_sent rules image session item conn account =
           let timed = timed_from rules.limits (items_in rules.bounds (journal_of session)) session.survivor.plan image now account.served in
           subst (λ (sends : List Send). Prefix (sent_to conn (until item pieces)) (sent_to conn sends)) (sym (all_until item 0 now.state.machine.taken now.state.sends late timed))
           (prefix_trans (sent_to conn (until item pieces)) (sent_to conn pieces) (output now.state conn)
-          (prefix_sent conn (until item pieces) pieces (until_front item (received rules.bounds (journal_of session)) pieces (passed_in_order rules.bounds (journal_of session)))) (account.passed conn))
+          (prefix_sent conn (until item pieces) pieces (until_front item (received rules.bounds (journal_of session)) pieces account.ordered)) (account.passed conn))
     ]
 
 -- what is held keeps its numbers of items
@@ -102,7 +82,7 @@ stamps_are_safe rules image session counts state account feasible item low conn 
     let pieces = passed_in rules.bounds (journal_of session) in
     let ordered = (run_connected image (items_in rules.bounds (journal_of session)) now.choices now.steps now.state account.ran).ordered in
     prefix_trans (sent_to conn (until item (held counts pieces))) (sent_to conn (until item (held counts now.state.sends))) (sent_to conn (until item state.sends))
-    (subst (λ (bytes : List ℕ). Prefix bytes (sent_to conn (until item (held counts now.state.sends)))) (sym (in_time counts pieces item (received rules.bounds (journal_of session)) conn (passed_in_order rules.bounds (journal_of session))))
+    (subst (λ (bytes : List ℕ). Prefix bytes (sent_to conn (until item (held counts now.state.sends)))) (sym (in_time counts pieces item (received rules.bounds (journal_of session)) conn account.ordered))
     (subst (λ (bytes : List ℕ). Prefix (take (count_of counts conn) (sent_to conn (until item pieces))) bytes) (sym (in_time counts now.state.sends item now.state.machine.taken conn ordered))
     (take_front (count_of counts conn) (sent_to conn (until item pieces)) (sent_to conn (until item now.state.sends)) (passed_is_sent rules image session item conn account))))
     (feasible item low conn)

@@ -12,7 +12,7 @@ pub use Rattle.session_history.proofs.Growing.{ByChoice, ByEnd, ByItem, ByItself
 pub use Rattle.session_history.proofs.Paths.{served_on, served_same, served_with}
 pub use Rattle.trials.proofs.Going.{Before, Behind, Compared, Equal, compare, later_served, later_steps, steps_later, taken_later}
 pub use Rattle.trials.proofs.Results.{apart_asks_fails, apart_ended, asks_on, ended_on, fails_on}
-pub use Rattle.follow.specs.Terms.{All, AreBetween, AreInOrder, AreRecovered, AsksFor, BadAccess, Bounds, Chapter, Choice, ComesTo, Delay, Effect, Entry, Env, Episode, Fails, Guest, Hang, Heap, Image, IsAccount, IsRecovery, Isolate, Item, Limits, LinkEvent, Override, Pad, Path, Plain, Prefix, Recovery, Rules, Send, Served, Session, State, Survivor, Trial, Try, Wants, Zero, adopted_by, after, does_with, env_at, episode_of, first_survivor, guest_of, is_refused, items_in, journal_of, last_or, listed, longer, option_map_or, origin, output, passed_behind, passed_in, place_of, plan_of_trial, planned_next, point_of, received, sent_to, survives, survivor_in, try_of, until}
+pub use Rattle.follow.specs.Terms.{All, AreBetween, AreHeeded, AreInOrder, AreRecovered, AsksFor, BadAccess, Bounds, Chapter, Choice, ComesTo, Delay, Effect, Entry, Env, Episode, Fails, Guest, Hang, Heap, Image, IsAccount, IsRecovery, IsSoundBefore, Isolate, Item, Limits, LinkEvent, Override, Pad, Path, Plain, Prefix, Recovery, Rules, Send, Served, Session, State, Survivor, Trial, Try, Wants, Zero, adopted_by, after, does_with, env_at, episode_of, events_in, first_survivor, guest_of, is_refused, items_in, journal_of, last_or, listed, longer, nothing_before, option_map_or, origin, output, passed_behind, passed_in, place_of, plan_of_trial, planned_next, point_of, received, sent_to, starting_path, survives, survivor_in, try_of, until}
 unfoldable pub use Rattle.follow.specs.Terms.{does, grant, served_next, serves}
 pub use Rattle.follow.specs.Plans.{adopted_try, plan_behind, plan_from, plan_of}
 pub use Rattle.follow.specs.Ranges.{AreFalling, BeginBefore, ranges_behind, ranges_from, ranges_of, unmasked}
@@ -20,7 +20,7 @@ pub use Rattle.follow.specs.Runs.{AreWider, IsLonger}
 pub use Rattle.follow.specs.Held.{count_of, held, held_behind}
 pub use Rattle.follow.specs.Laws.{AsksWider, GivenUpAddsNothing, OneRun, PlanIsTold, PlanOfReport, RangesAreExact, RangesFall, ServedWider}
 pub use Rattle.follow.specs.HeldLaws.{HeldIsFixed, HeldIsFront, HeldIsInOrder, HeldIsInTime, HeldIsPassed, PassedIsSent, StampsAreSafe}
-pub use Rattle.follow.specs.Handed.{AtExit, AtFailure, AtRequest, Finish, Handed, HasReached, IsPastFailure, IsStuck, Stand}
+pub use Rattle.follow.specs.Handed.{AtExit, AtFailure, AtRequest, Finish, Handed, HasReached, IsPastFailure, IsStuck, Stand, StandsPast}
 pub use Rattle.follow.specs.Takeover.{IsFollowed, IsTakeover, Takeover, heard_first, passed_first, plan_in, stopped}
 pub use Rattle.follow.specs.ReachLaws.{AnswersAgree, FinishAgrees, FollowsBefore, HeldAtRelease, NoWaiting, ReachesInTime, StuckHasReached}
-pub use Rattle.follow.specs.Following.{AsksForMore, HasFollowed, heard_alone}
+pub use Rattle.follow.specs.Following.{AsksForMore, HasFollowed, heard_alone, rules_behind}

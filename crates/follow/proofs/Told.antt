@@ -35,13 +35,16 @@ plan_is_told rules image before first (chapter ∷ chapters) (recovery ∷ recov
         ∙ ap (λ (plan : List Override). plan_from plan (map episode_of recoveries))
         (behind_told first.plan recovery trial (ap (λ (survivor : Survivor). survivor.plan) are.1 ∙ are.0.0) is)
 
-pub plan_of_report : PlanOfReport
-plan_of_report rules image chapters recoveries now are = plan_is_told rules image [] (first_survivor image) chapters recoveries now are
-
 -- behind some episodes the plan goes on as behind others
 plan_behind_both : (plan : List Override) (episodes more : List Episode) → plan_from plan (episodes ++ more) ≡ plan_from (plan_from plan episodes) more
 plan_behind_both plan [] more = refl
 plan_behind_both plan (episode ∷ episodes) more = plan_behind_both (plan_behind plan episode) episodes more
+
+pub plan_of_report : PlanOfReport
+plan_of_report rules image before chapters recoveries now told are =
+    plan_is_told rules image [] (first_survivor rules image) chapters recoveries now are
+    ∙ ap (λ (plan : List Override). plan_from plan (map episode_of recoveries)) told
+    ∙ sym (plan_behind_both [] before (map episode_of recoveries))
 
 pub given_up_adds_nothing : GivenUpAddsNothing
 given_up_adds_nothing episodes recovery none =

@@ -1,5 +1,5 @@
 -- What a second host is handed, and when a run that follows has reached all that it tells.
-use Rattle.std.specs.Prelude.{◌≡◌, ℕ, ◌<◌, ◌≤◌, List, length, map, Option, None, IfSome, IsSome}
+use Rattle.std.specs.Prelude.{◌≡◌, ℕ, ◌<◌, ◌≤◌, List, ◌++◌, length, map, Option, None, IfSome, IsSome}
 use Rattle.run_history.specs.declared.answer.Cause.{Cause}
 use Rattle.follow.specs.Terms.{last_or, Item, Prefix, sent_to, Choice, output, AsksFor, FailsBy, Limits, Override, Path, Session, journal_of, Rules, passed_in, Episode, Recovery, episode_of}
 use Rattle.follow.specs.Plans.{plan_of}
@@ -18,10 +18,10 @@ pub record Handed : Type 0 where
   pub choices : List Choice
   pub finish : Option Finish
 
--- It is handed by a session whose survivor stands where it stopped: the episodes of its recoveries, the first of the survivor's answers,
--- and where it stands, if there is a last line; and no client has more than was passed to it.
-pub record IsHandedBy (rules : Rules) (session : Session) (recoveries : List Recovery) (handed : Handed) : Type 0 where
-  pub episodes : handed.episodes ≡ map episode_of recoveries
+-- It is handed by a session whose survivor stands where it stopped: the episodes before it and those of its recoveries, the first of the survivor's
+-- answers, and where it stands, if there is a last line; and no client has more than was passed to it.
+pub record IsHandedBy (rules : Rules) (session : Session) (before : List Episode) (recoveries : List Recovery) (handed : Handed) : Type 0 where
+  pub episodes : handed.episodes ≡ before ++ map episode_of recoveries
   pub choices : Prefix handed.choices session.survivor.now.choices
   pub finish : IfSome handed.finish (λ finish. (finish.steps ≡ session.survivor.now.steps) × (finish.taken ≡ session.survivor.now.state.machine.taken))
   pub counts : (conn : ℕ) → count_of handed.counts conn ≤ length (sent_to conn (passed_in rules.bounds (journal_of session)))
@@ -38,6 +38,10 @@ abbrev pub IsPastFailure : {limits : Limits} {plan : List Override} {path : Path
 IsPastFailure {path = path} (AtRequest asks) episode = episode.point ≤ path.state.machine.taken
 IsPastFailure (AtExit ended) episode = Unit {0}
 IsPastFailure {path = path} (AtFailure cause fails) episode = episode.point < path.state.machine.taken
+
+-- a run stands past the failure of an episode
+abbrev pub StandsPast : Limits → List Override → Path → Episode → Type 0
+StandsPast limits plan path episode = (stand : Stand limits plan path) × IsPastFailure stand episode
 
 -- it can't go on there, with these items: it has ended, or fails, or took them all
 abbrev pub IsStuck : {limits : Limits} {plan : List Override} {path : Path} → List Item → Stand limits plan path → Type 0

@@ -11,11 +11,11 @@ PlanIsTold =
     (rules : Rules) (image : Image) (before : List Entry) (first : Survivor) (chapters : List Chapter) (recoveries : List Recovery) (now : Survivor) →
     AreRecovered rules image before first chapters recoveries now → now.plan ≡ plan_from first.plan (map episode_of recoveries)
 
--- So the plan of a session's survivor is that of its report.
+-- So the plan of a session's survivor is that of its report: of the episodes before it, which tell the plan with which it began, and of its own.
 abbrev pub PlanOfReport : Type 0
 PlanOfReport =
-    (rules : Rules) (image : Image) (chapters : List Chapter) (recoveries : List Recovery) (now : Survivor) →
-    AreRecovered rules image [] (first_survivor image) chapters recoveries now → now.plan ≡ plan_of (map episode_of recoveries)
+    (rules : Rules) (image : Image) (before : List Episode) (chapters : List Chapter) (recoveries : List Recovery) (now : Survivor) → rules.bounds.before.plan ≡ plan_of before →
+    AreRecovered rules image [] (first_survivor rules image) chapters recoveries now → now.plan ≡ plan_of (before ++ map episode_of recoveries)
 
 -- An episode that no trial survived adds nothing to the plan.
 abbrev pub GivenUpAddsNothing : Type 0

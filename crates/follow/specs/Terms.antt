@@ -6,6 +6,7 @@ pub use Rattle.rx_io.specs.Prefix.{Prefix}
 pub use Rattle.rx_io.specs.Sends.{Send, sent_to}
 pub use Rattle.links.specs.declared.journal.Entry.{Entry}
 pub use Rattle.links.specs.declared.journal.LinkEvent.{LinkEvent}
+pub use Rattle.links.specs.Links.{events_in}
 pub use Rattle.block_book.specs.declared.choice.Choice.{Choice}
 pub use Rattle.block_book.specs.Heap.{Heap}
 pub use Rattle.alloc_env.specs.declared.env.Env.{Env}
@@ -18,10 +19,10 @@ unfoldable pub use Rattle.run_history.specs.Run.{does}
 pub use Rattle.run_history.specs.Served.{AsksFor, FailsBy, Guest, Limits, Override, Path, Served, does_with, env_at, guest_of, is_refused, listed, longer, origin, planned_next}
 unfoldable pub use Rattle.run_history.specs.Served.{grant, served_next, serves}
 pub use Rattle.session_history.specs.Account.{IsAccount, Session, journal_of}
-pub use Rattle.session_history.specs.Heeding.{Bounds, items_in, received}
+pub use Rattle.session_history.specs.Heeding.{AreHeeded, Bounds, items_in, nothing_before, received}
 pub use Rattle.session_history.specs.Lawful.{Chapter, Rules, Survivor, place_of}
 pub use Rattle.session_history.specs.Passing.{AreBetween, AreInOrder, Covers, IsFeasible, passed_behind, passed_in, until}
-pub use Rattle.session_history.specs.Serving.{first_survivor}
+pub use Rattle.session_history.specs.Serving.{IsSoundBefore, first_survivor, starting_path}
 pub use Rattle.session_notes.specs.declared.episode.Episode.{Episode}
 pub use Rattle.session_notes.specs.declared.episode.Try.{Try}
 pub use Rattle.session_notes.specs.Survival.{survives}

@@ -2,7 +2,7 @@
 ghost use Rattle.follow.specs.Laws.{PlanIsTold, PlanOfReport, GivenUpAddsNothing, RangesAreExact, RangesFall, ServedWider, AsksWider, OneRun};
 ghost use Rattle.follow.specs.HeldLaws.{HeldIsFront, HeldIsInTime, HeldIsInOrder, HeldIsFixed, HeldIsPassed, PassedIsSent, StampsAreSafe};
 ghost use Rattle.follow.specs.ReachLaws.{ReachesInTime, FollowsBefore, NoWaiting, StuckHasReached, AnswersAgree, FinishAgrees, HeldAtRelease};
-ghost use Rattle.follow.specs.FollowLaws.{StaysReached, OneRelease};
+ghost use Rattle.follow.specs.FollowLaws.{StaysReached, OneRelease, FollowedIsSound, FollowedIsPast};
 
 /// Behind recoveries the plan of the survivor is told by their episodes, from the plan that it had before them.
 pub fn plan_is_told()
@@ -122,4 +122,14 @@ pub fn stays_reached()
 /// With the events of one trunk a second host is released at one place.
 pub fn one_release()
     ensures { OneRelease }
+{}
+
+/// What was followed is sound, as a part before the session behind it.
+pub fn followed_is_sound()
+    ensures { FollowedIsSound }
+{}
+
+/// And that session begins past the last episode that was handed over.
+pub fn followed_is_past()
+    ensures { FollowedIsPast }
 {}

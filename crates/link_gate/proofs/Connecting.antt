@@ -1,6 +1,6 @@
 -- Which connections are given to behind an event, and what hearing leaves as it was.
 use Rattle.reply_ledger.specs.Ledger as ledgers
-use Rattle.link_gate.proofs.Terms.{Bool, List, ap, arith, false, if◌then◌else◌, inl, inr, not, refl, subst, sym, true, ℕ, ◌&&◌, ◌∙◌, ◌≡◌, ◌≤◌, ◌⊎◌, eqb-true, true≢false, Err, Ok, Result, ◌==◌, Send, Entry, LinkEvent, Closes, Ends, Opens, Piece, Settles, Closed, GivesAtClose, Open, Phase, Phases, events_in, phases_after, Log, is_open-push, stamped_to-push, Ledger, stamped_to, Bounds, heeded, closes, is_gone, opens, HearFault, Heard, HasSameReplies, Stays, IsNew, TakesIn, TakesOrEnds, entered}
+use Rattle.link_gate.proofs.Terms.{Bool, List, ap, arith, false, if◌then◌else◌, inl, inr, not, refl, subst, sym, true, ℕ, ◌&&◌, ◌∙◌, ◌≡◌, ◌≤◌, ◌⊎◌, eqb-true, true≢false, Err, Ok, Result, ◌==◌, Send, Entry, LinkEvent, Closes, Ends, Opens, Piece, Settles, Closed, GivesAtClose, Open, Phase, Phases, phases_after, Log, is_open-push, stamped_to-push, Ledger, stamped_to, Bounds, events_of, heeded, closes, is_gone, opens, HearFault, Heard, HasSameReplies, Stays, IsNew, TakesIn, TakesOrEnds, entered}
 use Rattle.link_gate.specs.declared.heard.HearFault.TheVariants as fault
 use Rattle.link_gate.proofs.Phasing.{phase_by}
 use Rattle.link_gate.proofs.Refusing.{few_heeded}
@@ -42,7 +42,7 @@ counted_of Ends log new ledger later before now most result did h = omega (arith
 
 pub stood_below : (bounds : Bounds) (entries : List Entry) (sends : List Send) (log : Log) (ledger : Ledger) (phases : Phases) (before most : ℕ) → Stood bounds entries sends log ledger phases before most → before ≤ most
 stood_below bounds entries sends log ledger phases before most stood =
-    omega (arith, few_heeded bounds (events_in entries) stood.items.all_heeded, stood.limit, stood.counted)
+    omega (arith, few_heeded bounds (events_of bounds entries) stood.items.all_heeded, stood.limit, stood.counted)
 
 pub counted_most : (bounds : Bounds) (entries : List Entry) (sends : List Send) (event : LinkEvent) (log new : Log) (ledger later : Ledger) (phases : Phases) (before now most : ℕ) (result : Result Heard HearFault) → Stood bounds entries sends log ledger phases before most
     → TakesOrEnds event log new ledger later before now most result → now ≤ most
@@ -81,7 +81,7 @@ open_answers false closed gone h = absurd (true≢false (sym h))
 pub open_phase : (bounds : Bounds) (entries : List Entry) (sends : List Send) (log : Log) (ledger : Ledger) (phases : Phases) (before most : ℕ) (conn : ℕ) → Stood bounds entries sends log ledger phases before most → ledgers.is_open ledger.connections conn ≡ true → phases conn ≡ Open
 open_phase bounds entries sends log ledger phases before most conn stood h =
     stood.is_at conn ∙ (λ i. phase_by (closes conn (sym stood.items.all_heeded i)) (opens conn (sym stood.items.all_heeded i)))
-    ∙ open_answers (opens conn (heeded bounds (events_in entries))) (closes conn (heeded bounds (events_in entries))) (is_gone conn entries) (sym (stood.replies.may conn) ∙ h)
+    ∙ open_answers (opens conn (heeded bounds (events_of bounds entries))) (closes conn (heeded bounds (events_of bounds entries))) (is_gone conn entries) (sym (stood.replies.may conn) ∙ h)
 
 -- what was open is given to, also where it was closed just now
 open_by_event : (place conn : ℕ) (b : Bool) (phase : Phase) → phase ≡ Open → (if b then Open else phase) ≡ Open

@@ -2,7 +2,7 @@
 use Rattle.reply_ledger.specs.Ledger.{IsInOrder}
 use Rattle.reply_ledger.specs.Ledger as ledgers
 use Rattle.session_history.specs.Giving.{Passes}
-use Rattle.link_gate.proofs.Terms.{Bool, List, None, Option, Some, ap, append_assoc, arith, false, length, not, refl, subst, sym, true, ℕ, ◌&&◌, ◌++◌, ◌<◌, ◌∙◌, ◌≡◌, true≢false, same_Some, option_map, Err, Ok, Result, is_ok, Send, Entry, Given, LinkFault, Gives, TellsHanded, Told, events_in, Seen, IsFirst, IsNext, IsRest, first_length, next_is, rest_is, IsOpened, Ledger, times_of, next_part, rest_part, shown_part, IsClosing, IsReady, PassesRest, then_entries, heeded, received, AreSendable, KeepsReplies, Rules, is_gone, opens, Moment, journal, PassFault, IsNoted}
+use Rattle.link_gate.proofs.Terms.{Bool, List, None, Option, Some, ap, append_assoc, arith, false, length, not, refl, subst, sym, true, ℕ, ◌&&◌, ◌++◌, ◌<◌, ◌∙◌, ◌≡◌, true≢false, same_Some, option_map, Err, Ok, Result, is_ok, Send, Entry, Given, LinkFault, Gives, TellsHanded, Told, Seen, IsFirst, IsNext, IsRest, first_length, next_is, rest_is, IsOpened, Ledger, times_of, next_part, rest_part, shown_part, IsClosing, IsReady, PassesRest, then_entries, events_of, heeded, received, AreSendable, KeepsReplies, Rules, is_gone, opens, Moment, journal, PassFault, IsNoted}
 use Rattle.link_gate.proofs.DueLemmas.{sendable_at}
 use Rattle.link_gate.proofs.GoingLemmas.{Going, IsPiece, Moved, moved, broke, going_then, going_broke}
 use Rattle.link_gate.proofs.ReadyLemmas.{may_rest, until_piece, until_then, rest_piece, rest_then}
@@ -109,6 +109,6 @@ rest_gone rules sends moment conn ledger old now going known shut =
     let entries : List Entry = journal (then_entries moment going.more) in
     let same : journal moment ++ going.more ≡ entries = append_assoc moment.start moment.since going.more in
     let keeps : KeepsReplies rules.bounds entries (Some conn) sends ledger = going.here.keeps in
-    let may : (opens conn (heeded rules.bounds (events_in entries)) && not (is_gone conn entries)) ≡ false = sym (may_rest rules.bounds entries conn) ∙ sym (keeps.may conn) ∙ shut in
+    let may : (opens conn (heeded rules.bounds (events_of rules.bounds entries)) && not (is_gone conn entries)) ≡ false = sym (may_rest rules.bounds entries conn) ∙ sym (keeps.may conn) ∙ shut in
     rest_done rules sends moment conn ledger old now going
-    (λ stays. absurd (true≢false (sym (closed_gone (opens conn (heeded rules.bounds (events_in entries))) (is_gone conn entries) (sym (keeps.opened conn) ∙ known) may (sym (ap (is_gone conn) same) ∙ stays)))))
+    (λ stays. absurd (true≢false (sym (closed_gone (opens conn (heeded rules.bounds (events_of rules.bounds entries))) (is_gone conn entries) (sym (keeps.opened conn) ∙ known) may (sym (ap (is_gone conn) same) ∙ stays)))))

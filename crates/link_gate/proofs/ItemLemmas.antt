@@ -7,16 +7,16 @@ use Rattle.msg_frame.specs.Feeding.{IsRest}
 use Rattle.msg_frame.proofs.Short.{Keeps, cut_keeps, no_rest}
 use Rattle.item_log.specs.Heard.{Heard}
 use Rattle.item_log.specs.Log.{received}
-use Rattle.link_gate.proofs.Terms.{Bool, List, None, Option, Some, [], ap, arith, false, get_or, inl, inr, length, map, refl, replicate, subst, sym, true, ℕ, ◌<◌, ◌^◌, ◌||◌, ◌∙◌, ◌∷◌, ◌≡◌, ◌≤◌, ◌⊎◌, cases_lt, cond_both, eq-eqb, eqb-true, or_right, true≢false, get_or-replicate, get_or-set_other, get_or-set_same, get_or_past, length-replicate, length-set, get_or_from_slice_get, slice_get_within, unwrap_or, slice_set, ◌==◌, Entry, LinkEvent, Closes, Ends, Opens, Piece, Settles, events_in, Framing, Parts, cut, CLOSED, CONNECTIONS, OPENED, shown_items, in_order, none_open, rest_of, bare_item, brought, first_items, hear, hear_parts, items_from, items_of, message_item, IsItemOf, Log, Bounds, heeded, items_in, KeepsItems, opens}
+use Rattle.link_gate.proofs.Terms.{Bool, List, None, Option, Some, [], ap, arith, false, get_or, inl, inr, length, map, refl, replicate, subst, sym, true, ℕ, ◌<◌, ◌^◌, ◌||◌, ◌∙◌, ◌∷◌, ◌≡◌, ◌≤◌, ◌⊎◌, cases_lt, cond_both, eq-eqb, eqb-true, or_right, true≢false, get_or-replicate, get_or-set_other, get_or-set_same, get_or_past, length-replicate, length-set, get_or_from_slice_get, slice_get_within, unwrap_or, slice_set, ◌==◌, Entry, LinkEvent, Closes, Ends, Opens, Piece, Settles, Framing, Parts, cut, CLOSED, CONNECTIONS, OPENED, shown_items, in_order, none_open, rest_of, bare_item, brought, first_items, hear, hear_parts, items_from, items_of, message_item, IsItemOf, Log, Bounds, events_of, heeded, items_in, KeepsItems, opens}
 use Rattle.link_gate.proofs.Phasing.{opens_by, opens-first}
 
 -- the item of a number is that of the journal
 pub item_is : (bounds : Bounds) (entries : List Entry) (log : Log) (number : ℕ) (item : Item) → KeepsItems bounds entries log → IsItemOf log number item → slice_get (items_in bounds entries) number ≡ Some item
-item_is bounds entries log number item keeps is = ap (λ events. slice_get (items_of bounds.framing events) number) keeps.all_heeded ∙ is bounds.framing (events_in entries) keeps.shows
+item_is bounds entries log number item keeps is = ap (λ events. slice_get (items_of bounds.framing events) number) keeps.all_heeded ∙ is bounds.framing (events_of bounds entries) keeps.shows
 
 -- a log received as many items as the journal has
 pub received_is : (bounds : Bounds) (entries : List Entry) (log : Log) → KeepsItems bounds entries log → received log ≡ length (items_in bounds entries)
-received_is bounds entries log keeps = (shown_items bounds.framing (events_in entries) log keeps.shows).0 ∙ ap (λ events. length (items_of bounds.framing events)) (sym keeps.all_heeded)
+received_is bounds entries log keeps = (shown_items bounds.framing (events_of bounds entries) log keeps.shows).0 ∙ ap (λ events. length (items_of bounds.framing events)) (sym keeps.all_heeded)
 
 -- what holds of each of some items holds of the one at a number
 pub item_at_number : (P : Item → Type 0) (items : List Item) (number : ℕ) (item : Item) → All P items → slice_get items number ≡ Some item → P item
@@ -126,6 +126,6 @@ items_open framing rests (event ∷ events) =
     (cond_both (in_order rests event) (brought framing rests event) None (ItemsAre (IsOpenedBy (event ∷ events))) (λ _. brought_opens framing rests event events) (λ _. tt))
     (λ more. items_open framing more events)
 
-pub opened_items : (bounds : Bounds) (entries : List Entry) (number : ℕ) (item : Item) → slice_get (items_in bounds entries) number ≡ Some item → item.kind ≡ OPENED → opens item.conn (heeded bounds (events_in entries)) ≡ true
+pub opened_items : (bounds : Bounds) (entries : List Entry) (number : ℕ) (item : Item) → slice_get (items_in bounds entries) number ≡ Some item → item.kind ≡ OPENED → opens item.conn (heeded bounds (events_of bounds entries)) ≡ true
 opened_items bounds entries number item is kind =
-    item_at_number (IsOpenedBy (heeded bounds (events_in entries))) (items_in bounds entries) number item (items_open bounds.framing none_open (heeded bounds (events_in entries))) is kind
+    item_at_number (IsOpenedBy (heeded bounds (events_of bounds entries))) (items_in bounds entries) number item (items_open bounds.framing none_open (heeded bounds (events_of bounds entries))) is kind

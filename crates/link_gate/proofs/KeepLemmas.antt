@@ -1,7 +1,7 @@
 -- What a piece makes of a ledger beside its journal, and how far each connection has come.
 use Rattle.reply_ledger.specs.Shows.{Shows}
 use Rattle.session_history.specs.Opened as journals
-use Rattle.link_gate.proofs.Terms.{Bool, List, None, Option, Some, [], ap, arith, cond, drop, eqb, false, if◌then◌else◌, length, length-append, length-drop, not, refl, subst, sym, take, true, ℕ, ◌&&◌, ◌++◌, ◌+◌, ◌-◌, ◌||◌, ◌∙◌, ◌∷◌, ◌≡◌, ◌≤◌, and_parts, eqb-true, true≢false, option_map, is_some, Send, sent_to, Entry, Gave, LinkEvent, events_in, connection_of-changed, is_open-changed, come, is_open-gone, opened_known, length-bytes_of, bytes_of-stamped_of, shows-marked, shows-passed, earlier_at, Connection, Ledger, changed, connection_of, gone_connection, passed_connection, passed_to, stamped, stamped_to, with_change, with_passed, stamped_of, events_in-gave, passed_in-gave, Bounds, heeded, received, KeepsReplies, may_pass, closes, is_gone, opens, passed_in}
+use Rattle.link_gate.proofs.Terms.{Bool, List, None, Option, Some, [], ap, arith, cond, drop, eqb, false, if◌then◌else◌, length, length-append, length-drop, not, refl, subst, sym, take, true, ℕ, ◌&&◌, ◌++◌, ◌+◌, ◌-◌, ◌||◌, ◌∙◌, ◌∷◌, ◌≡◌, ◌≤◌, and_parts, eqb-true, true≢false, option_map, is_some, Send, sent_to, Entry, Gave, LinkEvent, connection_of-changed, is_open-changed, come, is_open-gone, opened_known, length-bytes_of, bytes_of-stamped_of, shows-marked, shows-passed, earlier_at, Connection, Ledger, changed, connection_of, gone_connection, passed_connection, passed_to, stamped, stamped_to, with_change, with_passed, stamped_of, events_of-gave, passed_in-gave, Bounds, events_of, heeded, received, KeepsReplies, may_pass, closes, is_gone, opens, passed_in}
 use Rattle.link_gate.proofs.MomentLemmas.{is_gone-gave, passed-prefix}
 
 -- a change of a connection leaves it known
@@ -36,16 +36,16 @@ and_or_two false g x = refl
 
 is_open-gave : (bounds : Bounds) (entries : List Entry) (conn : ℕ) (bytes : List ℕ) (gone : Bool) (q : ℕ) → journals.is_open bounds (entries ++ Gave conn bytes gone ∷ []) q ≡ (journals.is_open bounds entries q && not (eqb conn q && gone))
 is_open-gave bounds entries conn bytes gone q =
-    (λ i. opens q (heeded bounds (events_in-gave entries conn bytes gone i)) && not (closes q (heeded bounds (events_in-gave entries conn bytes gone i))) && not (is_gone-gave entries conn bytes gone q i))
-    ∙ and_or (opens q (heeded bounds (events_in entries))) (closes q (heeded bounds (events_in entries))) (is_gone q entries) (eqb conn q && gone)
+    (λ i. opens q (heeded bounds (events_of-gave bounds entries conn bytes gone i)) && not (closes q (heeded bounds (events_of-gave bounds entries conn bytes gone i))) && not (is_gone-gave entries conn bytes gone q i))
+    ∙ and_or (opens q (heeded bounds (events_of bounds entries))) (closes q (heeded bounds (events_of bounds entries))) (is_gone q entries) (eqb conn q && gone)
 
 pub may_pass-gave : (bounds : Bounds) (entries : List Entry) (closing : Option ℕ) (conn : ℕ) (bytes : List ℕ) (gone : Bool) (q : ℕ) → may_pass bounds (entries ++ Gave conn bytes gone ∷ []) closing q ≡ (may_pass bounds entries closing q && not (eqb conn q && gone))
 may_pass-gave bounds entries None conn bytes gone q = is_open-gave bounds entries conn bytes gone q
 may_pass-gave bounds entries (Some c) conn bytes gone q = by (eqb q c)
   where
-    by : (b : Bool) → cond b (opens q (heeded bounds (events_in (entries ++ Gave conn bytes gone ∷ []))) && not (is_gone q (entries ++ Gave conn bytes gone ∷ []))) (journals.is_open bounds (entries ++ Gave conn bytes gone ∷ []) q)
-        ≡ (cond b (opens q (heeded bounds (events_in entries)) && not (is_gone q entries)) (journals.is_open bounds entries q) && not (eqb conn q && gone))
-    by true = (λ i. opens q (heeded bounds (events_in-gave entries conn bytes gone i)) && not (is_gone-gave entries conn bytes gone q i)) ∙ and_or_two (opens q (heeded bounds (events_in entries))) (is_gone q entries) (eqb conn q && gone)
+    by : (b : Bool) → cond b (opens q (heeded bounds (events_of bounds (entries ++ Gave conn bytes gone ∷ []))) && not (is_gone q (entries ++ Gave conn bytes gone ∷ []))) (journals.is_open bounds (entries ++ Gave conn bytes gone ∷ []) q)
+        ≡ (cond b (opens q (heeded bounds (events_of bounds entries)) && not (is_gone q entries)) (journals.is_open bounds entries q) && not (eqb conn q && gone))
+    by true = (λ i. opens q (heeded bounds (events_of-gave bounds entries conn bytes gone i)) && not (is_gone-gave entries conn bytes gone q i)) ∙ and_or_two (opens q (heeded bounds (events_of bounds entries))) (is_gone q entries) (eqb conn q && gone)
     by false = is_open-gave bounds entries conn bytes gone q
 
 pub may_pass-before : (bounds : Bounds) (entries : List Entry) (closing : Option ℕ) (conn : ℕ) (bytes : List ℕ) (gone : Bool) (q : ℕ) → may_pass bounds (entries ++ Gave conn bytes gone ∷ []) closing q ≡ true → may_pass bounds entries closing q ≡ true
@@ -72,8 +72,8 @@ shows-then bounds entries closing sends ledger conn count stamp bytes gone keeps
     subst (Shows (with_passed ledger conn count stamp) sends) (sym same) (shows-passed ledger sends pieces conn count stamp (opened_known ledger.connections conn (keeps.may conn ∙ may)) long keeps.shows)
 
 opened-then : (bounds : Bounds) (entries : List Entry) (closing : Option ℕ) (sends : List Send) (ledger : Ledger) (conn : ℕ) (bytes : List ℕ) (gone : Bool) → KeepsReplies bounds entries closing sends ledger
-    → (q : ℕ) → is_some (connection_of ledger.connections q) ≡ opens q (heeded bounds (events_in (entries ++ Gave conn bytes gone ∷ [])))
-opened-then bounds entries closing sends ledger conn bytes gone keeps q = keeps.opened q ∙ ap (λ (events : List LinkEvent). opens q (heeded bounds events)) (sym (events_in-gave entries conn bytes gone))
+    → (q : ℕ) → is_some (connection_of ledger.connections q) ≡ opens q (heeded bounds (events_of bounds (entries ++ Gave conn bytes gone ∷ [])))
+opened-then bounds entries closing sends ledger conn bytes gone keeps q = keeps.opened q ∙ ap (λ (events : List LinkEvent). opens q (heeded bounds events)) (sym (events_of-gave bounds entries conn bytes gone))
 
 -- only a connection that was opened is gone
 or_parts : {P : Type 0} (a b g : Bool) → (a || (b && g)) ≡ true → (a ≡ true → P) → (b ≡ true → P) → P
@@ -82,11 +82,11 @@ or_parts false true g h one other = other refl
 or_parts false false g h one other = absurd (true≢false (sym h))
 
 gone-then : (bounds : Bounds) (entries : List Entry) (closing : Option ℕ) (sends : List Send) (ledger : Ledger) (conn : ℕ) (bytes : List ℕ) (gone : Bool) → KeepsReplies bounds entries closing sends ledger → may_pass bounds entries closing conn ≡ true
-    → (q : ℕ) → is_gone q (entries ++ Gave conn bytes gone ∷ []) ≡ true → opens q (heeded bounds (events_in (entries ++ Gave conn bytes gone ∷ []))) ≡ true
+    → (q : ℕ) → is_gone q (entries ++ Gave conn bytes gone ∷ []) ≡ true → opens q (heeded bounds (events_of bounds (entries ++ Gave conn bytes gone ∷ []))) ≡ true
 gone-then bounds entries closing sends ledger conn bytes gone keeps may q is =
-    ap (λ (events : List LinkEvent). opens q (heeded bounds events)) (events_in-gave entries conn bytes gone)
+    ap (λ (events : List LinkEvent). opens q (heeded bounds events)) (events_of-gave bounds entries conn bytes gone)
     ∙ or_parts (is_gone q entries) (eqb conn q) gone (sym (is_gone-gave entries conn bytes gone q) ∙ is) (keeps.gone q)
-    (λ same. ap (λ (c : ℕ). opens c (heeded bounds (events_in entries))) (sym (eqb-true conn q same)) ∙ sym (keeps.opened conn) ∙ opened_known ledger.connections conn (keeps.may conn ∙ may))
+    (λ same. ap (λ (c : ℕ). opens c (heeded bounds (events_of bounds entries))) (sym (eqb-true conn q same)) ∙ sym (keeps.opened conn) ∙ opened_known ledger.connections conn (keeps.may conn ∙ may))
 
 not_false : (a b : Bool) → a ≡ (a && not (b && false))
 not_false true true = refl

@@ -2,7 +2,7 @@
 use Rattle.reply_ledger.specs.Ledger as ledgers
 use Rattle.reply_ledger.specs.Shows.{Shows}
 use Rattle.session_history.specs.Opened.{is_open}
-use Rattle.link_gate.proofs.Terms.{Bool, List, None, Option, Some, [], ap, arith, false, if◌then◌else◌, length, not, refl, subst, sym, take, true, ℕ, ◌&&◌, ◌++◌, ◌||◌, ◌∙◌, ◌∷◌, ◌≡◌, ◌≤◌, or-false, eq-eqb, eqb-true, true≢false, option_map_or, is_some, ◌==◌, Send, sent_to, Entry, Gave, Took, LinkEvent, Closes, Opens, events_in, connection_of-push, is_open-push, shows-opens, earlier_at, Connection, Ledger, connection_of, new_connection, with_connection, passed_in-took, Bounds, heeded, KeepsReplies, may_pass, closes, is_gone, opens, passed_in}
+use Rattle.link_gate.proofs.Terms.{Bool, List, None, Option, Some, [], ap, arith, false, if◌then◌else◌, length, not, refl, subst, sym, take, true, ℕ, ◌&&◌, ◌++◌, ◌||◌, ◌∙◌, ◌∷◌, ◌≡◌, ◌≤◌, or-false, eq-eqb, eqb-true, true≢false, option_map_or, is_some, ◌==◌, Send, sent_to, Entry, Gave, Took, LinkEvent, Closes, Opens, connection_of-push, is_open-push, shows-opens, earlier_at, Connection, Ledger, connection_of, new_connection, with_connection, passed_in-took, Bounds, events_of, heeded, KeepsReplies, may_pass, closes, is_gone, opens, passed_in}
 use Rattle.link_gate.proofs.Phasing.{opens_by, closes_by, opens-last, closes-last, eqb_turns}
 
 -- an event finds no connection gone
@@ -13,7 +13,7 @@ gone-took conn (Took other ∷ entries) event = gone-took conn entries event
 
 -- where it opens none, a ledger stays as it is, and what may be passed
 keeps_still : (bounds : Bounds) (entries : List Entry) (closing : Option ℕ) (sends : List Send) (event : LinkEvent) (ledger : Ledger) →
-    ((conn : ℕ) → opens conn (heeded bounds (events_in (entries ++ Took event ∷ []))) ≡ opens conn (heeded bounds (events_in entries))) →
+    ((conn : ℕ) → opens conn (heeded bounds (events_of bounds (entries ++ Took event ∷ []))) ≡ opens conn (heeded bounds (events_of bounds entries))) →
     ((conn : ℕ) → may_pass bounds (entries ++ Took event ∷ []) closing conn ≡ may_pass bounds entries None conn) →
     KeepsReplies bounds entries None sends ledger → KeepsReplies bounds (entries ++ Took event ∷ []) closing sends ledger
 keeps_still bounds entries closing sends event ledger same may keeps = record {
@@ -30,35 +30,35 @@ abbrev open_of : Bool → Bool → Bool → Bool
 open_of opened closed gone = opened && not closed && not gone
 
 -- where the same events are heeded
-pub keeps_unheeded : (bounds : Bounds) (entries : List Entry) (sends : List Send) (event : LinkEvent) (ledger : Ledger) → heeded bounds (events_in (entries ++ Took event ∷ [])) ≡ heeded bounds (events_in entries)
+pub keeps_unheeded : (bounds : Bounds) (entries : List Entry) (sends : List Send) (event : LinkEvent) (ledger : Ledger) → heeded bounds (events_of bounds (entries ++ Took event ∷ [])) ≡ heeded bounds (events_of bounds entries)
     → KeepsReplies bounds entries None sends ledger → KeepsReplies bounds (entries ++ Took event ∷ []) None sends ledger
 keeps_unheeded bounds entries sends event ledger same keeps =
     keeps_still bounds entries None sends event ledger (λ conn. ap (opens conn) same) (λ conn. (λ i. open_of (opens conn (same i)) (closes conn (same i)) (gone-took conn entries event i))) keeps
 
 -- what is open behind an event that is heeded
-pub open_behind : (bounds : Bounds) (entries : List Entry) (event : LinkEvent) (conn : ℕ) → heeded bounds (events_in entries) ≡ events_in entries → heeded bounds (events_in (entries ++ Took event ∷ [])) ≡ events_in entries ++ event ∷ []
-    → is_open bounds (entries ++ Took event ∷ []) conn ≡ open_of (opens conn (heeded bounds (events_in entries)) || opens_by conn event) (closes conn (heeded bounds (events_in entries)) || closes_by conn event) (is_gone conn entries)
+pub open_behind : (bounds : Bounds) (entries : List Entry) (event : LinkEvent) (conn : ℕ) → heeded bounds (events_of bounds entries) ≡ events_of bounds entries → heeded bounds (events_of bounds (entries ++ Took event ∷ [])) ≡ events_of bounds entries ++ event ∷ []
+    → is_open bounds (entries ++ Took event ∷ []) conn ≡ open_of (opens conn (heeded bounds (events_of bounds entries)) || opens_by conn event) (closes conn (heeded bounds (events_of bounds entries)) || closes_by conn event) (is_gone conn entries)
 open_behind bounds entries event conn all heeds = λ i. open_of (opens_behind i) (closes_behind i) (gone-took conn entries event i)
   where
-    opens_behind : opens conn (heeded bounds (events_in (entries ++ Took event ∷ []))) ≡ (opens conn (heeded bounds (events_in entries)) || opens_by conn event)
-    opens_behind = ap (opens conn) heeds ∙ opens-last conn (events_in entries) event ∙ ap (λ (events : List LinkEvent). opens conn events || opens_by conn event) (sym all)
+    opens_behind : opens conn (heeded bounds (events_of bounds (entries ++ Took event ∷ []))) ≡ (opens conn (heeded bounds (events_of bounds entries)) || opens_by conn event)
+    opens_behind = ap (opens conn) heeds ∙ opens-last conn (events_of bounds entries) event ∙ ap (λ (events : List LinkEvent). opens conn events || opens_by conn event) (sym all)
 
-    closes_behind : closes conn (heeded bounds (events_in (entries ++ Took event ∷ []))) ≡ (closes conn (heeded bounds (events_in entries)) || closes_by conn event)
-    closes_behind = ap (closes conn) heeds ∙ closes-last conn (events_in entries) event ∙ ap (λ (events : List LinkEvent). closes conn events || closes_by conn event) (sym all)
+    closes_behind : closes conn (heeded bounds (events_of bounds (entries ++ Took event ∷ []))) ≡ (closes conn (heeded bounds (events_of bounds entries)) || closes_by conn event)
+    closes_behind = ap (closes conn) heeds ∙ closes-last conn (events_of bounds entries) event ∙ ap (λ (events : List LinkEvent). closes conn events || closes_by conn event) (sym all)
 
-opened_behind : (bounds : Bounds) (entries : List Entry) (event : LinkEvent) (conn : ℕ) → heeded bounds (events_in entries) ≡ events_in entries → heeded bounds (events_in (entries ++ Took event ∷ [])) ≡ events_in entries ++ event ∷ []
-    → opens conn (heeded bounds (events_in (entries ++ Took event ∷ []))) ≡ (opens conn (heeded bounds (events_in entries)) || opens_by conn event)
-opened_behind bounds entries event conn all heeds = ap (opens conn) heeds ∙ opens-last conn (events_in entries) event ∙ ap (λ (events : List LinkEvent). opens conn events || opens_by conn event) (sym all)
+opened_behind : (bounds : Bounds) (entries : List Entry) (event : LinkEvent) (conn : ℕ) → heeded bounds (events_of bounds entries) ≡ events_of bounds entries → heeded bounds (events_of bounds (entries ++ Took event ∷ [])) ≡ events_of bounds entries ++ event ∷ []
+    → opens conn (heeded bounds (events_of bounds (entries ++ Took event ∷ []))) ≡ (opens conn (heeded bounds (events_of bounds entries)) || opens_by conn event)
+opened_behind bounds entries event conn all heeds = ap (opens conn) heeds ∙ opens-last conn (events_of bounds entries) event ∙ ap (λ (events : List LinkEvent). opens conn events || opens_by conn event) (sym all)
 
 -- an event that neither opens nor closes
-pub keeps_quiet : (bounds : Bounds) (entries : List Entry) (sends : List Send) (event : LinkEvent) (ledger : Ledger) → heeded bounds (events_in entries) ≡ events_in entries → heeded bounds (events_in (entries ++ Took event ∷ [])) ≡ events_in entries ++ event ∷ []
+pub keeps_quiet : (bounds : Bounds) (entries : List Entry) (sends : List Send) (event : LinkEvent) (ledger : Ledger) → heeded bounds (events_of bounds entries) ≡ events_of bounds entries → heeded bounds (events_of bounds (entries ++ Took event ∷ [])) ≡ events_of bounds entries ++ event ∷ []
     → ((conn : ℕ) → opens_by conn event ≡ false) → ((conn : ℕ) → closes_by conn event ≡ false) → KeepsReplies bounds entries None sends ledger → KeepsReplies bounds (entries ++ Took event ∷ []) None sends ledger
 keeps_quiet bounds entries sends event ledger all heeds opens_none closes_none keeps =
     keeps_still bounds entries None sends event ledger
-    (λ conn. opened_behind bounds entries event conn all heeds ∙ ap (λ (b : Bool). opens conn (heeded bounds (events_in entries)) || b) (opens_none conn) ∙ or-false (opens conn (heeded bounds (events_in entries))))
+    (λ conn. opened_behind bounds entries event conn all heeds ∙ ap (λ (b : Bool). opens conn (heeded bounds (events_of bounds entries)) || b) (opens_none conn) ∙ or-false (opens conn (heeded bounds (events_of bounds entries))))
     (λ conn. open_behind bounds entries event conn all heeds
-    ∙ (λ i. open_of (opens conn (heeded bounds (events_in entries)) || opens_none conn i) (closes conn (heeded bounds (events_in entries)) || closes_none conn i) (is_gone conn entries))
-    ∙ (λ i. open_of (or-false (opens conn (heeded bounds (events_in entries))) i) (or-false (closes conn (heeded bounds (events_in entries))) i) (is_gone conn entries)))
+    ∙ (λ i. open_of (opens conn (heeded bounds (events_of bounds entries)) || opens_none conn i) (closes conn (heeded bounds (events_of bounds entries)) || closes_none conn i) (is_gone conn entries))
+    ∙ (λ i. open_of (or-false (opens conn (heeded bounds (events_of bounds entries))) i) (or-false (closes conn (heeded bounds (events_of bounds entries))) i) (is_gone conn entries)))
     keeps
 
 -- a close: its connection was open, or it is gone
@@ -72,15 +72,15 @@ closing_may true false gone false false stays same = refl
 closing_may false true gone false false stays same = refl
 closing_may false false gone false false stays same = refl
 
-pub keeps_closing : (bounds : Bounds) (entries : List Entry) (sends : List Send) (closed : ℕ) (ledger : Ledger) → heeded bounds (events_in entries) ≡ events_in entries
-    → heeded bounds (events_in (entries ++ Took (Closes closed) ∷ [])) ≡ events_in entries ++ Closes closed ∷ [] → closes closed (heeded bounds (events_in entries)) ≡ false
+pub keeps_closing : (bounds : Bounds) (entries : List Entry) (sends : List Send) (closed : ℕ) (ledger : Ledger) → heeded bounds (events_of bounds entries) ≡ events_of bounds entries
+    → heeded bounds (events_of bounds (entries ++ Took (Closes closed) ∷ [])) ≡ events_of bounds entries ++ Closes closed ∷ [] → closes closed (heeded bounds (events_of bounds entries)) ≡ false
     → KeepsReplies bounds entries None sends ledger → KeepsReplies bounds (entries ++ Took (Closes closed) ∷ []) (Some closed) sends ledger
 keeps_closing bounds entries sends closed ledger all heeds stays keeps =
     keeps_still bounds entries (Some closed) sends (Closes closed) ledger
-    (λ conn. opened_behind bounds entries (Closes closed) conn all heeds ∙ or-false (opens conn (heeded bounds (events_in entries))))
+    (λ conn. opened_behind bounds entries (Closes closed) conn all heeds ∙ or-false (opens conn (heeded bounds (events_of bounds entries))))
     (λ conn. (λ i. if conn == closed then opened_behind bounds entries (Closes closed) conn all heeds i && not (gone-took conn entries (Closes closed) i) else open_behind bounds entries (Closes closed) conn all heeds i)
-    ∙ closing_may (opens conn (heeded bounds (events_in entries))) (closes conn (heeded bounds (events_in entries))) (is_gone conn entries) (closed == conn) (conn == closed)
-    (λ here. ap (λ (n : ℕ). closes n (heeded bounds (events_in entries))) (eqb-true conn closed here) ∙ stays) (eqb_turns closed conn))
+    ∙ closing_may (opens conn (heeded bounds (events_of bounds entries))) (closes conn (heeded bounds (events_of bounds entries))) (is_gone conn entries) (closed == conn) (conn == closed)
+    (λ here. ap (λ (n : ℕ). closes n (heeded bounds (events_of bounds entries))) (eqb-true conn closed here) ∙ stays) (eqb_turns closed conn))
     keeps
 
 -- an opening: its connection is new to the ledger
@@ -88,7 +88,7 @@ pub known_none : {X : Type 0} (found : Option X) → is_some found ≡ false →
 known_none None h = refl
 known_none (Some found) h = absurd (true≢false h)
 
-pub is_unknown : (bounds : Bounds) (entries : List Entry) (sends : List Send) (closing : Option ℕ) (ledger : Ledger) (conn : ℕ) → KeepsReplies bounds entries closing sends ledger → opens conn (heeded bounds (events_in entries)) ≡ false → connection_of ledger.connections conn ≡ None
+pub is_unknown : (bounds : Bounds) (entries : List Entry) (sends : List Send) (closing : Option ℕ) (ledger : Ledger) (conn : ℕ) → KeepsReplies bounds entries closing sends ledger → opens conn (heeded bounds (events_of bounds entries)) ≡ false → connection_of ledger.connections conn ≡ None
 is_unknown bounds entries sends closing ledger conn keeps fresh = known_none (connection_of ledger.connections conn) (keeps.opened conn ∙ fresh)
 
 opened_known : (connections : List Connection) (place conn : ℕ) (b : Bool) → conn == place ≡ b → connection_of connections place ≡ None → is_some (connection_of (connections ++ new_connection place ∷ []) conn) ≡ (is_some (connection_of connections conn) || b)
@@ -135,9 +135,9 @@ opening_given_up ledger sends pieces place conn opened closed gone true p none s
     omega arith
 opening_given_up ledger sends pieces place conn opened closed gone false p none shows was passes = was ((λ i. open_of (sym (or-false opened) i) (sym (or-false closed) i) gone) ∙ passes)
 
-pub keeps_opening : (bounds : Bounds) (entries : List Entry) (sends : List Send) (place : ℕ) (ledger : Ledger) → heeded bounds (events_in entries) ≡ events_in entries
-    → heeded bounds (events_in (entries ++ Took (Opens place) ∷ [])) ≡ events_in entries ++ Opens place ∷ []
-    → opens place (heeded bounds (events_in entries)) ≡ false → closes place (heeded bounds (events_in entries)) ≡ false
+pub keeps_opening : (bounds : Bounds) (entries : List Entry) (sends : List Send) (place : ℕ) (ledger : Ledger) → heeded bounds (events_of bounds entries) ≡ events_of bounds entries
+    → heeded bounds (events_of bounds (entries ++ Took (Opens place) ∷ [])) ≡ events_of bounds entries ++ Opens place ∷ []
+    → opens place (heeded bounds (events_of bounds entries)) ≡ false → closes place (heeded bounds (events_of bounds entries)) ≡ false
     → KeepsReplies bounds entries None sends ledger → KeepsReplies bounds (entries ++ Took (Opens place) ∷ []) None sends (with_connection ledger place)
 keeps_opening bounds entries sends place ledger all heeds fresh stays keeps = record {
   shows = subst (Shows (with_connection ledger place) sends) (sym (passed_in-took bounds entries opening)) (shows-opens ledger sends (passed_in bounds entries) place none keeps.shows);
@@ -155,10 +155,10 @@ keeps_opening bounds entries sends place ledger all heeds fresh stays keeps = re
     opening = Opens place
 
     was_opened : ℕ → Bool
-    was_opened conn = opens conn (heeded bounds (events_in entries))
+    was_opened conn = opens conn (heeded bounds (events_of bounds entries))
 
     was_closed : ℕ → Bool
-    was_closed conn = closes conn (heeded bounds (events_in entries))
+    was_closed conn = closes conn (heeded bounds (events_of bounds entries))
 
     none : connection_of ledger.connections place ≡ None
     none = is_unknown bounds entries sends None ledger place keeps fresh

@@ -1,7 +1,7 @@
 -- The next part of a ledger that is ready is a piece that is due, and the ledger is ready behind it.
 use Rattle.reply_ledger.specs.Ledger as ledgers
 use Rattle.session_history.specs.Opened.{is_open}
-use Rattle.link_gate.proofs.Terms.{Bool, List, None, Option, Some, [], ap, append_assoc, arith, cond, false, inl, inr, length, length-append, not, refl, sym, take, true, ℕ, ◌&&◌, ◌++◌, ◌<◌, ◌∙◌, ◌∷◌, ◌≡◌, and_from, and_parts, eq-eqb, eqb-true, true≢false, Send, Entry, Gave, Told, events_in, IsFirst, IsNext, IsRest, first_next, Ledger, IsClosing, IsReady, Bounds, heeded, may_pass, GoesBefore, Rules, is_close_of, is_closed_by, is_closing, then_entry, closes, is_gone, opens, IsOwed, IsPassed, Latest, Moment, Stands, journal, latest}
+use Rattle.link_gate.proofs.Terms.{Bool, List, None, Option, Some, [], ap, append_assoc, arith, cond, false, inl, inr, length, length-append, not, refl, sym, take, true, ℕ, ◌&&◌, ◌++◌, ◌<◌, ◌∙◌, ◌∷◌, ◌≡◌, and_from, and_parts, eq-eqb, eqb-true, true≢false, Send, Entry, Gave, Told, IsFirst, IsNext, IsRest, first_next, Ledger, IsClosing, IsReady, Bounds, events_of, heeded, may_pass, GoesBefore, Rules, is_close_of, is_closed_by, is_closing, then_entry, closes, is_gone, opens, IsOwed, IsPassed, Latest, Moment, Stands, journal, latest}
 use Rattle.link_gate.proofs.MomentLemmas.{latest-gave, journal-then, not_gone, open_not_gone, open_before, closes-gave, is_closing-gave, owed_then, owed_before, owed_open, passed_then}
 use Rattle.link_gate.proofs.DueLemmas.{front_of, IsKept, passed_unless_left, first_stands, first_due}
 use Rattle.link_gate.proofs.GoingLemmas.{IsPiece, Moved}
@@ -71,17 +71,17 @@ until_then rules sends moment until ledger new_ledger conn old new ready moved =
 -- the connection whose close was heard is the closing one, and no other is
 closing_is : (rules : Rules) (sends : List Send) (moment : Moment) (conn : ℕ) (ledger : Ledger) → IsClosing rules sends moment conn ledger → is_closing rules.bounds moment conn ≡ true
 closing_is rules sends moment conn ledger closing =
-    and_from (is_closed_by (latest moment.since) conn) (closes conn (heeded rules.bounds (events_in (journal moment))))
+    and_from (is_closed_by (latest moment.since) conn) (closes conn (heeded rules.bounds (events_of rules.bounds (journal moment))))
     (ap (λ (l : Option Latest). is_closed_by l conn) closing.is_last ∙ ap (is_close_of conn) closing.closes ∙ eq-eqb conn conn refl) closing.closed
 
 only_closing : (rules : Rules) (sends : List Send) (moment : Moment) (conn : ℕ) (ledger : Ledger) (q : ℕ) → IsClosing rules sends moment conn ledger → is_closing rules.bounds moment q ≡ true → q ≡ conn
 only_closing rules sends moment conn ledger q closing h =
-    let parts = and_parts (is_closed_by (latest moment.since) q) (closes q (heeded rules.bounds (events_in (journal moment)))) h in
+    let parts = and_parts (is_closed_by (latest moment.since) q) (closes q (heeded rules.bounds (events_of rules.bounds (journal moment)))) h in
     sym (eqb-true conn q (sym (ap (λ (l : Option Latest). is_closed_by l q) closing.is_last ∙ ap (is_close_of q) closing.closes) ∙ parts.0))
 
 -- what may be passed to it
-pub may_rest : (bounds : Bounds) (entries : List Entry) (conn : ℕ) → may_pass bounds entries (Some conn) conn ≡ (opens conn (heeded bounds (events_in entries)) && not (is_gone conn entries))
-may_rest bounds entries conn = ap (λ (b : Bool). cond b (opens conn (heeded bounds (events_in entries)) && not (is_gone conn entries)) (is_open bounds entries conn)) (eq-eqb conn conn refl)
+pub may_rest : (bounds : Bounds) (entries : List Entry) (conn : ℕ) → may_pass bounds entries (Some conn) conn ≡ (opens conn (heeded bounds (events_of bounds entries)) && not (is_gone conn entries))
+may_rest bounds entries conn = ap (λ (b : Bool). cond b (opens conn (heeded bounds (events_of bounds entries)) && not (is_gone conn entries)) (is_open bounds entries conn)) (eq-eqb conn conn refl)
 
 not_true : (a g : Bool) → (a && not g) ≡ true → g ≡ false
 not_true true true h = absurd (true≢false (sym h))
@@ -109,7 +109,7 @@ rest_piece rules sends moment conn ledger bytes closing rest opened =
       whole =
           first_due rules sends moment (Some conn) ledger conn bytes closing.keeps closing.fronts may rest.first
           (closing.owed rest.first.send (first_stands sends ledger conn bytes closing.keeps.shows.kept rest.first) rest.first.to
-          (not_true (opens conn (heeded rules.bounds (events_in (journal moment)))) (is_gone conn (journal moment)) (sym (may_rest rules.bounds (journal moment) conn) ∙ may)))
+          (not_true (opens conn (heeded rules.bounds (events_of rules.bounds (journal moment)))) (is_gone conn (journal moment)) (sym (may_rest rules.bounds (journal moment) conn) ∙ may)))
           (rest_order rules sends moment conn ledger bytes closing rest may);
       next = (λ count few. first_next ledger conn bytes count rest.first few);
     }
@@ -121,7 +121,7 @@ rest_then rules sends moment conn ledger new_ledger old new closing moved =
     record {
       keeps = moved.keeps;
       fronts = moved.fronts;
-      closed = ap (λ (es : List Entry). closes conn (heeded rules.bounds (events_in es))) (journal-then moment e) ∙ closes-gave rules.bounds (journal moment) conn moved.bytes moved.gone conn ∙ closing.closed;
+      closed = ap (λ (es : List Entry). closes conn (heeded rules.bounds (events_of rules.bounds es))) (journal-then moment e) ∙ closes-gave rules.bounds (journal moment) conn moved.bytes moved.gone conn ∙ closing.closed;
       last = closing.last;
       is_last = latest-gave moment.since conn moved.bytes moved.gone ∙ closing.is_last;
       closes = closing.closes;

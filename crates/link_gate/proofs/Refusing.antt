@@ -1,7 +1,6 @@
 -- Which events are refused, and what they bring.
-use Rattle.links.proofs.Journaled.{events_in-append}
 use Rattle.item_log.specs.Heard.{Heard}
-use Rattle.link_gate.proofs.Terms.{Bool, List, None, Option, Some, [], ap, append-nil, arith, cond, drop, false, if◌then◌else◌, length, length-append, refl, subst, sym, true, ◌++◌, ◌+◌, ◌<◌, ◌∙◌, ◌∷◌, ◌≡◌, ◌≤◌, le-leb, le-ltb, leb-false, lt-leb, lt-ltb, true≢false, option_map, unwrap_or, is_none, nat_le, nat_lt, Entry, Took, LinkEvent, Ends, events_in, Framing, one_more_event, logs_show, shown_items, behind_items, hear, heard, items_by, items_of, Fits, Log, Passes, Shows, logged, with_heard, one_more_heeded, refused_unheeded, IsHeeded, Bounds, LimitEvents, LimitItems, TooLong, Unheeded, heeded, heeded_behind, items_in, refusal, KeepsItems}
+use Rattle.link_gate.proofs.Terms.{Bool, List, None, Option, Some, [], ap, append-nil, arith, cond, drop, false, if◌then◌else◌, length, length-append, refl, subst, sym, true, ◌++◌, ◌+◌, ◌<◌, ◌∙◌, ◌∷◌, ◌≡◌, ◌≤◌, le-leb, le-ltb, leb-false, lt-leb, lt-ltb, true≢false, option_map, unwrap_or, is_none, nat_le, nat_lt, Entry, Took, LinkEvent, Ends, events_in, Framing, one_more_event, logs_show, shown_items, behind_items, hear, heard, items_by, items_of, Fits, Log, Passes, Shows, logged, with_heard, events_of-append, one_more_heeded, refused_unheeded, IsHeeded, Bounds, LimitEvents, LimitItems, TooLong, Unheeded, events_of, heeded, heeded_behind, items_in, refusal, KeepsItems}
 
 -- by three tests
 abbrev pub refused_by : Bool → Bool → Bool → Option Unheeded
@@ -37,8 +36,8 @@ few_heeded bounds events all = let h : 0 + length events ≤ bounds.max_events =
 abbrev pub IsEvent : LinkEvent → Type 0
 IsEvent event = events_in (Took event ∷ []) ≡ event ∷ []
 
-pub events_behind : (entries : List Entry) (event : LinkEvent) → IsEvent event → events_in (entries ++ Took event ∷ []) ≡ events_in entries ++ event ∷ []
-events_behind entries event one = events_in-append entries (Took event ∷ []) ∙ ap (λ more. events_in entries ++ more) one
+pub events_behind : (bounds : Bounds) (entries : List Entry) (event : LinkEvent) → IsEvent event → events_of bounds (entries ++ Took event ∷ []) ≡ events_of bounds entries ++ event ∷ []
+events_behind bounds entries event one = events_of-append bounds entries (Took event ∷ []) ∙ ap (λ more. events_of bounds entries ++ more) one
 
 -- what a log heard of its events
 abbrev whole : (framing : Framing) (events : List LinkEvent) (log : Log) → Shows framing events log → Heard
@@ -103,43 +102,43 @@ not_refused bounds events event log shows most few = by (logged log event) refl
         (le-ltb bounds.max_items (length (items_of bounds.framing (events ++ event ∷ []))) (omega (arith, fits, (shown_items bounds.framing (events ++ event ∷ []) new later).0, most)))
 
 -- an event that is heeded brings its items, and the log shows it
-pub brings_more : (bounds : Bounds) (entries : List Entry) (event : LinkEvent) (log : Log) → IsEvent event → KeepsItems bounds entries log → refusal bounds (events_in entries) event ≡ None
+pub brings_more : (bounds : Bounds) (entries : List Entry) (event : LinkEvent) (log : Log) → IsEvent event → KeepsItems bounds entries log → refusal bounds (events_of bounds entries) event ≡ None
     → items_in bounds (entries ++ Took event ∷ []) ≡ items_in bounds entries ++ items_by (hear bounds.framing log.rests event)
 brings_more bounds entries event log one keeps fine =
-    ap (λ events. items_of bounds.framing (heeded bounds events)) (events_behind entries event one)
-    ∙ ap (items_of bounds.framing) (one_more_heeded bounds (events_in entries) event keeps.all_heeded fine)
-    ∙ items_behind bounds.framing (events_in entries) event log keeps.shows
+    ap (λ events. items_of bounds.framing (heeded bounds events)) (events_behind bounds entries event one)
+    ∙ ap (items_of bounds.framing) (one_more_heeded bounds (events_of bounds entries) event keeps.all_heeded fine)
+    ∙ items_behind bounds.framing (events_of bounds entries) event log keeps.shows
     ∙ ap (λ events. items_of bounds.framing events ++ items_by (hear bounds.framing log.rests event)) (sym keeps.all_heeded)
 
-pub is_heeded : (bounds : Bounds) (entries : List Entry) (event : LinkEvent) (log : Log) → IsEvent event → KeepsItems bounds entries log → length (events_in entries) < bounds.max_events → Fits log.max_items (logged log event) → IsHeeded bounds entries event
+pub is_heeded : (bounds : Bounds) (entries : List Entry) (event : LinkEvent) (log : Log) → IsEvent event → KeepsItems bounds entries log → length (events_of bounds entries) < bounds.max_events → Fits log.max_items (logged log event) → IsHeeded bounds entries event
 is_heeded bounds entries event log one keeps few fits =
-    let fine = not_refused bounds (events_in entries) event log keeps.shows keeps.most few fits in
+    let fine = not_refused bounds (events_of bounds entries) event log keeps.shows keeps.most few fits in
     record { allowed = fine; more = items_by (hear bounds.framing log.rests event); brings = brings_more bounds entries event log one keeps fine }
 
-pub heeded_with : (bounds : Bounds) (entries : List Entry) (event : LinkEvent) → IsEvent event → heeded bounds (events_in entries) ≡ events_in entries → refusal bounds (events_in entries) event ≡ None
-    → heeded bounds (events_in (entries ++ Took event ∷ [])) ≡ events_in entries ++ event ∷ []
-heeded_with bounds entries event one all fine = ap (heeded bounds) (events_behind entries event one) ∙ one_more_heeded bounds (events_in entries) event all fine
+pub heeded_with : (bounds : Bounds) (entries : List Entry) (event : LinkEvent) → IsEvent event → heeded bounds (events_of bounds entries) ≡ events_of bounds entries → refusal bounds (events_of bounds entries) event ≡ None
+    → heeded bounds (events_of bounds (entries ++ Took event ∷ [])) ≡ events_of bounds entries ++ event ∷ []
+heeded_with bounds entries event one all fine = ap (heeded bounds) (events_behind bounds entries event one) ∙ one_more_heeded bounds (events_of bounds entries) event all fine
 
-pub keeps_items : (bounds : Bounds) (entries : List Entry) (event : LinkEvent) (log new : Log) → IsEvent event → KeepsItems bounds entries log → refusal bounds (events_in entries) event ≡ None → logged log event ≡ Some new → KeepsItems bounds (entries ++ Took event ∷ []) new
+pub keeps_items : (bounds : Bounds) (entries : List Entry) (event : LinkEvent) (log new : Log) → IsEvent event → KeepsItems bounds entries log → refusal bounds (events_of bounds entries) event ≡ None → logged log event ≡ Some new → KeepsItems bounds (entries ++ Took event ∷ []) new
 keeps_items bounds entries event log new one keeps fine is = record {
-  all_heeded = heeded_with bounds entries event one keeps.all_heeded fine ∙ sym (events_behind entries event one);
-  shows = subst (λ events. Shows bounds.framing events new) (sym (events_behind entries event one)) (logged_shows bounds.framing (events_in entries) event log new keeps.shows is);
+  all_heeded = heeded_with bounds entries event one keeps.all_heeded fine ∙ sym (events_behind bounds entries event one);
+  shows = subst (λ events. Shows bounds.framing events new) (sym (events_behind bounds entries event one)) (logged_shows bounds.framing (events_of bounds entries) event log new keeps.shows is);
   most = (logged_keeps log new event is).1 ∙ keeps.most;
 }
 
 -- an event that is refused isn't heeded, and brings none
-pub heeded_without : (bounds : Bounds) (entries : List Entry) (event : LinkEvent) (cause : Unheeded) → IsEvent event → heeded bounds (events_in entries) ≡ events_in entries → refusal bounds (events_in entries) event ≡ Some cause
-    → heeded bounds (events_in (entries ++ Took event ∷ [])) ≡ heeded bounds (events_in entries)
+pub heeded_without : (bounds : Bounds) (entries : List Entry) (event : LinkEvent) (cause : Unheeded) → IsEvent event → heeded bounds (events_of bounds entries) ≡ events_of bounds entries → refusal bounds (events_of bounds entries) event ≡ Some cause
+    → heeded bounds (events_of bounds (entries ++ Took event ∷ [])) ≡ heeded bounds (events_of bounds entries)
 heeded_without bounds entries event cause one all refused =
-    ap (heeded bounds) (events_behind entries event one) ∙ refused_unheeded bounds (events_in entries) event all (ap is_none refused) ∙ sym all
+    ap (heeded bounds) (events_behind bounds entries event one) ∙ refused_unheeded bounds (events_of bounds entries) event all (ap is_none refused) ∙ sym all
 
 -- the end of a link is no event
-pub events_ended : (entries : List Entry) → events_in (entries ++ Took Ends ∷ []) ≡ events_in entries
-events_ended entries = events_in-append entries (Took Ends ∷ []) ∙ append-nil (events_in entries)
+pub events_ended : (bounds : Bounds) (entries : List Entry) → events_of bounds (entries ++ Took Ends ∷ []) ≡ events_of bounds entries
+events_ended bounds entries = events_of-append bounds entries (Took Ends ∷ []) ∙ append-nil (events_of bounds entries)
 
 pub items_ended : (bounds : Bounds) (entries : List Entry) (log : Log) → KeepsItems bounds entries log → KeepsItems bounds (entries ++ Took Ends ∷ []) log
 items_ended bounds entries log keeps = record {
-  all_heeded = ap (heeded bounds) (events_ended entries) ∙ keeps.all_heeded ∙ sym (events_ended entries);
-  shows = subst (λ events. Shows bounds.framing events log) (sym (events_ended entries)) keeps.shows;
+  all_heeded = ap (heeded bounds) (events_ended bounds entries) ∙ keeps.all_heeded ∙ sym (events_ended bounds entries);
+  shows = subst (λ events. Shows bounds.framing events log) (sym (events_ended bounds entries)) keeps.shows;
   most = keeps.most;
 }

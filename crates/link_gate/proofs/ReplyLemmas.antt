@@ -1,7 +1,7 @@
 -- What the ledger of a session says of what was passed, and what a close and a send make of it. Who passes replies by it cites these.
 use Rattle.reply_ledger.specs.Ledger as ledgers
 use Rattle.session_history.specs.Opened.{is_open}
-use Rattle.link_gate.proofs.Terms.{Bool, List, None, Option, Some, [], ap, append-nil, append_assoc, arith, cond, eqb, false, length, not, refl, subst, sym, true, ℕ, ◌&&◌, ◌++◌, ◌∙◌, ◌∷◌, ◌≡◌, ◌≤◌, and_right, eq-eqb, eqb-true, ne_eqb, true≢false, take-append-le, option_map, option_map_or, is_some, Send, sent_to, Entry, Gave, Took, events_in, connection_of-changed, next_none, rest_none, shows-marked, shows-sent, prefix-le, Connection, IsOpened, Ledger, changed, closed_connection, connection_of, with_change, with_send, next_part, rest_part, prefix_sent, AreDuePieces, AreFronts, then_entries, Bounds, heeded, AreSendable, IsSendable, KeepsReplies, may_pass, IsDuePiece, Rules, then_entry, closes, is_gone, opens, IsPassed, Moment, Stands, journal, passed_in}
+use Rattle.link_gate.proofs.Terms.{Bool, List, None, Option, Some, [], ap, append-nil, append_assoc, arith, cond, eqb, false, length, not, refl, subst, sym, true, ℕ, ◌&&◌, ◌++◌, ◌∙◌, ◌∷◌, ◌≡◌, ◌≤◌, and_right, eq-eqb, eqb-true, ne_eqb, true≢false, take-append-le, option_map, option_map_or, is_some, Send, sent_to, Entry, Gave, Took, connection_of-changed, next_none, rest_none, shows-marked, shows-sent, prefix-le, Connection, IsOpened, Ledger, changed, closed_connection, connection_of, with_change, with_send, next_part, rest_part, prefix_sent, AreDuePieces, AreFronts, then_entries, Bounds, events_of, heeded, AreSendable, IsSendable, KeepsReplies, may_pass, IsDuePiece, Rules, then_entry, closes, is_gone, opens, IsPassed, Moment, Stands, journal, passed_in}
 use Rattle.link_gate.proofs.MomentLemmas.{journal-then}
 use Rattle.link_gate.proofs.KeepLemmas.{known-changed}
 use Rattle.link_gate.proofs.DueLemmas.{front_of, stands_front, passed_unless_left, fronts_then}
@@ -15,7 +15,7 @@ nothing_waits bounds entries sends ledger until keeps fronts none send stands op
     (λ kept. next_none ledger until none kept.front send stands.later kept.kept (keeps.may send.conn ∙ opened) in_time)
 
 -- nothing was sent to a connection that wasn't opened
-sent_nothing : (bounds : Bounds) (entries : List Entry) (closing : Option ℕ) (sends : List Send) (ledger : Ledger) (conn : ℕ) → KeepsReplies bounds entries closing sends ledger → opens conn (heeded bounds (events_in entries)) ≡ false → sent_to conn sends ≡ []
+sent_nothing : (bounds : Bounds) (entries : List Entry) (closing : Option ℕ) (sends : List Send) (ledger : Ledger) (conn : ℕ) → KeepsReplies bounds entries closing sends ledger → opens conn (heeded bounds (events_of bounds entries)) ≡ false → sent_to conn sends ≡ []
 sent_nothing bounds entries closing sends ledger conn keeps unopened = keeps.shows.opened conn (of (connection_of ledger.connections conn) (keeps.opened conn ∙ unopened))
   where
     of : (o : Option Connection) → is_some o ≡ false → o ≡ None
@@ -25,9 +25,9 @@ sent_nothing bounds entries closing sends ledger conn keeps unopened = keeps.sho
 -- where a closing connection that isn't gone has no rest, each send to it was passed
 pub no_rest : (bounds : Bounds) (entries : List Entry) (sends : List Send) (ledger : Ledger) (conn : ℕ) → KeepsReplies bounds entries (Some conn) sends ledger → AreFronts (passed_in bounds entries) sends → is_gone conn entries ≡ false → rest_part ledger conn ≡ None
     → (send : Send) (stands : Stands sends send) → send.conn ≡ conn → IsPassed bounds entries sends send stands
-no_rest bounds entries sends ledger conn keeps fronts stays none send stands to = of (opens conn (heeded bounds (events_in entries))) refl
+no_rest bounds entries sends ledger conn keeps fronts stays none send stands to = of (opens conn (heeded bounds (events_of bounds entries))) refl
   where
-    of : (b : Bool) → opens conn (heeded bounds (events_in entries)) ≡ b → IsPassed bounds entries sends send stands
+    of : (b : Bool) → opens conn (heeded bounds (events_of bounds entries)) ≡ b → IsPassed bounds entries sends send stands
     of true is =
         let may : may_pass bounds entries (Some conn) send.conn ≡ true = ap (may_pass bounds entries (Some conn)) to ∙ may_rest bounds entries conn ∙ (λ i. is i && not (stays i)) in
         passed_unless_left bounds entries (Some conn) sends ledger send stands keeps fronts may (λ kept. rest_none ledger conn none kept.front send stands.later kept.kept to)
@@ -62,7 +62,7 @@ and_all true = refl
 and_all false = refl
 
 -- the ledger beside the journal once a close is marked that was heeded
-closed_may : (bounds : Bounds) (entries : List Entry) (conn q : ℕ) → closes conn (heeded bounds (events_in entries)) ≡ true → (may_pass bounds entries (Some conn) q && not (eqb conn q)) ≡ is_open bounds entries q
+closed_may : (bounds : Bounds) (entries : List Entry) (conn q : ℕ) → closes conn (heeded bounds (events_of bounds entries)) ≡ true → (may_pass bounds entries (Some conn) q && not (eqb conn q)) ≡ is_open bounds entries q
 closed_may bounds entries conn q closed = of (eqb conn q) refl
   where
     shut : (o c g : Bool) → c ≡ true → false ≡ (o && not c && not g)
@@ -74,12 +74,12 @@ closed_may bounds entries conn q closed = of (eqb conn q) refl
     of true is =
         let same : conn ≡ q = eqb-true conn q is in
         ap (λ (b : Bool). may_pass bounds entries (Some conn) q && not b) is ∙ and_right (may_pass bounds entries (Some conn) q) false refl
-        ∙ shut (opens q (heeded bounds (events_in entries))) (closes q (heeded bounds (events_in entries))) (is_gone q entries) (subst (λ (c : ℕ). closes c (heeded bounds (events_in entries)) ≡ true) same closed)
+        ∙ shut (opens q (heeded bounds (events_of bounds entries))) (closes q (heeded bounds (events_of bounds entries))) (is_gone q entries) (subst (λ (c : ℕ). closes c (heeded bounds (events_of bounds entries)) ≡ true) same closed)
     of false is =
         ap (λ (b : Bool). may_pass bounds entries (Some conn) q && not b) is ∙ and_all (may_pass bounds entries (Some conn) q)
-        ∙ ap (λ (b : Bool). cond b (opens q (heeded bounds (events_in entries)) && not (is_gone q entries)) (is_open bounds entries q)) (ne_eqb q conn (λ same. true≢false (sym (eq-eqb conn q (sym same)) ∙ is)))
+        ∙ ap (λ (b : Bool). cond b (opens q (heeded bounds (events_of bounds entries)) && not (is_gone q entries)) (is_open bounds entries q)) (ne_eqb q conn (λ same. true≢false (sym (eq-eqb conn q (sym same)) ∙ is)))
 
-pub closed_keeps : (bounds : Bounds) (entries : List Entry) (sends : List Send) (ledger : Ledger) (conn : ℕ) → KeepsReplies bounds entries (Some conn) sends ledger → closes conn (heeded bounds (events_in entries)) ≡ true
+pub closed_keeps : (bounds : Bounds) (entries : List Entry) (sends : List Send) (ledger : Ledger) (conn : ℕ) → KeepsReplies bounds entries (Some conn) sends ledger → closes conn (heeded bounds (events_of bounds entries)) ≡ true
     → KeepsReplies bounds entries None sends (with_change ledger conn closed_connection)
 closed_keeps bounds entries sends ledger conn keeps closed = record {
   shows = shows-marked ledger sends (passed_in bounds entries) conn closed_connection (λ c. refl) (λ c. refl) (λ c. refl) keeps.shows;

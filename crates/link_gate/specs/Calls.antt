@@ -3,7 +3,7 @@ use Rattle.std.specs.Prelude.{◌≡◌, ℕ, ◌≤◌, List, [], ◌∷◌, �
 use Rattle.links.specs.declared.journal.Entry.TheVariants as entry
 use Rattle.links.specs.declared.journal.LinkEvent.TheVariants as event
 use Rattle.session_history.specs.Heeding as unheeded
-use Rattle.link_gate.specs.Terms.{Rose, Send, Entry, LinkEvent, Coming, Counts, IsNext, Refuses, Tells, Told, events_in, Seen, IsPieceOf, Log, Ledger, is_open, stamped_to, IsHeard, IsHeeded, IsUnheeded, Bounds, KeepsItems, KeepsPhases, KeepsReplies, HearFault, Heard}
+use Rattle.link_gate.specs.Terms.{Rose, Send, Entry, LinkEvent, Coming, Counts, IsNext, Refuses, Tells, Told, Seen, IsPieceOf, Log, Ledger, is_open, stamped_to, IsHeard, IsHeeded, IsUnheeded, Bounds, events_of, KeepsItems, KeepsPhases, KeepsReplies, HearFault, Heard}
 use Rattle.link_gate.specs.declared.heard.Heard.TheVariants as heard
 use Rattle.link_gate.specs.declared.heard.HearFault.TheVariants as fault
 
@@ -23,7 +23,7 @@ Takes old new event = Tells old new (entry.Took event ∷ [])
 abbrev pub HearsBy : Bounds → List Entry → List Send → Log → Ledger → ℕ → Seen → Seen → Result Heard HearFault → Type 0
 HearsBy bounds entries sends log ledger events old new (Ok answer) =
     (event : LinkEvent) × IsShown event answer × Takes old.told new.told event × IsHeard bounds entries sends event log ledger
-    × KeepsPhases (entries ++ entry.Took event ∷ []) new.phases × (events ≡ length (events_in (entries ++ entry.Took event ∷ [])))
+    × KeepsPhases bounds (entries ++ entry.Took event ∷ []) new.phases × (events ≡ length (events_of bounds (entries ++ entry.Took event ∷ [])))
 HearsBy bounds entries sends log ledger events old new (Err (fault.Refused kind offset)) =
     Tells old.told new.told [] × IfSome old.coming (λ next. next ≡ Refuses kind offset) × KeepsReplies bounds entries None sends ledger
 HearsBy bounds entries sends log ledger events old new (Err fault.ReadFault) = Tells old.told new.told [] × KeepsReplies bounds entries None sends ledger
@@ -65,10 +65,10 @@ pub record MayHear (log : Log) (ledger : Ledger) (seen : Seen) (events most : �
   pub entries : List Entry
   pub sends : List Send
   pub limit : most ≡ bounds.max_events
-  pub counted : events ≡ length (events_in entries)
+  pub counted : events ≡ length (events_of bounds entries)
   pub items : KeepsItems bounds entries log
   pub replies : KeepsReplies bounds entries None sends ledger
-  pub is_at : KeepsPhases entries seen.phases
+  pub is_at : KeepsPhases bounds entries seen.phases
   pub takes : seen.takes ≡ true
 
 -- no count falls, and ReadFault is answered only where that of failed takes rose

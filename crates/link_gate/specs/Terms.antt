@@ -29,7 +29,7 @@ unfoldable pub use Rattle.reply_ledger.specs.Parts.{next_part, rest_part, unpass
 unfoldable pub use Rattle.reply_ledger.specs.Shows.{stamped_of}
 pub use Rattle.session_history.specs.Giving.{AreDuePieces, AreFronts, HasHanded, IsClosing, IsReady, PassesBy, PassesRest, then_entries}
 pub use Rattle.session_history.specs.Hearing.{IsHeard, IsHeeded, IsUnheeded, closing_of}
-pub use Rattle.session_history.specs.Heeding.{Bounds, LimitEvents, LimitItems, TooLong, Unheeded, heeded, items_in, received, refusal}
+pub use Rattle.session_history.specs.Heeding.{Bounds, LimitEvents, LimitItems, TooLong, Unheeded, events_of, heeded, items_in, received, refusal}
 unfoldable pub use Rattle.session_history.specs.Heeding.{heeded_behind}
 pub use Rattle.session_history.specs.Keeping.{AreSendable, IsSendable, KeepsItems, KeepsPhases, KeepsReplies, may_pass, phase_after}
 pub use Rattle.session_history.specs.Lawful.{GoesBefore, IsDuePiece, IsWholePiece, Rules, is_close_of, is_closed_by, is_closing, then_entry}

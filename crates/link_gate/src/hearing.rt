@@ -2,8 +2,7 @@
 ghost use Rattle.std.specs.Prelude.{◌≡◌, ◌≢◌, List, length, None};
 ghost use Rattle.links.specs.declared.journal.Entry.{Entry};
 ghost use Rattle.rx_io.specs.Sends.{Send};
-ghost use Rattle.links.specs.Links.{events_in};
-ghost use Rattle.session_history.specs.Heeding.{Bounds};
+ghost use Rattle.session_history.specs.Heeding.{Bounds, events_of};
 ghost use Rattle.session_history.specs.Keeping.{KeepsReplies, KeepsItems, KeepsPhases};
 ghost use Rattle.links.specs.declared.journal.LinkFault.TheVariants.{WriteFault};
 ghost use Rattle.link_gate.specs.Taking.{IsFaultOf};
@@ -31,8 +30,8 @@ pub fn hear<K: Link>(
     max_events: u64,
 ) -> Result<Heard, HearFault>
     requires { MayHear log.old replies.old (K.seen link.old) events.old max_events }
-    ensures hears { (bounds : Bounds) (entries : List Entry) (sends : List Send) → bounds.max_events ≡ max_events → events.old ≡ length (events_in entries)
-        → KeepsItems bounds entries log.old → KeepsReplies bounds entries None sends replies.old → KeepsPhases entries (K.seen link.old).phases
+    ensures hears { (bounds : Bounds) (entries : List Entry) (sends : List Send) → bounds.max_events ≡ max_events → events.old ≡ length (events_of bounds entries)
+        → KeepsItems bounds entries log.old → KeepsReplies bounds entries None sends replies.old → KeepsPhases bounds entries (K.seen link.old).phases
         → HearsBy bounds entries sends log.new replies.new events.new (K.seen link.old) (K.seen link.new) result }
     ensures shows { HearShows (K.seen link.old) (K.seen link.new) replies.new result }
     ensures keeps { KeepsHearing log.old log.new replies.old replies.new events.old events.new max_events result }

@@ -12,8 +12,9 @@ use Rattle.session_history.specs.Giving.{AreGiven}
 use Rattle.session_history.specs.Lawful as lawful
 use Rattle.session_history.specs.Owing.{Moment}
 use Rattle.session_history.proofs.Ended.{came_to}
+use Rattle.session_history.proofs.Heeding.{none_had}
 use Rattle.over_port.proofs.CallLemmas.{gave, took}
-use Rattle.over_crowd.specs.Terms.{Send, sent_to, Entry, LinkEvent, ComesUntold, Coming, Grew, HasEnded, Told, last_taken, CrowdEntry, Limits, told_nothing, AreCalls, Served, entries_of, fresh_served, served_after, served_of, IsJustBound, Stands, link_journal, told_at, with_ends, Image, SessionEnd, Stop, IsBroken, Session, after_ending, journal_of, AtBreak, IsEnded, before_end, Bounds, Rules, passed_behind, Noted, Keeping, HasRecovered, IsOutcome, Outcome, RecordsAt}
+use Rattle.over_crowd.specs.Terms.{Send, sent_to, Entry, LinkEvent, ComesUntold, Coming, Grew, HasEnded, Told, last_taken, CrowdEntry, Limits, told_nothing, AreCalls, Served, entries_of, fresh_served, served_after, served_of, IsJustBound, Stands, link_journal, told_at, with_ends, Image, SessionEnd, Stop, IsBroken, Session, after_ending, journal_of, AtBreak, IsEnded, before_end, Bounds, nothing_before, Rules, passed_behind, Noted, Keeping, HasRecovered, IsOutcome, Outcome, RecordsAt}
 use Rattle.over_crowd.specs.Serving.{CalledCrowd, EndsAfter, GoesOverCrowd, ServesCrowd}
 use Rattle.over_crowd.proofs.CallLemmas.{accepted_counted, closed_counted, given_is, open_at_most, taken_is}
 
@@ -50,16 +51,17 @@ still_ended {rules = rules} session is ended =
     ap last_taken (sym (append_assoc (lawful.entries_of session.earlier) session.since (session.ending ++ session.broken))) ∙ last_behind (before_end session) (session.ending ++ session.broken) none ∙ ended
 
 -- the calls that a session's link made
-called : (limits : Limits) (rules : Rules) {image : Image} {why : Stop} (old new : List CrowdEntry) (connections : List Bool) (place : Place) (session : Session) → IsJustBound (Some old) → Calls limits old new
+called : (limits : Limits) (rules : Rules) {image : Image} {why : Stop} (old new : List CrowdEntry) (connections : List Bool) (place : Place) (session : Session) → rules.bounds.before ≡ nothing_before → IsJustBound (Some old) → Calls limits old new
     → Stands (Some new) connections limits place → link_journal place (served_of new) ≡ journal_of session → IsEnded rules image (Some ComesUntold) session why → CalledCrowd limits rules old new session
 unfolding link_journal
-called limits rules old new connections place session bound went stands journal is = record {
+called limits rules old new connections place session alone bound went stands journal is = record {
   calls = went.calls;
   grew = went.grew;
   are = are;
   made = record { ends = place.ends; ended = ended; entries_are = made };
   moved = record {
-    given = λ conn. given_is limits conn place.ends went.calls are ∙ ap (gave conn) (sym made) ∙ gave_passed rules.bounds conn [] (journal_of session);
+    given = λ conn. given_is limits conn place.ends went.calls are ∙ ap (gave conn) (sym made) ∙ gave_passed rules.bounds conn [] (journal_of session)
+        ∙ ap (λ (had : List Send). sent_to conn (had ++ passed_behind rules.bounds [] (journal_of session))) (sym (none_had rules.bounds alone));
     taken = λ conn. taken_is limits conn place.ends went.calls are ∙ ap (took conn) (sym made);
   };
   at_most = open_at_most limits went.calls are;
@@ -93,25 +95,25 @@ called limits rules old new connections place session bound went stands journal 
     ends (Some _) came = tt
 
 -- where the crowd tells them
-goes_over : (limits : Limits) (rules : Rules) {image : Image} {why : Stop} (old new : Option (List CrowdEntry)) (connections : List Bool) (place : Place) (session : Session) → IsJustBound old → WentOn limits old new
+goes_over : (limits : Limits) (rules : Rules) {image : Image} {why : Stop} (old new : Option (List CrowdEntry)) (connections : List Bool) (place : Place) (session : Session) → rules.bounds.before ≡ nothing_before → IsJustBound old → WentOn limits old new
     → Stands new connections limits place → Grew (told_nothing old).journal (told_at new place).journal (journal_of session) → IsEnded rules image (Some ComesUntold) session why → GoesOverCrowd limits rules old new session
 unfolding told_at
-goes_over limits rules None None connections place session bound went stands grew is = tt
-goes_over limits rules None (Some new) connections place session bound went stands grew is = absurd went
-goes_over limits rules (Some old) None connections place session bound went stands grew is = absurd went
-goes_over limits rules (Some old) (Some new) connections place session bound went stands grew is = called limits rules old new connections place session bound went stands grew is
+goes_over limits rules None None connections place session alone bound went stands grew is = tt
+goes_over limits rules None (Some new) connections place session alone bound went stands grew is = absurd went
+goes_over limits rules (Some old) None connections place session alone bound went stands grew is = absurd went
+goes_over limits rules (Some old) (Some new) connections place session alone bound went stands grew is = called limits rules old new connections place session alone bound went stands grew is
 
 -- a session over a link that was made over a crowd
 pub serves : (limits : Limits) (rules : Rules) (keeping : Keeping) (image : Image) {old new : Option (List CrowdEntry)} {connections : List Bool} {place : Place} (before seen : Seen) {outcome : Outcome} {noted_before noted_now : Noted} {counted : ℕ} {first last : Limits}
-    → IsJustBound old → first ≡ limits → last ≡ first → WentOn first old new → Stands new connections last place → before.told ≡ told_nothing old → seen.told ≡ told_at new place → seen.coming ≡ Some ComesUntold
+    → rules.bounds.before ≡ nothing_before → IsJustBound old → first ≡ limits → last ≡ first → WentOn first old new → Stands new connections last place → before.told ≡ told_nothing old → seen.told ≡ told_at new place → seen.coming ≡ Some ComesUntold
     → (recovered : HasRecovered rules image keeping before seen outcome noted_before noted_now counted) → AtBreak outcome.stop (RecordsAt rules image keeping recovered.telling outcome noted_before noted_now)
     → ServesCrowd limits rules keeping image old new outcome noted_before noted_now counted
 serves limits rules keeping image {old = old} {new = new} {connections = connections} {place = place} before seen {outcome = outcome} {noted_before = noted_before} {noted_now = noted_now} {counted = counted} {first = first} {last = last}
-    bound first_is last_is went stands began told coming recovered recorded = record {
+    alone bound first_is last_is went stands began told coming recovered recorded = record {
       telling = recovered.telling;
       is = is;
       recorded = recorded;
-      goes = goes_over limits rules old new connections place recovered.telling.account bound (subst (λ (l : Limits). WentOn l old new) first_is went) (subst (λ (l : Limits). Stands new connections l place) (last_is ∙ first_is) stands) grew is.is.ended;
+      goes = goes_over limits rules old new connections place recovered.telling.account alone bound (subst (λ (l : Limits). WentOn l old new) first_is went) (subst (λ (l : Limits). Stands new connections l place) (last_is ∙ first_is) stands) grew is.is.ended;
     }
   where
     is : IsOutcome rules image keeping (Some ComesUntold) recovered.telling outcome noted_before noted_now counted

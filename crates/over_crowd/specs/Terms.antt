@@ -16,7 +16,7 @@ pub use Rattle.session_history.specs.declared.ends.SessionEnd.{SessionEnd}
 pub use Rattle.session_history.specs.declared.ends.Stop.{Stop}
 pub use Rattle.session_history.specs.Account.{IsBroken, Session, after_ending, journal_of}
 pub use Rattle.session_history.specs.Ends.{AtBreak, IsEnded, answer_of, before_end}
-pub use Rattle.session_history.specs.Heeding.{Bounds}
+pub use Rattle.session_history.specs.Heeding.{Bounds, nothing_before}
 pub use Rattle.session_history.specs.Lawful.{Rules}
 pub use Rattle.session_history.specs.Passing.{passed_behind, passed_in}
 pub use Rattle.session_notes.specs.Noting.{Noted, Shown}

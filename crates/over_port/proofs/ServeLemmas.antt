@@ -14,7 +14,8 @@ use Rattle.session_history.specs.Giving.{AreGiven}
 use Rattle.session_history.specs.Lawful.{entries_of}
 use Rattle.session_history.specs.Owing.{Moment}
 use Rattle.session_history.proofs.Ended.{came_to}
-use Rattle.over_port.specs.Terms.{ListenEntry, Send, sent_to, Entry, LinkEvent, ComesUntold, Coming, Counts, Grew, HasEnded, Refuses, Told, last_taken, Place, Waiting, told_nothing, AreCalls, Port, fresh_port, port_after, port_of, IsAt, IsJustBound, Stands, link_journal, told_at, Image, Answer, SessionEnd, Stop, IsBroken, Session, after_ending, journal_of, HasAnswerCause, AtBreak, IsEnded, answer_of, before_end, Bounds, Rules, passed_behind, Noted, Keeping, HasRecovered, IsOutcome, Outcome, RecordsAt}
+use Rattle.session_history.proofs.Heeding.{none_had}
+use Rattle.over_port.specs.Terms.{ListenEntry, Send, sent_to, Entry, LinkEvent, ComesUntold, Coming, Counts, Grew, HasEnded, Refuses, Told, last_taken, Place, Waiting, told_nothing, AreCalls, Port, fresh_port, port_after, port_of, IsAt, IsJustBound, Stands, link_journal, told_at, Image, Answer, SessionEnd, Stop, IsBroken, Session, after_ending, journal_of, HasAnswerCause, AtBreak, IsEnded, answer_of, before_end, Bounds, nothing_before, Rules, passed_behind, Noted, Keeping, HasRecovered, IsOutcome, Outcome, RecordsAt}
 use Rattle.over_port.specs.Serving.{CalledPort, EndsAfter, GoesOverPort, ServesPort, port_counts}
 use Rattle.over_port.proofs.CallLemmas.{all_closed, gave, given_is, taken_is, took}
 
@@ -51,15 +52,16 @@ still_ended {rules = rules} session is ended =
     ap last_taken (sym (append_assoc (entries_of session.earlier) session.since (session.ending ++ session.broken))) ∙ last_behind (before_end session) (session.ending ++ session.broken) none ∙ ended
 
 -- the calls that a session's link made
-called : (conns : ℕ) (rules : Rules) {image : Image} {why : Stop} (old new : List ListenEntry) (connected : Bool) (place : Place) (session : Session) → IsJustBound (Some old) → Calls conns old new
+called : (conns : ℕ) (rules : Rules) {image : Image} {why : Stop} (old new : List ListenEntry) (connected : Bool) (place : Place) (session : Session) → rules.bounds.before ≡ nothing_before → IsJustBound (Some old) → Calls conns old new
     → Stands (Some new) connected conns place → link_journal place (port_of new) ≡ journal_of session → IsEnded rules image (Some ComesUntold) session why → CalledPort conns rules old new session
-called conns rules old new connected place session bound went stands journal is = record {
+called conns rules old new connected place session alone bound went stands journal is = record {
   calls = went.calls;
   grew = went.grew;
   are = are;
   made = record { place = place; stands = subst (IsAt place) leads (stands.agrees new refl); ended = stands.ended; entries_are = made };
   moved = record {
-    given = λ conn. given_is conns conn place went.calls are ∙ ap (gave conn) (sym made) ∙ gave_passed rules.bounds conn [] (journal_of session);
+    given = λ conn. given_is conns conn place went.calls are ∙ ap (gave conn) (sym made) ∙ gave_passed rules.bounds conn [] (journal_of session)
+        ∙ ap (λ (had : List Send). sent_to conn (had ++ passed_behind rules.bounds [] (journal_of session))) (sym (none_had rules.bounds alone));
     taken = λ conn. taken_is conns conn place went.calls are ∙ ap (took conn) (sym made);
   };
   ends = ends session.came refl;
@@ -85,25 +87,25 @@ called conns rules old new connected place session bound went stands journal is 
     ends (Some _) came = tt
 
 -- where the listener tells them
-goes_over : (conns : ℕ) (rules : Rules) {image : Image} {why : Stop} (old new : Option (List ListenEntry)) (connected : Bool) (place : Place) (session : Session) → IsJustBound old → WentOn conns old new
+goes_over : (conns : ℕ) (rules : Rules) {image : Image} {why : Stop} (old new : Option (List ListenEntry)) (connected : Bool) (place : Place) (session : Session) → rules.bounds.before ≡ nothing_before → IsJustBound old → WentOn conns old new
     → Stands new connected conns place → Grew (told_nothing old).journal (told_at new place).journal (journal_of session) → IsEnded rules image (Some ComesUntold) session why → GoesOverPort conns rules old new session
 unfolding told_at
-goes_over conns rules None None connected place session bound went stands grew is = tt
-goes_over conns rules None (Some new) connected place session bound went stands grew is = absurd went
-goes_over conns rules (Some old) None connected place session bound went stands grew is = absurd went
-goes_over conns rules (Some old) (Some new) connected place session bound went stands grew is = called conns rules old new connected place session bound went stands grew is
+goes_over conns rules None None connected place session alone bound went stands grew is = tt
+goes_over conns rules None (Some new) connected place session alone bound went stands grew is = absurd went
+goes_over conns rules (Some old) None connected place session alone bound went stands grew is = absurd went
+goes_over conns rules (Some old) (Some new) connected place session alone bound went stands grew is = called conns rules old new connected place session alone bound went stands grew is
 
 -- a session over a link that was made over a listener
 pub serves : (conns : ℕ) (rules : Rules) (keeping : Keeping) (image : Image) {old new : Option (List ListenEntry)} {connected : Bool} {place : Place} (before seen : Seen) {outcome : Outcome} {noted_before noted_now : Noted} {counted first last : ℕ}
-    → IsJustBound old → first ≡ conns → last ≡ first → WentOn first old new → Stands new connected last place → before.told ≡ told_nothing old → seen.told ≡ told_at new place → seen.coming ≡ Some ComesUntold
+    → rules.bounds.before ≡ nothing_before → IsJustBound old → first ≡ conns → last ≡ first → WentOn first old new → Stands new connected last place → before.told ≡ told_nothing old → seen.told ≡ told_at new place → seen.coming ≡ Some ComesUntold
     → (recovered : HasRecovered rules image keeping before seen outcome noted_before noted_now counted) → AtBreak outcome.stop (RecordsAt rules image keeping recovered.telling outcome noted_before noted_now)
     → ServesPort conns rules keeping image old new outcome noted_before noted_now counted
 serves conns rules keeping image {old = old} {new = new} {connected = connected} {place = place} before seen {outcome = outcome} {noted_before = noted_before} {noted_now = noted_now} {counted = counted} {first = first} {last = last}
-    bound first_is last_is went stands began told coming recovered recorded = record {
+    alone bound first_is last_is went stands began told coming recovered recorded = record {
       telling = recovered.telling;
       is = is;
       recorded = recorded;
-      goes = goes_over conns rules old new connected place recovered.telling.account bound (subst (λ (n : ℕ). WentOn n old new) first_is went) (subst (λ (n : ℕ). Stands new connected n place) (last_is ∙ first_is) stands) grew is.is.ended;
+      goes = goes_over conns rules old new connected place recovered.telling.account alone bound (subst (λ (n : ℕ). WentOn n old new) first_is went) (subst (λ (n : ℕ). Stands new connected n place) (last_is ∙ first_is) stands) grew is.is.ended;
     }
   where
     is : IsOutcome rules image keeping (Some ComesUntold) recovered.telling outcome noted_before noted_now counted

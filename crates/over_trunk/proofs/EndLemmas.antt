@@ -9,7 +9,7 @@ use Rattle.session_history.specs.Ends.{EndsBy}
 use Rattle.session_history.proofs.Endings.{events_in-given, received_at_end, given_broken}
 use Rattle.session_history.proofs.Turns.{links_open_once}
 use Rattle.session_history.proofs.Sent.{sent_is_passed}
-use Rattle.over_trunk.proofs.Terms.{Bool, List, None, Option, Some, [], ap, append-nil, append_assoc, arith, false, inl, inr, length, length-append, refl, subst, sym, true, ℕ, ◌++◌, ◌<◌, ◌==◌, ◌∙◌, ◌∷◌, ◌≡◌, none-some, Appends, AllByRecursion, IfSome, ◌&&◌, ◌||◌, IsDrained, Stream, Took, Prefix, Entry, LinkEvent, events_in-append, Coming, Phases, Piece, events_in, phases_after, pieces_in, IsSent, framed_sent, IsRefused, AreFramesOf, frames, AreInOrder, phases_behind, fresh, Image, SessionEnd, Stop, at_its_end, came_to, Session, journal_of, AreInTurn, IsComplete, AtEnd, HasComeTo, IsEnded, IsLastRefused, before_end, Unheeded, Rules, entries_of, StopsTrunk, TookRefused, WritesWhole, WritesSends}
+use Rattle.over_trunk.proofs.Terms.{Bool, List, None, Option, Some, [], ap, append-nil, append_assoc, arith, false, inl, inr, length, length-append, refl, subst, sym, true, ℕ, ◌++◌, ◌<◌, ◌==◌, ◌∙◌, ◌∷◌, ◌≡◌, none-some, Appends, AllByRecursion, IfSome, ◌&&◌, ◌||◌, IsDrained, Stream, Took, Prefix, Entry, LinkEvent, events_in-append, Coming, Phases, Piece, events_in, phases_after, pieces_in, IsSent, framed_sent, IsRefused, AreFramesOf, frames, AreInOrder, phases_behind, fresh, Image, SessionEnd, Stop, at_its_end, came_to, Session, journal_of, AreInTurn, IsComplete, AtEnd, HasComeTo, IsEnded, IsLastRefused, before_end, Unheeded, Rules, entries_of, nothing_before, refusal, events_alone, StopsTrunk, TookRefused, WritesWhole, WritesSends}
 use Rattle.over_trunk.specs.EndLaws.{AreAllHeeded, NoOtherEnd, SendsAreWritten}
 use Rattle.over_trunk.proofs.FrameFronts.{none_behind, whole_reading, next_frame}
 use Rattle.over_trunk.proofs.HeededFronts.{event_counts, heeded_next}
@@ -46,13 +46,14 @@ none_gone conn (entry.Gave to bytes gone ∷ entries) all =
     off false = refl
 
 -- the frames of all sends were written, by what was passed
-written : {rules : Rules} {image : Image} {coming : Option Coming} {session : Session} {end : SessionEnd} (sink later : Option (List ℕ)) → IsEnded rules image coming session (stop.Ends end) → AreInOrder fresh (events_in (journal_of session))
+written : {rules : Rules} {image : Image} {coming : Option Coming} {session : Session} {end : SessionEnd} (sink later : Option (List ℕ)) → IsEnded rules image coming session (stop.Ends end) → rules.bounds.before ≡ nothing_before → AreInOrder fresh (events_in (journal_of session))
     → session.earlier ≡ [] → rules.hold ≡ 0 → WritesWhole sink later (pieces_in (journal_of session)) → WritesSends sink later session.survivor.now.state.sends
-written None later is order first holds_nothing whole = tt
-written {rules = rules} {image = image} {session = session} {end = end} (Some before) later is order first holds_nothing whole =
+written None later is alone order first holds_nothing whole = tt
+written {rules = rules} {image = image} {session = session} {end = end} (Some before) later is alone order first holds_nothing whole =
     let ends = at_its_end rules session end is.ends in
     let passed = sent_is_passed rules image session (record {
       account = is.account;
+      alone = alone;
       first = first;
       given = is.pieces;
       unbroken = ends.unbroken;
@@ -63,18 +64,18 @@ written {rules = rules} {image = image} {session = session} {end = end} (Some be
     }) in
     subst (λ (pieces : List Piece). Appends (Some before) later (frames pieces)) passed whole.wrote
 
-written_at : {rules : Rules} {image : Image} {coming : Option Coming} {session : Session} (why : Stop) (sink later : Option (List ℕ)) → IsEnded rules image coming session why → AreInOrder fresh (events_in (journal_of session))
+written_at : {rules : Rules} {image : Image} {coming : Option Coming} {session : Session} (why : Stop) (sink later : Option (List ℕ)) → IsEnded rules image coming session why → rules.bounds.before ≡ nothing_before → AreInOrder fresh (events_in (journal_of session))
     → AtEnd why (λ end. WritesWhole sink later (pieces_in (journal_of session))) → AtEnd why (λ end. session.earlier ≡ [] → rules.hold ≡ 0 → WritesSends sink later session.survivor.now.state.sends)
-written_at (stop.Ends end) sink later is order whole = λ first holds_nothing. written sink later is order first holds_nothing whole
-written_at (stop.Breaks fault) sink later is order whole = tt
+written_at (stop.Ends end) sink later is alone order whole = λ first holds_nothing. written sink later is alone order first holds_nothing whole
+written_at (stop.Breaks fault) sink later is alone order whole = tt
 
 pub sends_are_written : SendsAreWritten
 sends_are_written rules keeping image input input_later output output_later outcome noted_before noted_now counted served =
-    written_at outcome.stop output output_later served.is.is.ended served.bytes.took.order served.bytes.wrote_whole
+    written_at outcome.stop output output_later served.is.is.ended served.bytes.alone served.bytes.took.order served.bytes.wrote_whole
 
 -- Of a session whose source has the frames of events that it heeds, each of them: the events that it took are the first of these.
 module _ {rules : Rules} {image : Image} {coming : Option Coming} {session : Session} {why : Stop} (is : IsEnded rules image coming session why) (input : Stream) (input_later : Option Stream)
-    (well : AreAllHeeded rules.bounds input.left) (order : AreInOrder fresh (events_in (journal_of session))) where
+    (alone : rules.bounds.before ≡ nothing_before) (well : AreAllHeeded rules.bounds input.left) (order : AreInOrder fresh (events_in (journal_of session))) where
   front_of : (whole tail : List ℕ) → AreFramesOf (events_in (journal_of session)) whole → Took (Some input) input_later (whole ++ tail) → Prefix (events_in (journal_of session)) well.events
   front_of whole tail are took =
       let behind = left_is input input_later (whole ++ tail) took in
@@ -88,7 +89,9 @@ module _ {rules : Rules} {image : Image} {coming : Option Coming} {session : Ses
       ∙ ap (λ (es : List LinkEvent). events_in last.before ++ es) (event_counts last.event last.no_end) in
       let whole : well.events ≡ events_in last.before ++ last.event ∷ front.0 =
       sym front.1 ∙ ap (λ (es : List LinkEvent). es ++ front.0) events ∙ append_assoc (events_in last.before) (last.event ∷ []) front.0 in
-      none-some cause (sym (heeded_next rules.bounds [] well.events (events_in last.before) last.event front.0 (well.all_heeded ∙ whole)) ∙ last.refused)
+      let refused : refusal rules.bounds (events_in last.before) last.event ≡ Some cause =
+      sym (ap (λ (es : List LinkEvent). refusal rules.bounds es last.event) (events_alone rules.bounds last.before alone)) ∙ last.refused in
+      none-some cause (sym (heeded_next rules.bounds [] well.events (events_in last.before) last.event front.0 (well.all_heeded ∙ whole)) ∙ refused)
 
   -- and no frame is
   taken_not : (kind offset : ℕ) → TookRefused (Some input) input_later (events_in (journal_of session)) kind offset → ⊥
@@ -136,4 +139,4 @@ pub no_other_end : NoOtherEnd
 no_other_end rules keeping image input input_later output output_later outcome noted_before noted_now counted served well =
     let is = served.is.is.ended in
     let took = served.bytes.took in
-    answers_so is input input_later well took.order (front_of is input input_later well took.order took.whole took.tail took.are took.took) served.bytes.stops outcome.stop is.ends
+    answers_so is input input_later served.bytes.alone well took.order (front_of is input input_later served.bytes.alone well took.order took.whole took.tail took.are took.took) served.bytes.stops outcome.stop is.ends

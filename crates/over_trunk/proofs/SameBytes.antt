@@ -1,7 +1,7 @@
 -- A session's record is replayed over the bytes that the session had.
 use Rattle.run_history.specs.declared.answer.Answer.TheVariants as answer
 use Rattle.session_history.specs.Heeding as unheeded
-use Rattle.over_trunk.proofs.Terms.{List, None, Option, Some, [], ap, append-nil, append_assoc, inl, inr, refl, subst, sym, ℕ, ◌++◌, ◌∙◌, ◌∷◌, ◌≡◌, ◌⊎◌, Err, Ok, Result, IsDrained, Stream, Took, Prefix, Entry, LinkEvent, Coming, Phases, events_in, front-bad, IsRefused, AreFramesOf, AreInOrder, phases_behind, Bad, Part, Whole, front, fresh, Image, Answer, prefix_trans, State, heeded_front, IsAccount, Session, journal_of, Rules, Noted, Keeping, Recorded, Outcome, HasSession, AreAsked, EndsBy, IsAsking, IsReplay, Replay, bounds_of, TookRefused, TookWhole, ServesTrunk, IsAsRecorded, IsConverted, IsWithin, SameBytesAreReplayed, SessionIsConverted, IsRecordedRun, ReplaysTrunk, TakesReplay, WritesReplay, WritesSends, ConvertsTrunk, converted}
+use Rattle.over_trunk.proofs.Terms.{List, None, Option, Some, [], ap, append-nil, append_assoc, inl, inr, refl, subst, sym, ℕ, ◌++◌, ◌∙◌, ◌∷◌, ◌≡◌, ◌⊎◌, Err, Ok, Result, IsDrained, Stream, Took, Prefix, Entry, LinkEvent, Coming, Phases, events_alone, events_in, events_of, front-bad, IsRefused, AreFramesOf, AreInOrder, phases_behind, Bad, Part, Whole, front, fresh, Image, Answer, prefix_trans, State, heeded_front, IsAccount, Session, journal_of, Rules, Noted, Keeping, Recorded, Outcome, HasSession, AreAsked, EndsBy, IsAsking, IsReplay, Replay, bounds_of, TookRefused, TookWhole, ServesTrunk, IsAsRecorded, IsConverted, IsWithin, SameBytesAreReplayed, SessionIsConverted, IsRecordedRun, ReplaysTrunk, TakesReplay, WritesReplay, WritesSends, ConvertsTrunk, converted}
 use Rattle.over_trunk.proofs.FrameFronts.{two_readings, whole_reading, next_frame}
 use Rattle.over_trunk.proofs.SameRun.{brought_not, refused_not, mismatch_not, same_end}
 
@@ -27,30 +27,30 @@ whole_not phases drained kind tail rest next (inr cut) none whole =
 -- Of the bytes that a session had: its events, their frames, and what stands behind them.
 module _ (rules : Rules) (image : Image) (session : Session) (recording : Recorded) (entries : List Entry) (replay : Replay) (coming : Option Coming) (account : IsAccount rules image session)
     (has : HasSession rules session recording) (within : IsWithin rules.bounds (bounds_of recording)) (asked : AreAsked image recording entries) (is : IsReplay image recording entries replay) (again : Stream) (again_later : Option Stream) (bytes more : List ℕ)
-    (order : AreInOrder fresh (events_in (journal_of session))) (other_order : AreInOrder fresh (events_in entries)) (are : AreFramesOf (events_in (journal_of session)) bytes) (left : again.left ≡ bytes ++ more)
-    (near : Prefix (events_in (journal_of session)) (events_in entries) ⊎ Prefix (events_in entries) (events_in (journal_of session))) where
+    (order : AreInOrder fresh (events_of rules.bounds (journal_of session))) (other_order : AreInOrder fresh (events_in entries)) (are : AreFramesOf (events_of rules.bounds (journal_of session)) bytes) (left : again.left ≡ bytes ++ more)
+    (near : Prefix (events_of rules.bounds (journal_of session)) (events_in entries) ⊎ Prefix (events_in entries) (events_of rules.bounds (journal_of session))) where
   -- where the source is drained, the replay has the session's events
-  all_read : TookWhole (Some again) again_later (events_in entries) → IsDrained again_later → Prefix (events_in (journal_of session)) (events_in entries)
+  all_read : TookWhole (Some again) again_later (events_in entries) → IsDrained again_later → Prefix (events_of rules.bounds (journal_of session)) (events_in entries)
   all_read took drained =
-      whole_reading fresh (events_in (journal_of session)) (events_in entries) bytes more took.whole order other_order are took.are (sym left ∙ left_all again again_later took.whole took.took drained)
+      whole_reading fresh (events_of rules.bounds (journal_of session)) (events_in entries) bytes more took.whole order other_order are took.are (sym left ∙ left_all again again_later took.whole took.took drained)
 
   -- a replay that asks for an event isn't refused its frame
   taken_not : (kind offset : ℕ) → IsAsking image recording entries replay → TookRefused (Some again) again_later (events_in entries) kind offset → ⊥
   taken_not kind offset asks took =
-      let first = heeded_front rules.bounds [] (events_in (journal_of session)) in
+      let first = heeded_front rules.bounds [] (events_of rules.bounds (journal_of session)) in
       elim near [
         | inl short ↦ brought_not rules image session recording entries account has asked (inl short) entries (record { replay = replay; asks = asks }) (prefix_trans _ _ _ first short)
         | inr longer ↦ by_rest longer.0 longer.1
       ]
     where
-      by_rest : (rest : List LinkEvent) → events_in entries ++ rest ≡ events_in (journal_of session) → ⊥
+      by_rest : (rest : List LinkEvent) → events_in entries ++ rest ≡ events_of rules.bounds (journal_of session) → ⊥
       by_rest [] same =
           brought_not rules image session recording entries account has asked near entries (record { replay = replay; asks = asks })
-          (prefix_trans _ _ _ (heeded_front rules.bounds [] (events_in (journal_of session))) ([], append-nil (events_in (journal_of session)) ∙ sym same ∙ append-nil (events_in entries)))
+          (prefix_trans _ _ _ (heeded_front rules.bounds [] (events_of rules.bounds (journal_of session))) ([], append-nil (events_of rules.bounds (journal_of session)) ∙ sym same ∙ append-nil (events_in entries)))
       by_rest (next ∷ rest) same =
           let behind = left_is again again_later (took.whole ++ took.tail) took.took in
           let parts : bytes ++ more ≡ took.whole ++ (took.tail ++ behind.0) = sym left ∙ behind.1 ∙ append_assoc took.whole took.tail behind.0 in
-          let whole = next_frame fresh (events_in (journal_of session)) (events_in entries) rest next bytes more took.whole (took.tail ++ behind.0) order other_order are took.are (sym same) parts in
+          let whole = next_frame fresh (events_of rules.bounds (journal_of session)) (events_in entries) rest next bytes more took.whole (took.tail ++ behind.0) order other_order are took.are (sym same) parts in
           whole_not (phases_behind (events_in entries) fresh) (IsDrained again_later) kind took.tail behind.0 next took.refused behind.2 whole
 
   pub answers_so : (end : Answer) → EndsBy image recording entries coming replay end → TakesReplay (Some again) again_later entries end → IsAsRecorded end
@@ -70,6 +70,16 @@ module _ (rules : Rules) (image : Image) (session : Session) (recording : Record
 module _ {rules : Rules} {keeping : Keeping} {image : Image} {input again : Stream} {input_later again_later : Option Stream} {output output_later written written_later : Option (List ℕ)} {outcome : Outcome} {answered : Answer}
     {noted_before noted_now : Noted} {counted counted_again : ℕ} {recording : Recorded} (served : ServesTrunk rules keeping image (Some input) input_later output output_later outcome noted_before noted_now counted)
     (replayed : ReplaysTrunk image recording (Some again) again_later written written_later answered counted_again) (same : again.left ≡ input.left) where
+  -- the session's events are all that it had
+  all_events : events_of rules.bounds (journal_of served.telling.account) ≡ events_in (journal_of served.telling.account)
+  all_events = events_alone rules.bounds (journal_of served.telling.account) served.bytes.alone
+
+  order : AreInOrder fresh (events_of rules.bounds (journal_of served.telling.account))
+  order = subst (AreInOrder fresh) (sym all_events) served.bytes.took.order
+
+  are : AreFramesOf (events_of rules.bounds (journal_of served.telling.account)) served.bytes.took.whole
+  are = subst (λ (events : List LinkEvent). AreFramesOf events served.bytes.took.whole) (sym all_events) served.bytes.took.are
+
   -- what stands behind the session's frames
   ours : (rest : List ℕ) × (input.left ≡ (served.bytes.took.whole ++ served.bytes.took.tail) ++ rest) × (IsDrained input_later → rest ≡ [])
   ours = left_is input input_later (served.bytes.took.whole ++ served.bytes.took.tail) served.bytes.took.took
@@ -81,15 +91,15 @@ module _ {rules : Rules} {keeping : Keeping} {image : Image} {input again : Stre
   left = same ∙ ours.1 ∙ append_assoc served.bytes.took.whole served.bytes.took.tail ours.0
 
   -- the events of one are the first of the other's
-  near : Prefix (events_in (journal_of served.telling.account)) (events_in replayed.entries) ⊎ Prefix (events_in replayed.entries) (events_in (journal_of served.telling.account))
+  near : Prefix (events_of rules.bounds (journal_of served.telling.account)) (events_in replayed.entries) ⊎ Prefix (events_in replayed.entries) (events_of rules.bounds (journal_of served.telling.account))
   near =
-      two_readings fresh (events_in (journal_of served.telling.account)) (events_in replayed.entries) served.bytes.took.whole (served.bytes.took.tail ++ ours.0) replayed.took.whole (replayed.took.tail ++ theirs.0)
-      served.bytes.took.order replayed.took.order served.bytes.took.are replayed.took.are (sym left ∙ theirs.1 ∙ append_assoc replayed.took.whole replayed.took.tail theirs.0)
+      two_readings fresh (events_of rules.bounds (journal_of served.telling.account)) (events_in replayed.entries) served.bytes.took.whole (served.bytes.took.tail ++ ours.0) replayed.took.whole (replayed.took.tail ++ theirs.0)
+      order replayed.took.order are replayed.took.are (sym left ∙ theirs.1 ∙ append_assoc replayed.took.whole replayed.took.tail theirs.0)
 
   pub as_recorded : HasSession rules served.telling.account recording → IsWithin rules.bounds (bounds_of recording) → IsAsRecorded answered
   as_recorded has within =
       answers_so rules image served.telling.account recording replayed.entries replayed.replay replayed.coming served.is.is.ended.account has within replayed.asked replayed.is again again_later served.bytes.took.whole
-      (served.bytes.took.tail ++ ours.0) served.bytes.took.order replayed.took.order served.bytes.took.are left near answered replayed.ends replayed.takes
+      (served.bytes.took.tail ++ ours.0) order replayed.took.order are left near answered replayed.ends replayed.takes
 
   pub same_run : HasSession rules served.telling.account recording → answered ≡ answer.Finished
       → (replayed.replay.state ≡ served.telling.account.survivor.now.state) × (replayed.replay.choices ≡ served.telling.account.survivor.now.choices)

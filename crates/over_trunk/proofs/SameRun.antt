@@ -8,7 +8,7 @@ use Rattle.replay.proofs.SameLemmas.{Agree, run_same}
 use Rattle.replay.proofs.RecordLemmas.{begins, goes_on, none_used, starved_not}
 use Rattle.replay.proofs.RoomLemmas.{session_leaves_record}
 use Rattle.replay.proofs.SessionLemmas.{session_is_replayed}
-use Rattle.over_trunk.proofs.Terms.{List, None, Option, Some, [], ap, append-nil, append_assoc, arith, inl, inr, length, refl, subst, sym, true, true≢false, ℕ, ◌++◌, ◌∙◌, ◌∷◌, ◌≡◌, ◌≤◌, ◌⊎◌, none-some, Item, Prefix, Entry, LinkEvent, events_in-append, Coming, HasEnded, Unopened, events_in, Seen, no_faults, Choice, items_of, Image, prefix_trans, State, start, run, heeded_front, IsAccount, Session, journal_of, IsLastRefused, Unheeded, heeded, items_in, Rules, Recorded, items_grow, two_fronts, BringsFirst, HadOneStream, HasSession, IsRecordOf, AreAsked, EndsBy, HasReplayed, IsReplay, Replay, bounds_of, IsWithin, IsRecordedRun}
+use Rattle.over_trunk.proofs.Terms.{List, None, Option, Some, [], ap, append-nil, append_assoc, arith, inl, inr, length, refl, subst, sym, true, true≢false, ℕ, ◌++◌, ◌∙◌, ◌∷◌, ◌≡◌, ◌≤◌, ◌⊎◌, none-some, Item, Prefix, Entry, LinkEvent, events_in-append, Coming, HasEnded, Unopened, events_in, events_of, Seen, no_faults, Choice, items_of, Image, prefix_trans, State, start, run, heeded_front, IsAccount, Session, journal_of, IsLastRefused, Unheeded, heeded, items_in, Rules, Recorded, items_grow, two_fronts, BringsFirst, HadOneStream, HasSession, IsRecordOf, AreAsked, EndsBy, HasReplayed, IsReplay, Replay, bounds_of, IsWithin, IsRecordedRun}
 use Rattle.over_trunk.proofs.HeededFronts.{both_ways, two_of_one, same_next, event_counts, heeded_next, wider}
 
 -- a run is one on more items too
@@ -31,17 +31,17 @@ untold coming = record {
 }
 
 module _ (rules : Rules) (image : Image) (session : Session) (recording : Recorded) (entries : List Entry) (account : IsAccount rules image session)
-    (has : HasSession rules session recording) (asked : AreAsked image recording entries) (near : Prefix (events_in (journal_of session)) (events_in entries) ⊎ Prefix (events_in entries) (events_in (journal_of session))) where
+    (has : HasSession rules session recording) (asked : AreAsked image recording entries) (near : Prefix (events_of rules.bounds (journal_of session)) (events_in entries) ⊎ Prefix (events_in entries) (events_of rules.bounds (journal_of session))) where
   of_run : IsRecordOf image (items_in rules.bounds (journal_of session)) session.survivor.now.choices session.survivor.now.state recording
   of_run = session_leaves_record rules image session recording account has
 
   -- where a replay asked for an event, there is more in the session than was taken
-  pub brought_not : (before : List Entry) → WasAsked image recording before → Prefix (heeded rules.bounds (events_in (journal_of session))) (events_in before) → ⊥
+  pub brought_not : (before : List Entry) → WasAsked image recording before → Prefix (heeded rules.bounds (events_of rules.bounds (journal_of session))) (events_in before) → ⊥
   brought_not before was front =
       let these = items_in (bounds_of recording) before in
       let own : BringsFirst (bounds_of recording) these before = record { more = []; first = sym (append-nil these); all = λ ended. refl } in
       let items : Prefix (items_in rules.bounds (journal_of session)) (items_of recording.frame (events_in before)) =
-      subst (λ framing. Prefix (items_of framing (heeded rules.bounds (events_in (journal_of session)))) (items_of recording.frame (events_in before))) has.frame (items_grow recording.frame _ front) in
+      subst (λ framing. Prefix (items_of framing (heeded rules.bounds (events_of rules.bounds (journal_of session)))) (items_of recording.frame (events_in before))) has.frame (items_grow recording.frame _ front) in
       let all : Prefix (items_in rules.bounds (journal_of session)) these =
       subst (λ (events : List LinkEvent). Prefix (items_in rules.bounds (journal_of session)) (items_of recording.frame events)) (sym was.asks.heeds) items in
       let choices = session.survivor.now.choices in
@@ -52,10 +52,10 @@ module _ (rules : Rules) (image : Image) (session : Session) (recording : Record
       starved_not these choices was.replay.state was.asks.waits.asks none on.goes
 
   -- so the session heeded what comes next there
-  next_heeded : (before : List Entry) (next : LinkEvent) (rest all : List LinkEvent) → WasAsked image recording before → Prefix (heeded rules.bounds (events_in (journal_of session))) all
-      → all ≡ events_in before ++ next ∷ rest → (more : List LinkEvent) × (heeded rules.bounds (events_in (journal_of session)) ≡ events_in before ++ next ∷ more)
+  next_heeded : (before : List Entry) (next : LinkEvent) (rest all : List LinkEvent) → WasAsked image recording before → Prefix (heeded rules.bounds (events_of rules.bounds (journal_of session))) all
+      → all ≡ events_in before ++ next ∷ rest → (more : List LinkEvent) × (heeded rules.bounds (events_of rules.bounds (journal_of session)) ≡ events_in before ++ next ∷ more)
   next_heeded before next rest all was front same =
-      elim (two_fronts (events_in before) (next ∷ rest) (heeded rules.bounds (events_in (journal_of session))) front.0 (sym same ∙ sym front.1)) [
+      elim (two_fronts (events_in before) (next ∷ rest) (heeded rules.bounds (events_of rules.bounds (journal_of session))) front.0 (sym same ∙ sym front.1)) [
         | inl short ↦ absurd (brought_not before was short)
         | inr found ↦
             let whole : events_in before ++ found.0 ∷ (found.1 ++ front.0) ≡ events_in before ++ next ∷ rest =
@@ -69,47 +69,47 @@ module _ (rules : Rules) (image : Image) (session : Session) (recording : Record
       let was = asked last.before [] last.event last.last in
       let events : events_in entries ≡ events_in last.before ++ last.event ∷ [] =
       ap events_in last.last ∙ events_in-append last.before (entry.Took last.event ∷ []) ∙ ap (λ (es : List LinkEvent). events_in last.before ++ es) (event_counts last.event last.no_end) in
-      let first = heeded_front rules.bounds [] (events_in (journal_of session)) in
-      let found : (more : List LinkEvent) × (heeded rules.bounds (events_in (journal_of session)) ≡ events_in last.before ++ last.event ∷ more) =
+      let first = heeded_front rules.bounds [] (events_of rules.bounds (journal_of session)) in
+      let found : (more : List LinkEvent) × (heeded rules.bounds (events_of rules.bounds (journal_of session)) ≡ events_in last.before ++ last.event ∷ more) =
       elim near [
         | inl front ↦ next_heeded last.before last.event [] (events_in entries) was (prefix_trans _ _ _ first front) events
         | inr front ↦
-            next_heeded last.before last.event front.0 (events_in (journal_of session)) was first
+            next_heeded last.before last.event front.0 (events_of rules.bounds (journal_of session)) was first
             (sym front.1 ∙ ap (λ (es : List LinkEvent). es ++ front.0) events ∙ append_assoc (events_in last.before) (last.event ∷ []) front.0)
       ] in
-      let fine = heeded_next rules.bounds [] (events_in (journal_of session)) (events_in last.before) last.event found.0 found.1 in
+      let fine = heeded_next rules.bounds [] (events_of rules.bounds (journal_of session)) (events_in last.before) last.event found.0 found.1 in
       none-some cause (sym (wider rules.bounds (bounds_of recording) (events_in last.before) last.event has.frame within fine) ∙ last.refused)
 
   -- a replay that is answered Mismatch, whose link ended only where the session's events were taken
   pub mismatch_not : (replay : Replay) (coming : Option Coming) (step : ℕ) → IsReplay image recording entries replay → EndsBy image recording entries coming replay (answer.Mismatch step)
-      → (HasEnded entries → Prefix (events_in (journal_of session)) (events_in entries)) → ⊥
+      → (HasEnded entries → Prefix (events_of rules.bounds (journal_of session)) (events_in entries)) → ⊥
   mismatch_not replay coming step is ends all =
       let stream = of near in
       let over_a_link : HasReplayed image recording (untold coming) (untold coming) (answer.Mismatch step) 0 replay.steps =
       record { entries = entries; replay = replay; tells = record { events = tt; pieces = tt; journal = tt }; asked = asked; is = is; ends = ends; failed = λ no. absurd (true≢false no); counted = omega arith } in
       (session_is_replayed rules image session stream.0 recording (untold coming) (untold coming) (answer.Mismatch step) 0 replay.steps over_a_link account has stream.1).0
     where
-      of : Prefix (events_in (journal_of session)) (events_in entries) ⊎ Prefix (events_in entries) (events_in (journal_of session)) → (events : List LinkEvent) × HadOneStream events (journal_of session) entries
+      of : Prefix (events_of rules.bounds (journal_of session)) (events_in entries) ⊎ Prefix (events_in entries) (events_of rules.bounds (journal_of session)) → (events : List LinkEvent) × HadOneStream rules.bounds events (journal_of session) entries
       of (inl front) = (events_in entries, record { session_took = front; replay_took = ([], append-nil (events_in entries)); all = λ ended. refl })
       of (inr front) = (
-        events_in (journal_of session),
-        record { session_took = ([], append-nil (events_in (journal_of session))); replay_took = front; all = λ ended. both_ways (events_in (journal_of session)) (events_in entries) (all ended) front },
+        events_of rules.bounds (journal_of session),
+        record { session_took = ([], append-nil (events_of rules.bounds (journal_of session))); replay_took = front; all = λ ended. both_ways (events_of rules.bounds (journal_of session)) (events_in entries) (all ended) front },
       )
 
   -- the items of both are the first ones of one list
   items_near : Prefix (items_in (bounds_of recording) entries) (items_in rules.bounds (journal_of session)) ⊎ Prefix (items_in rules.bounds (journal_of session)) (items_in (bounds_of recording) entries)
   items_near =
       let here = heeded_front (bounds_of recording) [] (events_in entries) in
-      let there = heeded_front rules.bounds [] (events_in (journal_of session)) in
-      let heeds : Prefix (heeded (bounds_of recording) (events_in entries)) (heeded rules.bounds (events_in (journal_of session)))
-      ⊎ Prefix (heeded rules.bounds (events_in (journal_of session))) (heeded (bounds_of recording) (events_in entries)) =
+      let there = heeded_front rules.bounds [] (events_of rules.bounds (journal_of session)) in
+      let heeds : Prefix (heeded (bounds_of recording) (events_in entries)) (heeded rules.bounds (events_of rules.bounds (journal_of session)))
+      ⊎ Prefix (heeded rules.bounds (events_of rules.bounds (journal_of session))) (heeded (bounds_of recording) (events_in entries)) =
       elim near [
-        | inl front ↦ two_of_one _ _ (events_in entries) here (prefix_trans _ (events_in (journal_of session)) (events_in entries) there front)
-        | inr front ↦ two_of_one _ _ (events_in (journal_of session)) (prefix_trans _ (events_in entries) (events_in (journal_of session)) here front) there
+        | inl front ↦ two_of_one _ _ (events_in entries) here (prefix_trans _ (events_of rules.bounds (journal_of session)) (events_in entries) there front)
+        | inr front ↦ two_of_one _ _ (events_of rules.bounds (journal_of session)) (prefix_trans _ (events_in entries) (events_of rules.bounds (journal_of session)) here front) there
       ] in
       elim heeds [
-        | inl front ↦ inl (subst (λ framing. Prefix (items_in (bounds_of recording) entries) (items_of framing (heeded rules.bounds (events_in (journal_of session))))) has.frame (items_grow recording.frame _ front))
-        | inr front ↦ inr (subst (λ framing. Prefix (items_of framing (heeded rules.bounds (events_in (journal_of session)))) (items_in (bounds_of recording) entries)) has.frame (items_grow recording.frame _ front))
+        | inl front ↦ inl (subst (λ framing. Prefix (items_in (bounds_of recording) entries) (items_of framing (heeded rules.bounds (events_of rules.bounds (journal_of session))))) has.frame (items_grow recording.frame _ front))
+        | inr front ↦ inr (subst (λ framing. Prefix (items_of framing (heeded rules.bounds (events_of rules.bounds (journal_of session)))) (items_in (bounds_of recording) entries)) has.frame (items_grow recording.frame _ front))
       ]
 
   -- at Finished the replay stands where the session's run does, and used the same answers of the allocator

@@ -35,7 +35,7 @@ pub use Rattle.session_history.specs.Account.{IsAccount, Session, after_ending, 
 pub use Rattle.session_history.specs.AccountLaws.{AreInTurn, IsComplete}
 pub use Rattle.session_history.specs.Ends.{AtBreak, AtEnd, HandedLast, HasComeTo, IsEnded, IsLastRefused, StaysKnown, TakesAtEnd, WasAsked, answer_of, before_end}
 pub use Rattle.session_history.specs.Giving.{HasHanded}
-pub use Rattle.session_history.specs.Heeding.{Bounds, LimitEvents, LimitItems, TooLong, Unheeded, heeded, items_in, refusal}
+pub use Rattle.session_history.specs.Heeding.{Bounds, LimitEvents, LimitItems, TooLong, Unheeded, events_of, heeded, items_in, nothing_before, refusal}
 unfoldable pub use Rattle.session_history.specs.Heeding.{heeded_behind}
 pub use Rattle.session_history.specs.Lawful.{Chapter, IsWholePiece, Rules, Survivor, entries_of}
 pub use Rattle.session_history.specs.Passing.{AreBetween, passed_behind, passed_in}

@@ -1,6 +1,6 @@
 -- What holds of all checkpoints of a ring, as the session goes on.
 use Rattle.link_gate.proofs.Knowing.{known_none}
-use Rattle.recovery.proofs.Terms.{Bool, List, None, [], drop, false, length, refl, subst, suc, sym, take, true, zero, ℕ, ◌++◌, ◌∙◌, ◌∷◌, ◌≡◌, ◌≤◌, both_ways, Item, Entry, events_in, Log, Ledger, connection_of, Image, may_send, Limits, Override, Path, Served, origin, IsBounded, served_on, served_with, heeded, KeepsReplies, Rules, opens, Carries, chained_from, AreChained, AreCheckpoints, AreKept, CanGoOn, Brings}
+use Rattle.recovery.proofs.Terms.{Bool, List, None, [], drop, false, length, refl, subst, suc, sym, take, true, zero, ℕ, ◌++◌, ◌∙◌, ◌∷◌, ◌≡◌, ◌≤◌, both_ways, Item, Entry, Log, Ledger, connection_of, Image, may_send, Limits, Override, Path, Served, origin, IsBounded, served_on, served_with, events_of, heeded, KeepsReplies, Rules, opens, Carries, chained_from, AreChained, AreCheckpoints, AreKept, CanGoOn, Brings}
 
 -- the latest run goes on
 pub chained_on : (limits : Limits) (items : List Item) (plan : List Override) (image : Image) (now next : Path) (ring : List Path) → Served limits items plan now next → AreChained limits items plan image now ring → AreChained limits items plan image next ring
@@ -35,8 +35,8 @@ kept_drop rules entries log ledger [] (suc count) are = tt
 kept_drop rules entries log ledger (newest ∷ older) (suc count) are = kept_drop rules entries log ledger older count are.1
 
 -- what isn't opened later wasn't opened before
-still_closed : (rules : Rules) (before after : List Entry) (more : List Item) (conn : ℕ) → Brings rules before after more → opens conn (heeded rules.bounds (events_in after)) ≡ false → opens conn (heeded rules.bounds (events_in before)) ≡ false
-still_closed rules before after more conn brings none = of_both (opens conn (heeded rules.bounds (events_in before))) (opens conn (heeded rules.bounds (events_in after))) none (brings.opened conn) where
+still_closed : (rules : Rules) (before after : List Entry) (more : List Item) (conn : ℕ) → Brings rules before after more → opens conn (heeded rules.bounds (events_of rules.bounds after)) ≡ false → opens conn (heeded rules.bounds (events_of rules.bounds before)) ≡ false
+still_closed rules before after more conn brings none = of_both (opens conn (heeded rules.bounds (events_of rules.bounds before))) (opens conn (heeded rules.bounds (events_of rules.bounds after))) none (brings.opened conn) where
   of_both : (b c : Bool) → c ≡ false → (b ≡ true → c ≡ true) → b ≡ false
   of_both true c is up = absurd (both_ways c is (up refl))
   of_both false c is up = refl
@@ -67,7 +67,7 @@ kept_with rules before after more log log' ledger ledger' (newest ∷ older) bri
 
 -- The survivor of a session that serves can go on.
 pub survivor_goes : (rules : Rules) (image : Image) (entries : List Entry) (plan : List Override) (now : Path) (ledger : Ledger) → Carries rules image entries plan now → KeepsReplies rules.bounds entries None now.state.sends ledger
-    → (now.state.ended ≡ None → IsBounded rules.limits.budget now) → ((conn : ℕ) → may_send now.state.machine conn ≡ true → opens conn (heeded rules.bounds (events_in entries)) ≡ true) → CanGoOn rules entries now
+    → (now.state.ended ≡ None → IsBounded rules.limits.budget now) → ((conn : ℕ) → may_send now.state.machine conn ≡ true → opens conn (heeded rules.bounds (events_of rules.bounds entries)) ≡ true) → CanGoOn rules entries now
 survivor_goes rules image entries plan now ledger carries replies bounded within = record {
   bounded = bounded;
   within = within;

@@ -1,7 +1,7 @@
 -- A session receives no more items than its bounds allow.
 use Rattle.links.specs.declared.journal.LinkEvent.{LinkEvent}
 use Rattle.item_log.specs.Heard.{heard, heard_from, items_from, items_of}
-use Rattle.recovery.proofs.Terms.{Bool, List, None, Some, [], append-nil, append_assoc, arith, cond, false, leb, length, ltb, refl, subst, sym, true, ◌++◌, ◌∷◌, ◌≡◌, ◌≤◌, ltb-false, is_none, Entry, events_in, Bounds, LimitEvents, LimitItems, TooLong, heeded_behind, received, refusal}
+use Rattle.recovery.proofs.Terms.{Bool, List, None, Some, [], append-nil, append_assoc, arith, cond, false, leb, length, ltb, refl, subst, sym, true, ◌++◌, ◌∷◌, ◌≡◌, ◌≤◌, ltb-false, is_none, Entry, Bounds, LimitEvents, LimitItems, TooLong, events_of, heeded_behind, received, refusal}
 
 not_full : (many long full : Bool) → is_none (cond many (Some LimitEvents) (cond long (Some TooLong) (cond full (Some LimitItems) None))) ≡ true → full ≡ false
 not_full true long full h = cc
@@ -31,4 +31,4 @@ unfolding heard_from items_from
 none_yet bounds = refl
 
 pub few_items : (bounds : Bounds) (entries : List Entry) → received bounds entries ≤ bounds.max_items
-few_items bounds entries = few_behind bounds [] (events_in entries) (let none = none_yet bounds in omega (arith, none))
+few_items bounds entries = few_behind bounds [] (events_of bounds entries) (let none = none_yet bounds in omega (arith, none))

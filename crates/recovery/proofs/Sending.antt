@@ -8,7 +8,7 @@ use Rattle.session_notes.specs.declared.episode.Tried.TheVariants as tried
 use Rattle.session_history.specs.Passing.{CoversBefore}
 use Rattle.session_history.proofs.Passing.{all_until, until_grown}
 use Rattle.link_gate.proofs.ItemLemmas.{item_is, item_fits, opened_items, received_is}
-use Rattle.recovery.proofs.Terms.{Bool, List, None, Option, Some, [], ap, append-nil, arith, cond, drop, eqb, false, inl, inr, length, length-append, refl, subst, suc, sym, take, true, zero, ℕ, ◌++◌, ◌+◌, ◌-◌, ◌<◌, ◌^◌, ◌∙◌, ◌∷◌, ◌≡◌, ◌≤◌, ◌⊎◌, eqb-true, true≢false, drop-append-le, take-append-le, IsSome, is_some, slice_get, unwrap_or, Item, Prefix, Send, sent_to, events_in, Choice, Env, IsItemOf, Log, IsOpened, Ledger, NotBefore, connection_of, times_of, agree, discarded, trial_sends, with_trial_send, OpenWithin, within_after, prefix_sent, prefix_trans, sent_to-more, may_send, State, Wants, Path, CpuState, live_of, Live, Standing, with_range, TakesOn, TakesWriting, Writes, Grows, between_append, between_wider, served_on, heeded, received, AreSendable, IsSendable, opens, AreBetween, IsFeasible, until, everywhere, IsContradicted, CanGoOn, Failure, items_of, pieces_of, HasCome, IsAsking, IsTrying, agrees_next, KeepsSaved}
+use Rattle.recovery.proofs.Terms.{Bool, List, None, Option, Some, [], ap, append-nil, arith, cond, drop, eqb, false, inl, inr, length, length-append, refl, subst, suc, sym, take, true, zero, ℕ, ◌++◌, ◌+◌, ◌-◌, ◌<◌, ◌^◌, ◌∙◌, ◌∷◌, ◌≡◌, ◌≤◌, ◌⊎◌, eqb-true, true≢false, drop-append-le, take-append-le, IsSome, is_some, slice_get, unwrap_or, Item, Prefix, Send, sent_to, Choice, Env, IsItemOf, Log, IsOpened, Ledger, NotBefore, connection_of, times_of, agree, discarded, trial_sends, with_trial_send, OpenWithin, within_after, prefix_sent, prefix_trans, sent_to-more, may_send, State, Wants, Path, CpuState, live_of, Live, Standing, with_range, TakesOn, TakesWriting, Writes, Grows, between_append, between_wider, served_on, events_of, heeded, received, AreSendable, IsSendable, opens, AreBetween, IsFeasible, until, everywhere, IsContradicted, CanGoOn, Failure, items_of, pieces_of, HasCome, IsAsking, IsTrying, agrees_next, KeepsSaved}
 use Rattle.recovery.proofs.Joining.{next_agrees, agree_more, differs_more, covers_before_now}
 use Rattle.recovery.proofs.Starting.{failed_still}
 use Rattle.recovery.proofs.Running.{SendsOn, unharmed_still, may_send_by, trying_room, wrote_on}
@@ -80,7 +80,7 @@ module _ {R : Type 0} where
         within = λ q may. t.goes.within q (may_send_by t.path.state.machine s.now.state.machine q s.goes.connections may);
         opened = λ q shut. ap (sent_to q) s.sends
             ∙ opened_then q t.path.state.sends send true
-            (λ same. true≢false (sym (t.goes.within conn s.may) ∙ (ap (λ n. opens n (heeded failure.rules.bounds (events_in failure.entries))) same ∙ shut)))
+            (λ same. true≢false (sym (t.goes.within conn s.may) ∙ (ap (λ n. opens n (heeded failure.rules.bounds (events_of failure.rules.bounds failure.entries))) same ∙ shut)))
             (t.goes.opened q shut);
         timed = subst (AreBetween 0 s.now.state.machine.taken) (sym s.sends)
             (between_append 0 s.now.state.machine.taken t.path.state.sends (send ∷ [])
@@ -162,7 +162,7 @@ module _ {R : Type 0} where
   pub takes_short : (failure : Failure) (point : ℕ) (checkpoint : Path) (env : Env) (cpu : CpuState R) (choices : List Choice) (log : Log) (ledger : Ledger) (taken : ℕ) (item : Item) (a : IsAsking failure point checkpoint env cpu choices log ledger)
       → IsItemOf log taken item → length item.bytes < 2 ^ 32
   takes_short failure point checkpoint env cpu choices log ledger taken item a of_events =
-      item_fits failure.rules.bounds.framing (heeded failure.rules.bounds (events_in failure.entries)) taken item (item_is failure.rules.bounds failure.entries log taken item a.trying.failed.has.items of_events)
+      item_fits failure.rules.bounds.framing (heeded failure.rules.bounds (events_of failure.rules.bounds failure.entries)) taken item (item_is failure.rules.bounds failure.entries log taken item a.trying.failed.has.items of_events)
 
   -- it takes the item, before which it had sent all that was passed
   pub takes_next : (failure : Failure) (point : ℕ) (checkpoint : Path) (env : Env) (old new : CpuState R) (choices : List Choice) (log : Log) (ledger : Ledger) (taken : ℕ) (item : Item) (a : IsAsking failure point checkpoint env old choices log ledger) → KeepsSaved old new
@@ -177,10 +177,10 @@ module _ {R : Type 0} where
       let flags : new.written ≡ with_range old.base (received_range item first.state.machine) old.written =
       ap (λ (l : Live). l.written) live ∙ ap (λ (s : Standing). with_range old.base (received_range item s.guest.machine) old.written) t.stands in
       let now : Path = takes.now in
-      let within : OpenWithin (λ conn. opens conn (heeded failure.rules.bounds (events_in failure.entries)) ≡ true) first.state.machine.connections = record { each = t.goes.within } in
-      let after : OpenWithin (λ conn. opens conn (heeded failure.rules.bounds (events_in failure.entries)) ≡ true) now.state.machine.connections =
-      subst (OpenWithin (λ conn. opens conn (heeded failure.rules.bounds (events_in failure.entries)) ≡ true)) (sym takes.connections)
-      (within_after (λ conn. opens conn (heeded failure.rules.bounds (events_in failure.entries)) ≡ true) item first.state.machine.connections within (opened_items failure.rules.bounds failure.entries taken item found)) in
+      let within : OpenWithin (λ conn. opens conn (heeded failure.rules.bounds (events_of failure.rules.bounds failure.entries)) ≡ true) first.state.machine.connections = record { each = t.goes.within } in
+      let after : OpenWithin (λ conn. opens conn (heeded failure.rules.bounds (events_of failure.rules.bounds failure.entries)) ≡ true) now.state.machine.connections =
+      subst (OpenWithin (λ conn. opens conn (heeded failure.rules.bounds (events_of failure.rules.bounds failure.entries)) ≡ true)) (sym takes.connections)
+      (within_after (λ conn. opens conn (heeded failure.rules.bounds (events_of failure.rules.bounds failure.entries)) ≡ true) item first.state.machine.connections within (opened_items failure.rules.bounds failure.entries taken item found)) in
       let covered : CoversBefore first.state.machine.taken (pieces_of failure) first.state =
       subst (λ n. CoversBefore n (pieces_of failure) first.state) is (covers_before_now (received failure.rules.bounds failure.entries) taken ledger failure.failed.state.sends first.state.sends (pieces_of failure) (beside failure point checkpoint env old choices log ledger t) covers) in
       record {

@@ -1,7 +1,7 @@
 -- The ring of a session's checkpoints beside its guest, its log and its ledger.
 use Rattle.std.specs.Prelude.{◌≡◌, ℕ, ◌-◌, ◌<◌, ◌≤◌, Bool, true, false, List, [], ◌∷◌, ◌++◌, length, take, replicate, nat_le, nat_lt, if◌then◌else◌, Option, Some, None, IfSome, option_map, slice_get}
 use Rattle.elf_image.specs.Image as images
-use Rattle.recovery.specs.Terms.{Item, Entry, events_in, Env, Plain, Checkpoint, Checkpoints, checkpoints_of, from_newest, saved_in_ring, newest_slot, Log, Ledger, Image, AsksFor, Override, Path, env_at, origin, CpuState, standing_of, Writes, heeded, items_in, Rules, opens, AreChained, AreCheckpoints}
+use Rattle.recovery.specs.Terms.{Item, Entry, Env, Plain, Checkpoint, Checkpoints, checkpoints_of, from_newest, saved_in_ring, newest_slot, Log, Ledger, Image, AsksFor, Override, Path, env_at, origin, CpuState, standing_of, Writes, events_of, heeded, items_in, Rules, opens, AreChained, AreCheckpoints}
 use Rattle.recovery.specs.Sessions.{AreKept, CanGoOn, taken_in}
 
 -- what a ring and the slots of its guest have in common: both have the same checkpoints, at least one, and the guest stands on the newest
@@ -64,7 +64,7 @@ AreBehind count (newest ∷ older) = (count ≤ length newest.choices) × AreBeh
 -- with more entries a journal brings these items more, and what was opened stays opened
 pub record Brings (rules : Rules) (before after : List Entry) (more : List Item) : Type 0 where
   pub items : items_in rules.bounds after ≡ items_in rules.bounds before ++ more
-  pub opened : (conn : ℕ) → opens conn (heeded rules.bounds (events_in before)) ≡ true → opens conn (heeded rules.bounds (events_in after)) ≡ true
+  pub opened : (conn : ℕ) → opens conn (heeded rules.bounds (events_of rules.bounds before)) ≡ true → opens conn (heeded rules.bounds (events_of rules.bounds after)) ≡ true
 
 -- whether another checkpoint is due where so many items were taken: since the newest one so many were
 abbrev pub is_due_after : ℕ → ℕ → Option Checkpoint → Bool

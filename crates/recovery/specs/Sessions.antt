@@ -1,13 +1,13 @@
 -- Where a session stands whose program failed.
 use Rattle.std.specs.Prelude.{◌≡◌, ℕ, ◌<◌, ◌≤◌, ◌^◌, List, [], ◌∷◌, length, Bool, true, false, None, option_map, slice_get}
-use Rattle.recovery.specs.Terms.{Item, Send, sent_to, Entry, events_in, Heap, from_newest, Log, Ledger, Image, may_send, Override, Path, limits_of, CpuState, standing_of, Standing, IsBounded, heeded, items_in, received, AreSendable, KeepsItems, KeepsReplies, Rules, opens, AreBetween, AreInOrder, Covers, IsFeasible, passed_in, AreChained, AreCheckpoints}
+use Rattle.recovery.specs.Terms.{Item, Send, sent_to, Entry, Heap, from_newest, Log, Ledger, Image, may_send, Override, Path, limits_of, CpuState, standing_of, Standing, IsBounded, events_of, heeded, items_in, received, AreSendable, KeepsItems, KeepsReplies, Rules, opens, AreBetween, AreInOrder, Covers, IsFeasible, passed_in, AreChained, AreCheckpoints}
 
 -- A run of a session, from which its guest can go on unless it has ended: it is within the budget, it may send to connections alone that
 -- were opened, it did so, and its sends stand in the order of time and have as many bytes as a piece may.
 pub record CanGoOn (rules : Rules) (entries : List Entry) (path : Path) : Type 0 where
   pub bounded : path.state.ended ≡ None → IsBounded rules.limits.budget path
-  pub within : (conn : ℕ) → may_send path.state.machine conn ≡ true → opens conn (heeded rules.bounds (events_in entries)) ≡ true
-  pub opened : (conn : ℕ) → opens conn (heeded rules.bounds (events_in entries)) ≡ false → sent_to conn path.state.sends ≡ []
+  pub within : (conn : ℕ) → may_send path.state.machine conn ≡ true → opens conn (heeded rules.bounds (events_of rules.bounds entries)) ≡ true
+  pub opened : (conn : ℕ) → opens conn (heeded rules.bounds (events_of rules.bounds entries)) ≡ false → sent_to conn path.state.sends ≡ []
   pub timed : AreBetween 0 path.state.machine.taken path.state.sends
   pub sendable : AreSendable path.state.sends
 

@@ -6,7 +6,6 @@ pub use Rattle.rx_io.specs.declared.bytes.Item.{Item}
 pub use Rattle.rx_io.specs.Prefix.{Prefix}
 pub use Rattle.rx_io.specs.Sends.{Send, sent_to}
 pub use Rattle.links.specs.declared.journal.Entry.{Entry}
-pub use Rattle.links.specs.Links.{events_in}
 pub use Rattle.block_book.specs.declared.choice.Choice.{Choice}
 pub use Rattle.block_book.specs.Heap.{Heap}
 pub use Rattle.alloc_env.specs.declared.env.Env.{Env}
@@ -41,7 +40,7 @@ pub use Rattle.guest_cpu.specs.Standing.{Live, Standing, Turn, live_after, marks
 unfoldable pub use Rattle.guest_cpu.specs.Standing.{turn}
 pub use Rattle.guest_runs.specs.Runs.{GoesOn, IsBounded, IsSilent, TakesOn}
 pub use Rattle.guest_runs.specs.Writing.{RunsWriting, TakesWriting, Writes, writes}
-pub use Rattle.session_history.specs.Heeding.{Bounds, LimitEvents, LimitItems, TooLong, heeded, items_in, received, refusal}
+pub use Rattle.session_history.specs.Heeding.{Bounds, LimitEvents, LimitItems, TooLong, events_of, heeded, items_in, received, refusal}
 unfoldable pub use Rattle.session_history.specs.Heeding.{heeded_behind}
 pub use Rattle.session_history.specs.Keeping.{AreSendable, IsSendable, KeepsItems, KeepsReplies, may_pass}
 pub use Rattle.session_history.specs.Lawful.{Chapter, Rules, Survivor, entries_of}

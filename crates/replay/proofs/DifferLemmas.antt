@@ -1,12 +1,8 @@
 -- What is known to differ, and that it does.
-use Rattle.block_book.proofs.Asks.{same-is, same-self}
 use Rattle.run_history.specs.declared.answer.Answer.TheVariants as answer
-use Rattle.item_log.specs.declared.item_refusal.ItemRefusal.{ItemRefusal}
 use Rattle.item_log.specs.declared.item_refusal.ItemRefusal.TheVariants as refusal
-use Rattle.replay.proofs.Terms.{Bool, List, None, Option, Some, ap, arith, cond, false, length, refl, subst, sym, true, true≢false, ℕ, ◌<◌, ◌∙◌, ◌≡◌, ◌≤◌, both_ways, eqb-false, eqb-true, ltb-false, ltb-true, Err, IsSome, Ok, Result, nat_lt, slice_get, unwrap_or, ◌==◌, Send, Entry, LinkFault, Memory, ReadFault, Refused, WriteFault, Coming, HasEnded, Ask, Choice, same_ask, Image, Answer, Chooses, Effect, Fails, Machine, Wants, does, Standing, Line, Recorded, Difference, DiffersBy, HasFound, IsApart, IsDifference, IsInputEnd, Never, TellsDifference, WouldDo, Differs, Ended, EndsBy, Failed, IsUnusable, Replay, Starved, Unanswered, Untaken, Unused, WaitsForItem, choice_by, replay_of, answer_of}
+use Rattle.replay.proofs.Terms.{Bool, List, None, Option, Some, arith, cond, false, length, refl, subst, sym, true, true≢false, ℕ, ◌∙◌, ◌≡◌, ◌≤◌, both_ways, eqb-false, eqb-true, ltb-false, ltb-true, Err, IsSome, Ok, Result, nat_lt, slice_get, unwrap_or, ◌==◌, Send, Entry, LinkFault, Memory, ReadFault, Refused, WriteFault, Coming, HasEnded, Ask, Choice, same-is, same-self, same_ask, ItemRefusal, Image, Answer, Chooses, Fails, Wants, Standing, Line, Recorded, Difference, Differs, Ended, EndsBy, Failed, IsUnusable, Replay, Starved, Unanswered, Untaken, Unused, WaitsForItem, choice_by, DiffersBy, HasFound, IsApart, IsDifference, IsInputEnd, Never, TellsDifference, WouldDo, replay_of, answer_of, refusal_answer, ended_apart, judged, left_over, unusable_apart}
 use Rattle.replay.specs.declared.difference.Difference.TheVariants as difference
-use Rattle.replay.specs.Hearing.{refusal_answer}
-use Rattle.replay.specs.Judging.{judged, left_over, ended_apart, unusable_apart}
 
 -- ---- what a call leaves
 

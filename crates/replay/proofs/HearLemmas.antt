@@ -144,7 +144,7 @@ module _ {image : Image} {recording : Recorded} {began : Told} {seen : Seen} {la
       let heeds = is_heeded bounds entries event stage.log one base.items (omega (arith, few, base.events)) fits in
       let more = items_by (hear recording.frame stage.log.rests event) in
       let brings : items_in bounds (entries ++ entry.Took event ∷ []) ≡ items_in bounds entries ++ more = brings_more _ _ _ _ one base.items heeds.allowed in
-      let events : events_in (entries ++ entry.Took event ∷ []) ≡ events_in entries ++ event ∷ [] = events_behind entries event one in
+      let events : events_in (entries ++ entry.Took event ∷ []) ≡ events_in entries ++ event ∷ [] = events_behind bounds entries event one in
       let left : drop stage.live.guest.machine.taken (items_in bounds (entries ++ entry.Took event ∷ [])) ≡ more =
       ap (drop stage.live.guest.machine.taken) brings ∙ ap (λ (n : ℕ). drop n (items_in bounds entries ++ more)) (all_taken waiting none_left) ∙ drop-append_seam (items_in bounds entries) more in
       record {
@@ -246,7 +246,7 @@ module _ {image : Image} {recording : Recorded} {began : Told} {seen : Seen} {la
   ends_link : later.takes ≡ true → Tells seen.told later.told (entry.Took event.Ends ∷ []) → StillComes later.coming (Ok event.Ends) → IsWholeEnd image recording began later stage (answer.Mismatch stage.live.steps)
   ends_link still tells last =
       let entries = waiting.playing.entries in
-      let same : items_in (bounds_of recording) (entries ++ entry.Took event.Ends ∷ []) ≡ items_in (bounds_of recording) entries = ap (λ events. items_of recording.frame (heeded (bounds_of recording) events)) (events_ended entries) in
+      let same : items_in (bounds_of recording) (entries ++ entry.Took event.Ends ∷ []) ≡ items_in (bounds_of recording) entries = ap (λ events. items_of recording.frame (heeded (bounds_of recording) events)) (events_ended (bounds_of recording) entries) in
       record {
         entries = entries ++ entry.Took event.Ends ∷ [];
         sends = waiting.playing.sends;

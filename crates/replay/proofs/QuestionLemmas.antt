@@ -1,10 +1,9 @@
 -- Where a replay stands behind each question of its guest.
 use Rattle.run_history.specs.declared.answer.Answer.TheVariants as answer
 use Rattle.guest_cpu.specs.declared.event.Question.TheVariants as question
-use Rattle.replay.proofs.Terms.{Bool, List, None, Some, ap, arith, cond, drop, false, length, refl, subst, sym, true, ℕ, ◌<◌, ◌∙◌, ◌≡◌, ◌≤◌, both_ways, eqb-false, eqb-true, ltb-false, ltb-true, Err, IfOk, IsSome, Ok, Result, is_some, nat_lt, ◌==◌, Send, Entry, Told, pieces_in, Seen, Ask, Image, Answer, Cause, Question, recorded, RunsBy, Live, Standing, items_in, Recorded, Ended, EndsBy, Failed, Untaken, Unused, bounds_of, AreOpen, AreOpenThen, GoesOnBy, IsBase, IsBetween, IsEnd, IsPlaying, IsSending, IsWaiting, IsWanting, IsWholeEnd, Stage, TurnsBy, has, replay_of}
+use Rattle.replay.proofs.Terms.{Bool, List, None, Some, ap, arith, cond, drop, false, length, refl, subst, sym, true, ℕ, ◌<◌, ◌∙◌, ◌≡◌, ◌≤◌, both_ways, eqb-false, eqb-true, ltb-false, ltb-true, Err, IfOk, Ok, Result, is_some, nat_lt, ◌==◌, Send, Entry, Told, pieces_in, Seen, Ask, Image, Answer, Cause, Question, recorded, RunsBy, Live, Standing, items_in, Recorded, Ended, EndsBy, Failed, Untaken, Unused, bounds_of, AreOpen, AreOpenThen, GoesOnBy, IsBase, IsBetween, IsEnd, IsPlaying, IsSending, IsWaiting, IsWanting, IsWholeEnd, Stage, TurnsBy, has, replay_of, ended_apart, judged, left_over}
 use Rattle.replay.specs.Giving as giving
 use Rattle.replay.specs.declared.difference.Difference.TheVariants as difference
-use Rattle.replay.specs.Judging.{ended_apart, judged, left_over}
 use Rattle.replay.proofs.RunLemmas.{Ran, same_sends, with_send, ComesTo, comes_by}
 use Rattle.replay.proofs.ReplayLemmas.{replay_ran}
 use Rattle.replay.proofs.LineLemmas.{few_lines}

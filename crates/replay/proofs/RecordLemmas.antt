@@ -1,6 +1,6 @@
 -- A replay of a record that a run left is the beginning of that run, and the run's next instruction contradicts each way to differ.
 use Rattle.run_history.specs.declared.answer.Answer.TheVariants as answer
-use Rattle.replay.proofs.Terms.{Bool, List, None, Option, Some, [], ap, append-nil, arith, inl, inr, length, refl, subst, suc, sym, true, zero, ℕ, ◌++◌, ◌+◌, ◌-◌, ◌<◌, ◌∙◌, ◌∷◌, ◌≡◌, ◌≢◌, ◌≤◌, both_ways, none-some, option_and_then_some, same_Some, slice_get_past, IsSome, slice_get, Item, Entry, Coming, pieces_in, Seen, Ask, Choice, is_allowed, most_blocks, Image, Answer, Cause, repeated_add, Later, does_more, next_parts, run_from, run_more, run_one, chooses, takes, Chooses, Fails, State, Wants, start, start_machine, repeated, after, does, effect, next, run, items_in, Line, Recorded, AreGiven, AreOfLines, Differs, Ended, EndsBy, Failed, HasReplayed, IsReplay, IsUnusable, Replay, Starved, Unanswered, Untaken, Unused, bounds_of, choice_by, BringsFirst, IsNoMismatch, IsRecordOf}
+use Rattle.replay.proofs.Terms.{List, None, Option, Some, [], ap, append-nil, arith, inl, inr, length, refl, subst, suc, sym, true, zero, ℕ, ◌++◌, ◌+◌, ◌-◌, ◌<◌, ◌∙◌, ◌≡◌, ◌≢◌, ◌≤◌, both_ways, none-some, option_and_then_some, same_Some, slice_get_past, IsSome, slice_get, Item, Entry, Coming, pieces_in, Seen, Ask, Choice, is_allowed, most_blocks, Image, Answer, Cause, repeated_add, Later, does_more, next_parts, run_from, run_more, run_one, takes, Chooses, Fails, State, Wants, start, start_machine, repeated, after, does, effect, next, run, items_in, Line, Recorded, AreGiven, AreOfLines, Differs, Ended, EndsBy, Failed, HasReplayed, IsReplay, IsUnusable, Replay, Starved, Unanswered, Untaken, Unused, bounds_of, choice_by, BringsFirst, IsNoMismatch, IsRecordOf}
 use Rattle.replay.proofs.LineLemmas.{line_at, choice_is, same_answers}
 use Rattle.replay.proofs.SameLemmas.{Agree, IsAnswered, allowed_asked, answered, run_front, run_same}
 use Rattle.replay.proofs.ReplayLemmas.{wants_takes, wants_chooses}

@@ -1,9 +1,8 @@
 -- What each instruction, each answer of the allocator and each item makes of a replay.
 use Rattle.run_history.specs.Call.{received}
-use Rattle.replay.proofs.Terms.{List, None, Option, Some, [], ap, append-nil, arith, length, length-append, refl, subst, sym, true, ℕ, ◌++◌, ◌+◌, ◌<◌, ◌∙◌, ◌∷◌, ◌≡◌, slice_get, Item, Send, Entry, Ask, Choice, is_allowed, Image, allocated_keeps, element_behind, next_after, received_keeps, run_chosen, run_join, run_more, run_one, Alone, Picks, Same, Shape, Takes, does_shape, allocated, chooses, takes, Chooses, Goes, Machine, Wants, start, start_machine, after, does, run, start_standing, taken_standing, chosen_standing, Standing, items_in, Line, Recorded, AreOfLines, IsOfLine, IsReplay, Replay, bounds_of, replay_of, state_of}
+use Rattle.replay.proofs.Terms.{List, None, Option, Some, [], ap, append-nil, arith, length-append, refl, subst, sym, true, ℕ, ◌++◌, ◌+◌, ◌<◌, ◌∙◌, ◌∷◌, ◌≡◌, slice_get, Item, Send, Entry, Ask, Choice, is_allowed, Image, allocated_keeps, element_behind, next_after, received_keeps, run_chosen, run_join, run_more, run_one, Alone, Picks, Same, Shape, Takes, does_shape, allocated, chooses, takes, Chooses, Goes, Machine, Wants, start, start_machine, after, does, run, start_standing, taken_standing, chosen_standing, Standing, items_in, Line, Recorded, IsOfLine, IsReplay, Replay, bounds_of, replay_of, state_of}
 use Rattle.replay.proofs.LineLemmas.{one_more_line}
 use Rattle.replay.proofs.RunLemmas.{Ran}
-use Rattle.session_history.proofs.Connected.{take_one}
 
 -- a guest at its start is a replay of no instruction
 pub replay_start : {image : Image} {recording : Recorded} {entries : List Entry} → IsReplay image recording entries (replay_of [] [] (start_standing image))

@@ -1,6 +1,5 @@
 -- Two runs on the same items, whose answers of the allocator the same lines tell of, are the same.
-use Rattle.block_book.proofs.Asks.{same-is}
-use Rattle.replay.proofs.Terms.{Bool, List, None, Option, Some, ap, arith, below_more, cond, false, not, refl, subst, suc, sym, true, zero, ℕ, ◌+◌, ◌<◌, ◌∙◌, ◌≡◌, and_parts, none-some, option_and_then_some, same_Some, slice_get, ◌&&◌, ◌==◌, ◌||◌, Item, Ask, Choice, is_allowed, is_block, same_ask, repeated_add, allocated_keeps, next_parts, unchosen_after, Picks, Same, Shape, Takes, does_shape, allocated, chooses, Chooses, Goes, Machine, State, repeated, after, does, effect, next, run, Line, AreOfLines, IsOfLine}
+use Rattle.replay.proofs.Terms.{Bool, List, None, Option, Some, ap, arith, below_more, cond, false, not, refl, subst, suc, sym, true, zero, ℕ, ◌+◌, ◌<◌, ◌∙◌, ◌≡◌, and_parts, none-some, option_and_then_some, same_Some, slice_get, ◌&&◌, ◌==◌, ◌||◌, Item, Ask, Choice, same-is, is_allowed, is_block, same_ask, repeated_add, allocated_keeps, next_parts, unchosen_after, Picks, Same, Shape, Takes, does_shape, allocated, chooses, Chooses, Goes, State, repeated, after, does, next, run, Line, AreOfLines, IsOfLine}
 use Rattle.replay.proofs.LineLemmas.{line_at, same_answer}
 
 -- an answer that C allows is one to what was asked

@@ -1,6 +1,6 @@
 -- A session's record is replayed over the session's stream.
 use Rattle.run_history.specs.declared.answer.Answer.TheVariants as answer
-use Rattle.replay.proofs.Terms.{List, [], ap, append-nil, append_assoc, arith, inl, inr, length, length-append, refl, subst, sym, ℕ, ◌++◌, ◌∙◌, ◌∷◌, ◌≡◌, ◌≤◌, nil_from_length, Item, Prefix, Entry, LinkEvent, Ends, HasEnded, events_in, pieces_in, Seen, Choice, items_of, Image, Answer, State, IsAccount, Session, journal_of, Bounds, heeded, items_in, Rules, Recorded, AreGiven, AreAsked, HasReplayed, WasAsked, bounds_of, BringsFirst, HadOneStream, HasSession, IsNoMismatch, IsRecordOf}
+use Rattle.replay.proofs.Terms.{List, [], ap, append-nil, append_assoc, arith, inl, inr, length, length-append, refl, subst, sym, ℕ, ◌++◌, ◌∙◌, ◌∷◌, ◌≡◌, ◌≤◌, nil_from_length, Item, Prefix, Entry, LinkEvent, Ends, HasEnded, events_in, pieces_in, Seen, Choice, items_of, Image, Answer, State, IsAccount, Session, journal_of, Bounds, events_of, heeded, items_in, Rules, Recorded, AreGiven, AreAsked, HasReplayed, WasAsked, bounds_of, BringsFirst, HadOneStream, HasSession, IsNoMismatch, IsRecordOf}
 use Rattle.replay.proofs.RecordLemmas.{begins, goes_on, starved_not, finished_gives, only_faults}
 use Rattle.replay.proofs.RoomLemmas.{session_leaves_record}
 use Rattle.replay.proofs.StreamLemmas.{two_fronts, items_grow, took_behind, ended_behind}
@@ -18,24 +18,24 @@ asked_not {items = items} {choices = choices} {recording = recording} {before = 
     starved_not items choices replay.state was.asks.waits.asks none on.goes
 
 module _ (image : Image) (bounds : Bounds) (journal : List Entry) (events : List LinkEvent) (choices : List Choice) (state : State) (recording : Recorded) (entries : List Entry)
-    (asked : AreAsked image recording entries) (frame : recording.frame ≡ bounds.framing) (of_run : IsRecordOf image (items_in bounds journal) choices state recording) (stream : HadOneStream events journal entries) where
+    (asked : AreAsked image recording entries) (frame : recording.frame ≡ bounds.framing) (of_run : IsRecordOf image (items_in bounds journal) choices state recording) (stream : HadOneStream bounds events journal entries) where
   -- the events that the session heeded, and those that the replay heeded
   session_events : List LinkEvent
-  session_events = heeded bounds (events_in journal)
+  session_events = heeded bounds (events_of bounds journal)
 
   replay_events : List LinkEvent
   replay_events = heeded (bounds_of recording) (events_in entries)
 
   items_are : items_in bounds journal ≡ items_of recording.frame session_events
   unfolding session_events
-  items_are = ap (λ framing. items_of framing (heeded bounds (events_in journal))) (sym frame)
+  items_are = ap (λ framing. items_of framing (heeded bounds (events_of bounds journal))) (sym frame)
 
   -- each is a front of the stream
   session_front : Prefix session_events events
   unfolding session_events
   session_front =
-      let front = heeded_front bounds [] (events_in journal) in
-      (front.0 ++ stream.session_took.0, sym (append_assoc (heeded bounds (events_in journal)) front.0 stream.session_took.0) ∙ ap (λ es. es ++ stream.session_took.0) front.1 ∙ stream.session_took.1)
+      let front = heeded_front bounds [] (events_of bounds journal) in
+      (front.0 ++ stream.session_took.0, sym (append_assoc (heeded bounds (events_of bounds journal)) front.0 stream.session_took.0) ∙ ap (λ es. es ++ stream.session_took.0) front.1 ∙ stream.session_took.1)
 
   replay_front : Prefix replay_events events
   unfolding replay_events
@@ -83,13 +83,13 @@ module _ (image : Image) (bounds : Bounds) (journal : List Entry) (events : List
 
 pub one_stream_brings : (image : Image) (bounds : Bounds) (journal : List Entry) (events : List LinkEvent) (choices : List Choice) (state : State) (recording : Recorded) (began now : Seen) (end : Answer) (before after : ℕ)
     (replayed : HasReplayed image recording began now end before after)
-    → recording.frame ≡ bounds.framing → IsRecordOf image (items_in bounds journal) choices state recording → HadOneStream events journal replayed.entries → BringsFirst (bounds_of recording) (items_in bounds journal) replayed.entries
+    → recording.frame ≡ bounds.framing → IsRecordOf image (items_in bounds journal) choices state recording → HadOneStream bounds events journal replayed.entries → BringsFirst (bounds_of recording) (items_in bounds journal) replayed.entries
 one_stream_brings image bounds journal events choices state recording began now end before after replayed frame of_run stream =
     stream_brings image bounds journal events choices state recording replayed.entries replayed.asked frame of_run stream
 
 pub session_is_replayed : (rules : Rules) (image : Image) (session : Session) (events : List LinkEvent) (recording : Recorded) (began now : Seen) (end : Answer) (before after : ℕ)
     (replayed : HasReplayed image recording began now end before after)
-    → IsAccount rules image session → HasSession rules session recording → HadOneStream events (journal_of session) replayed.entries
+    → IsAccount rules image session → HasSession rules session recording → HadOneStream rules.bounds events (journal_of session) replayed.entries
     → IsNoMismatch recording replayed.entries now.coming end × (end ≡ answer.Finished → (replayed.replay.choices ≡ session.survivor.now.choices) × AreGiven session.survivor.now.state.sends (pieces_in replayed.entries))
 session_is_replayed rules image session events recording began now end before after replayed account has stream =
     let state = session.survivor.now.state in

@@ -1,7 +1,7 @@
 -- A replay at its start, and at its end.
 use Rattle.item_log.specs.Log as logs
 use Rattle.run_history.specs.declared.answer.Answer.TheVariants as answer
-use Rattle.replay.proofs.Terms.{List, None, Option, [], ap, arith, drop, false, length, refl, subst, sym, true, ℕ, ◌+◌, ◌^◌, ◌≡◌, both_ways, length-replicate, Err, Send, tells_nothing, IsFresh, Phases, Seen, Choice, items_from, items_of, Log, Image, Answer, no_connections_may, no_connections, start_machine, start_standing, Standing, MayBegin, Bounds, heeded, heeded_behind, items_in, Recorded, Player, Difference, DiffersBy, HasFound, BreaksOff, IsLastSend, HasFilledBy, HasReplayedBy, LinkAnswers, bounds_of, AreOpen, AreOpenThen, IsBetween, IsEnd, LinkTurns, Stage, has, replay_of, stage_of}
+use Rattle.replay.proofs.Terms.{List, None, Option, [], ap, arith, drop, false, length, refl, subst, sym, true, ℕ, ◌+◌, ◌^◌, ◌≡◌, both_ways, length-replicate, Err, Send, tells_nothing, IsFresh, Phases, Seen, Choice, items_from, items_of, Log, Image, Answer, no_connections_may, no_connections, start_machine, start_standing, Standing, MayBegin, Bounds, heeded, heeded_behind, items_in, Recorded, Difference, Player, BreaksOff, IsLastSend, HasReplayedBy, LinkAnswers, bounds_of, DiffersBy, HasFilledBy, HasFound, AreOpen, AreOpenThen, IsBetween, IsEnd, LinkTurns, Stage, has, replay_of, stage_of}
 use Rattle.replay.specs.Giving as giving
 use Rattle.replay.specs.Making.{IsMade}
 use Rattle.replay.proofs.DifferLemmas.{differs_after, tells_found}
@@ -13,9 +13,9 @@ none_heeded : (bounds : Bounds) → heeded bounds [] ≡ []
 unfolding heeded_behind
 none_heeded bounds = refl
 
-none_received : (bounds : Bounds) → items_in bounds [] ≡ []
+none_received : (recording : Recorded) → items_in (bounds_of recording) [] ≡ []
 unfolding items_from
-none_received bounds = ap (items_of bounds.framing) (none_heeded bounds)
+none_received recording = ap (items_of recording.frame) (none_heeded (bounds_of recording))
 
 none_open : (phases : Phases) → AreOpen phases no_connections
 none_open phases conn may_be = absurd (both_ways (has no_connections conn) (no_connections_may conn) may_be)
@@ -47,7 +47,7 @@ starts {recording = recording} {seen = seen} fresh shows is = record {
       gone = no_connections_may;
       places = all_places;
       taken = omega arith;
-      connected = subst (λ items. AreOpenThen seen.phases (drop 0 items) no_connections) (sym (none_received (bounds_of recording))) (none_open seen.phases);
+      connected = subst (λ items. AreOpenThen seen.phases (drop 0 items) no_connections) (sym (none_received recording)) (none_open seen.phases);
       bare = refl;
     };
     given = giving.Nothing;

@@ -7,6 +7,7 @@ pub use Rattle.std.proofs.lemmas.Option.{get_or_from_slice_get, none-some, optio
 pub use Rattle.std.specs.Prelude.{Err, IfOk, IsSome, Ok, Result, if◌then◌else◌, is_some, nat_lt, option_to_list, slice_get, slice_set, unwrap_or, ◌&&◌, ◌==◌, ◌||◌}
 pub use Rattle.links.proofs.Growing.{tells_nothing, tells_then}
 pub use Rattle.links.proofs.Journaled.{events_in-append, pieces_in-append}
+pub use Rattle.block_book.proofs.Asks.{same-is, same-self}
 pub use Rattle.run_history.proofs.Connections.{closed_may, no_connections_may, others_may, within_after}
 pub use Rattle.run_history.proofs.Repeats.{repeated_add}
 pub use Rattle.run_history.proofs.Runs.{Later, allocated_keeps, alone_is, does_more, element_behind, next_after, next_parts, received_keeps, run_chosen, run_from, run_join, run_more, run_one, slice_get_longer}
@@ -14,13 +15,13 @@ pub use Rattle.run_history.proofs.Serves.{ServesTo, map_some, served_follows, se
 pub use Rattle.run_history.proofs.Shapes.{Alone, Keeps, MaySend, Picks, Same, Shape, Takes, does_shape}
 pub use Rattle.link_gate.proofs.ItemLemmas.{item_fits, item_is, received_is}
 pub use Rattle.link_gate.proofs.Ordering.{in_order_shown}
-pub use Rattle.replay.specs.Terms.{Allocate, Answer, Ask, Block, Bounds, Cause, Choice, Chooses, Closed, Coming, Counts, CpuState, Effect, Emits, Ends, Entry, Fails, Fits, Framing, Free, Gives, Goes, Grant, Guest, HasEnded, Heap, Heard, Image, IsAccount, IsFresh, IsHeap, IsInOrder, IsItemOf, IsLaidOut, IsLastRefused, Item, Limits, Line, LinkEvent, LinkFault, Live, Log, Machine, Marks, MayBegin, Memory, NextShows, Nothing, Open, Override, Path, Phases, Piece, Prefix, Question, ReadFault, Recorded, Refused, Request, Rules, Run, RunsBy, Seen, Send, Session, Standing, State, StaysTold, StillComes, Tells, Told, Turn, Unheeded, Wants, WriteFault, after, bare_item, brought, bytes_asked, chooses, chosen_standing, connections_after, cut_entries, effect, empty_heap, env_at, events_in, first_items, granted, guest_of, heap_after, hear, hear_parts, heeded, insert_live, is_bare, is_live_at, is_usable, items_by, items_in, items_of, journal_of, last_taken, line_of, listed, live_after, live_blocks, live_of, logged, message_item, most_blocks, origin, phase_after, phases_after, pieces_in, planned_next, quietly, received, recorded_of, recorded_turn, refusal, released, repeated, replaced, request_of, run, same_ask, serve, start_standing, taken_standing, takes, turn_to, unless_event, without_block}
+pub use Rattle.replay.specs.Terms.{Allocate, Answer, Ask, Block, Bounds, Cause, Choice, Chooses, Closed, Coming, Counts, CpuState, Difference, Effect, Emits, Ends, Entry, Fails, Fits, Framing, Free, Gives, Goes, Grant, Guest, HasEnded, Heap, Heard, Image, IsAccount, IsFresh, IsHeap, IsInOrder, IsItemOf, IsLaidOut, IsLastRefused, Item, ItemRefusal, Limits, Line, LinkEvent, LinkFault, Live, Log, Machine, Marks, MayBegin, Memory, NextShows, Nothing, Open, Override, Path, Phases, Piece, Prefix, Question, ReadFault, Recorded, Refused, Request, Rules, Run, RunsBy, Seen, Send, Session, Standing, State, StaysTold, StillComes, Tells, Told, Turn, Unheeded, Wants, WriteFault, after, bare_item, brought, bytes_asked, chooses, chosen_standing, connections_after, cut_entries, effect, empty_heap, env_at, events_in, events_of, first_items, granted, guest_of, heap_after, hear, hear_parts, heeded, insert_live, is_bare, is_live_at, is_usable, items_by, items_in, items_of, journal_of, last_taken, line_of, listed, live_after, live_blocks, live_of, logged, message_item, most_blocks, origin, phase_after, phases_after, pieces_in, planned_next, quietly, received, recorded_of, recorded_turn, refusal, released, repeated, replaced, request_of, run, same_ask, serve, start_standing, taken_standing, takes, turn_to, unless_event, without_block}
 unfoldable pub use Rattle.replay.specs.Terms.{allocated, does, grant, heeded_behind, instruction_at, is_allowed, is_block, items_from, next, no_connections, quiet_next, recorded, start, start_machine}
 pub use Rattle.replay.specs.declared.player.Player.{Player}
 pub use Rattle.replay.specs.Giving.{AreGiven, AreGivenInPart, BreaksOff, IsLastSend, found_gone, piece_of}
 pub use Rattle.replay.specs.Replaying.{AreAsked, AreOfLines, Differs, Ended, EndsBy, Failed, HasAsk, HasReplayed, HasReplayedBy, IsAsking, IsOfLine, IsReplay, IsUnusable, LeavesLink, LinkAnswers, Replay, Starved, Unanswered, Untaken, Unused, WaitsForItem, WasAsked, bounds_of, choice_by}
-pub use Rattle.replay.specs.declared.difference.Difference.{Difference}
-pub use Rattle.replay.specs.Differing.{DiffersBy, HasDifference, HasFilledBy, HasFound, HasOtherAsk, HasUnusable, IsApart, IsDifference, IsInputEnd, Never, TellsDifference, WouldDo}
+pub use Rattle.replay.specs.Differing.{DiffersBy, HasFilledBy, HasFound, IsApart, IsDifference, IsInputEnd, Never, TellsDifference, WouldDo}
 pub use Rattle.replay.specs.Playing.{AreOpen, AreOpenThen, GoesOnBy, HasCause, HasNoFault, IsBase, IsBetween, IsEnd, IsPlaying, IsSending, IsWaiting, IsWanting, IsWholeEnd, LeavesBy, LinkHears, LinkTurns, Stage, StayOpen, TurnsBy, WaitsBy, has, replay_of, stage_of, state_of}
-pub use Rattle.replay.specs.Hearing.{HeedsEvent, LogsEvent, answer_of}
+pub use Rattle.replay.specs.Hearing.{HeedsEvent, LogsEvent, answer_of, refusal_answer}
+pub use Rattle.replay.specs.Judging.{ended_apart, judged, left_over, unusable_apart}
 pub use Rattle.replay.specs.Laws.{AreLinesOf, BringsFirst, HadOneStream, HasRoom, HasSession, IsNoMismatch, IsRecordOf, bare_line}

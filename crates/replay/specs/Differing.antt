@@ -1,8 +1,7 @@
 -- What differs where a run isn't the recorded one, as a value.
-use Rattle.std.specs.Prelude.{◌≡◌, ◌≢◌, ℕ, ◌<◌, Bool, List, length, slice_get, Option, None, Some, unwrap_or, Result, Ok, Err}
+use Rattle.std.specs.Prelude.{◌≡◌, ◌≢◌, ℕ, ◌<◌, Bool, List, length, slice_get, Option, None, Some, unwrap_or, Result, Err}
 use Rattle.run_history.specs.declared.answer.Answer.TheVariants as answer
-use Rattle.replay.specs.Terms.{Send, Entry, HasEnded, Seen, Ask, Choice, Image, Answer, Chooses, Effect, Fails, Machine, Wants, does, Standing, Line, Recorded}
-use Rattle.replay.specs.declared.difference.Difference.{Difference}
+use Rattle.replay.specs.Terms.{Send, Entry, HasEnded, Seen, Ask, Choice, Image, Answer, Chooses, Effect, Fails, Machine, Wants, does, Standing, Line, Recorded, Difference}
 use Rattle.replay.specs.declared.difference.Difference.TheVariants as difference
 use Rattle.replay.specs.Replaying.{HasReplayedBy, IsUnusable, Replay, WaitsForItem}
 

@@ -2,10 +2,9 @@
 use Rattle.std.specs.Prelude.{◌≡◌, ◌+◌, ◌<◌, ◌≤◌, ◌^◌, None, Some, Result, Ok, Err}
 use Rattle.links.specs.declared.journal.LinkEvent.TheVariants as event
 use Rattle.links.specs.declared.journal.LinkFault.TheVariants as fault
-use Rattle.item_log.specs.declared.item_refusal.ItemRefusal.{ItemRefusal}
 use Rattle.item_log.specs.declared.item_refusal.ItemRefusal.TheVariants as refusal
 use Rattle.run_history.specs.declared.answer.Answer.TheVariants as answer
-use Rattle.replay.specs.Terms.{LinkEvent, LinkFault, Fits, IsPieceOf, Passes, logged, Answer}
+use Rattle.replay.specs.Terms.{LinkEvent, LinkFault, ItemRefusal, Fits, IsPieceOf, Passes, logged, Answer}
 use Rattle.replay.specs.Playing.{Stage}
 
 -- a fault of a link as an answer

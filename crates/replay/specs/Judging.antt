@@ -1,8 +1,7 @@
 -- What a replay is at its end.
 use Rattle.std.specs.Prelude.{ℕ, Option, None, Some, length, nat_lt, ◌==◌, if◌then◌else◌}
 use Rattle.run_history.specs.declared.answer.Answer.TheVariants as answer
-use Rattle.replay.specs.Terms.{Answer, Ask, Choice, same_ask, Standing, Recorded}
-use Rattle.replay.specs.declared.difference.Difference.{Difference}
+use Rattle.replay.specs.Terms.{Ask, Choice, same_ask, Answer, Standing, Recorded, Difference}
 use Rattle.replay.specs.declared.difference.Difference.TheVariants as difference
 
 -- what differs at the record's end: lines are left over, or not as many items were taken

@@ -1,7 +1,7 @@
 -- What holds of each replay of a record that a run left, over the items that the run was given.
 use Rattle.std.specs.Prelude.{◌≡◌, ◌≢◌, ◌⊎◌, ℕ, ◌<◌, List, [], ◌++◌, length, map, slice_get, Option, None, Some, IfSome}
 use Rattle.run_history.specs.declared.answer.Answer.TheVariants as answer
-use Rattle.replay.specs.Terms.{Item, Prefix, Entry, LinkEvent, Coming, HasEnded, Refuses, events_in, pieces_in, Seen, Ask, Choice, most_blocks, Image, Answer, Chooses, State, start, Run, does, run, IsAccount, Session, journal_of, AreHeeded, Bounds, items_in, Rules, Line, Recorded, line_of}
+use Rattle.replay.specs.Terms.{Item, Prefix, Entry, LinkEvent, Coming, HasEnded, Refuses, events_in, pieces_in, Seen, Ask, Choice, most_blocks, Image, Answer, Chooses, State, start, Run, does, run, IsAccount, Session, journal_of, AreHeeded, Bounds, events_of, items_in, Rules, Line, Recorded, line_of}
 use Rattle.replay.specs.Giving.{AreGiven}
 use Rattle.replay.specs.Replaying.{AreOfLines, bounds_of, HasReplayed}
 
@@ -86,10 +86,10 @@ SessionLeavesRecord =
     (rules : Rules) (image : Image) (session : Session) (recorded : Recorded) → IsAccount rules image session → HasSession rules session recorded →
     IsRecordOf image (items_in rules.bounds (journal_of session)) session.survivor.now.choices session.survivor.now.state recorded
 
--- Two journals had one stream of events, a session's and a replay's: each took the first ones of it, and the replay's link ends only behind
--- the last one.
-pub record HadOneStream (events : List LinkEvent) (session replay : List Entry) : Type 0 where
-  pub session_took : Prefix (events_in session) events
+-- Two journals had one stream of events, a session's, with what came before it, and a replay's: each took the first ones of it, and the replay's link ends
+-- only behind the last one.
+pub record HadOneStream (bounds : Bounds) (events : List LinkEvent) (session replay : List Entry) : Type 0 where
+  pub session_took : Prefix (events_of bounds session) events
   pub replay_took : Prefix (events_in replay) events
   pub all : HasEnded replay → events_in replay ≡ events
 
@@ -98,7 +98,7 @@ abbrev pub OneStreamBrings : Type 0
 OneStreamBrings =
     (image : Image) (bounds : Bounds) (journal : List Entry) (events : List LinkEvent) (choices : List Choice) (state : State) (recorded : Recorded) (began now : Seen) (end : Answer) (before after : ℕ)
     (replayed : HasReplayed image recorded began now end before after) →
-    recorded.frame ≡ bounds.framing → IsRecordOf image (items_in bounds journal) choices state recorded → HadOneStream events journal replayed.entries → BringsFirst (bounds_of recorded) (items_in bounds journal) replayed.entries
+    recorded.frame ≡ bounds.framing → IsRecordOf image (items_in bounds journal) choices state recorded → HadOneStream bounds events journal replayed.entries → BringsFirst (bounds_of recorded) (items_in bounds journal) replayed.entries
 
 -- So a session's record is replayed over the session's stream: no answer says that the run doesn't go on as recorded, and at Finished the
 -- replay has used the session's answers of the allocator and given the sends of its run.
@@ -106,5 +106,5 @@ abbrev pub SessionIsReplayed : Type 0
 SessionIsReplayed =
     (rules : Rules) (image : Image) (session : Session) (events : List LinkEvent) (recorded : Recorded) (began now : Seen) (end : Answer) (before after : ℕ)
     (replayed : HasReplayed image recorded began now end before after) →
-    IsAccount rules image session → HasSession rules session recorded → HadOneStream events (journal_of session) replayed.entries →
+    IsAccount rules image session → HasSession rules session recorded → HadOneStream rules.bounds events (journal_of session) replayed.entries →
     IsNoMismatch recorded replayed.entries now.coming end × (end ≡ answer.Finished → (replayed.replay.choices ≡ session.survivor.now.choices) × AreGiven session.survivor.now.state.sends (pieces_in replayed.entries))

@@ -54,7 +54,7 @@ pub record IsBase (image : Image) (recorded : Recorded) (began : Told) (seen : S
   pub goes_on : HasEnded entries → ⊥
   pub first : stage.log.first ≡ 0
   pub events : stage.events ≡ length (events_in entries)
-  pub phases_are : KeepsPhases entries seen.phases
+  pub phases_are : KeepsPhases (bounds_of recorded) entries seen.phases
   pub gone : (conn : ℕ) → has stage.gone conn ≡ found_gone conn (pieces_in entries)
   pub places : length stage.gone ≡ 4096
   pub taken : stage.live.guest.machine.taken ≤ received (bounds_of recorded) entries

@@ -4,12 +4,12 @@ use Rattle.links.specs.declared.journal.Entry.TheVariants as entry
 use Rattle.links.specs.declared.journal.LinkEvent.TheVariants as event
 use Rattle.run_history.specs.declared.answer.Answer.TheVariants as answer
 use Rattle.session_history.specs.Heeding as unheeded
-use Rattle.replay.specs.Terms.{Send, Entry, LinkEvent, Coming, HasEnded, IsNext, Refuses, Tells, events_in, pieces_in, Seen, Ask, Choice, is_allowed, most_blocks, Image, Answer, Cause, Chooses, Fails, Machine, State, Wants, Run, does, HasAnswerCause, IsLastRefused, IsLastTooLong, Bounds, heeded, items_in, received, Line, Recorded}
+use Rattle.replay.specs.Terms.{Send, Entry, LinkEvent, Coming, HasEnded, IsNext, Refuses, Tells, events_in, pieces_in, Seen, Ask, Choice, is_allowed, most_blocks, Image, Answer, Cause, Chooses, Fails, Machine, State, Wants, Run, does, HasAnswerCause, IsLastRefused, IsLastTooLong, Bounds, heeded, items_in, nothing_before, received, Line, Recorded}
 use Rattle.replay.specs.Giving.{AreGiven, AreGivenInPart}
 
--- what a record allows a link: its own framing, and the most items and events that any session may have
+-- what a record allows a link: its own framing, and the most items and events that any session may have; nothing comes before a replay
 abbrev pub bounds_of : Recorded → Bounds
-bounds_of recorded = record { framing = recorded.frame; max_items = 2 ^ 20; max_events = 2 ^ 32 }
+bounds_of recorded = record { framing = recorded.frame; max_items = 2 ^ 20; max_events = 2 ^ 32; before = nothing_before }
 
 -- an answer has this ask, where one is known
 abbrev pub HasAsk : Option Ask → Choice → Type 0

@@ -16,6 +16,7 @@ pub use Rattle.block_book.specs.Answer.{bytes_asked, insert_live, live_blocks, r
 unfoldable pub use Rattle.block_book.specs.Answer.{is_allowed, is_block}
 pub use Rattle.block_book.specs.Heap.{Heap, IsHeap, empty_heap, is_bare, is_live_at, most_blocks, without_block}
 pub use Rattle.msg_frame.specs.declared.framing.Framing.{Framing}
+pub use Rattle.item_log.specs.declared.item_refusal.ItemRefusal.{ItemRefusal}
 pub use Rattle.item_log.specs.Heard.{Heard, bare_item, brought, first_items, hear, hear_parts, items_by, items_of, message_item}
 unfoldable pub use Rattle.item_log.specs.Heard.{items_from}
 pub use Rattle.item_log.specs.Log.{Fits, IsItemOf, IsPieceOf, Log, Passes, empty_log, logged}
@@ -44,10 +45,11 @@ unfoldable pub use Rattle.guest_cpu.specs.Standing.{quiet_next}
 pub use Rattle.session_history.specs.Account.{IsAccount, Session, journal_of}
 pub use Rattle.session_history.specs.Answering.{HasAnswerCause, MayBegin}
 pub use Rattle.session_history.specs.Ends.{IsLastRefused, IsLastTooLong}
-pub use Rattle.session_history.specs.Heeding.{AreHeeded, Bounds, Unheeded, heeded, items_in, received, refusal}
+pub use Rattle.session_history.specs.Heeding.{AreHeeded, Bounds, Unheeded, events_of, heeded, items_in, nothing_before, received, refusal}
 unfoldable pub use Rattle.session_history.specs.Heeding.{heeded_behind}
 pub use Rattle.session_history.specs.Keeping.{KeepsItems, KeepsPhases, phase_after}
 pub use Rattle.session_history.specs.Lawful.{Rules}
 pub use Rattle.schedule_file.specs.declared.recorded.Line.{Line}
 pub use Rattle.schedule_file.specs.declared.recorded.Recorded.{Recorded}
 pub use Rattle.schedule_file.specs.Lines.{line_of}
+pub use Rattle.replay.specs.declared.difference.Difference.{Difference}

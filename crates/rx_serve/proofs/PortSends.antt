@@ -7,7 +7,7 @@ use Rattle.session_history.specs.Ends.{EndsBy}
 use Rattle.over_port.proofs.CallLemmas.{gave, given_is}
 use Rattle.over_crowd.specs.Calls as crowd
 use Rattle.over_crowd.proofs.CallLemmas as crowd_lemmas
-use Rattle.rx_serve.proofs.Terms.{List, Some, [], ap, false, map, refl, subst, sym, ℕ, ◌++◌, ◌∙◌, ◌∷◌, ◌≡◌, flat_map, ListenEntry, Send, sent_to, Entry, ComesUntold, Piece, events_in, pieces_in, CrowdEntry, Limits, Image, output, Stop, at_its_end, Session, journal_of, OpensOnce, PassesAtOnce, SentIsPassed, piece_of, IsEnd, IsEnded, OwesNothingAtEnd, answer_of, Rules, is_gone, given_to, CalledPort, CalledCrowd}
+use Rattle.rx_serve.proofs.Terms.{List, Some, [], ap, false, map, refl, subst, sym, ℕ, ◌++◌, ◌∙◌, ◌∷◌, ◌≡◌, flat_map, ListenEntry, Send, sent_to, Entry, ComesUntold, Piece, events_in, pieces_in, CrowdEntry, Limits, Image, output, Stop, at_its_end, Session, journal_of, OpensOnce, PassesAtOnce, SentIsPassed, piece_of, IsEnd, IsEnded, OwesNothingAtEnd, answer_of, nothing_before, Rules, is_gone, given_to, CalledPort, CalledCrowd}
 use Rattle.rx_serve.proofs.CrowdOrder.{several_open_once}
 use Rattle.rx_serve.proofs.PortOrder.{opens_once}
 
@@ -32,9 +32,9 @@ at_end rules session (stop.Breaks session_break.FileFault) is ends = absurd is
 at_end rules session (stop.Breaks session_break.Memory) is ends = absurd is
 
 -- what pieces gave of a session whose journal opens each connection once
-all_passed : SentIsPassed → (rules : Rules) (image : Image) (why : Stop) (session : Session) → OpensOnce (events_in (journal_of session)) → IsEnd (answer_of why) → IsEnded rules image (Some ComesUntold) session why → rules.hold ≡ 0 → session.earlier ≡ []
+all_passed : SentIsPassed → (rules : Rules) (image : Image) (why : Stop) (session : Session) → OpensOnce (events_in (journal_of session)) → rules.bounds.before ≡ nothing_before → IsEnd (answer_of why) → IsEnded rules image (Some ComesUntold) session why → rules.hold ≡ 0 → session.earlier ≡ []
     → ((conn : ℕ) → is_gone conn (journal_of session) ≡ false) → (conn : ℕ) → gave conn (journal_of session) ≡ output session.survivor.now.state conn
-all_passed law rules image why session once end is holds first none conn =
+all_passed law rules image why session once alone end is holds first none conn =
     gave_pieces conn (journal_of session) ∙ ap (λ (pieces : List Piece). flat_map (piece_for conn) pieces) (law rules image session passes) ∙ sends_pieces conn session.survivor.now.state.sends
   where
     passes : PassesAtOnce rules image session
@@ -42,6 +42,7 @@ all_passed law rules image why session once end is holds first none conn =
         let ended = at_end rules session why end is.ends in
         record {
           account = is.account;
+          alone = alone;
           first = first;
           given = is.pieces;
           unbroken = ended.1;
@@ -52,20 +53,20 @@ all_passed law rules image why session once end is holds first none conn =
         }
 
 pub all_given : SentIsPassed → (conns : ℕ) (rules : Rules) (image : Image) (why : Stop) (old new : List ListenEntry) (session : Session) (called : CalledPort conns rules old new session)
-    → IsEnd (answer_of why) → IsEnded rules image (Some ComesUntold) session why → rules.hold ≡ 0 → session.earlier ≡ [] → ((conn : ℕ) → is_gone conn (journal_of session) ≡ false)
+    → rules.bounds.before ≡ nothing_before → IsEnd (answer_of why) → IsEnded rules image (Some ComesUntold) session why → rules.hold ≡ 0 → session.earlier ≡ [] → ((conn : ℕ) → is_gone conn (journal_of session) ≡ false)
     → (conn : ℕ) → given_to conn called.calls ≡ output session.survivor.now.state conn
-all_given law conns rules image why old new session called end is holds first none conn =
-    given_is conns conn called.made.place called.calls called.are ∙ ap (gave conn) (sym called.made.entries_are) ∙ all_passed law rules image why session once end is holds first none conn
+all_given law conns rules image why old new session called alone end is holds first none conn =
+    given_is conns conn called.made.place called.calls called.are ∙ ap (gave conn) (sym called.made.entries_are) ∙ all_passed law rules image why session once alone end is holds first none conn
   where
     once : OpensOnce (events_in (journal_of session))
     once = subst (λ (entries : List Entry). OpensOnce (events_in entries)) (sym called.made.entries_are) (opens_once conns called.made.place called.calls called.are)
 
 -- and of several at the same time
 pub several_given : SentIsPassed → (limits : Limits) (rules : Rules) (image : Image) (why : Stop) (old new : List CrowdEntry) (session : Session) (called : CalledCrowd limits rules old new session)
-    → IsEnd (answer_of why) → IsEnded rules image (Some ComesUntold) session why → rules.hold ≡ 0 → session.earlier ≡ [] → ((conn : ℕ) → is_gone conn (journal_of session) ≡ false)
+    → rules.bounds.before ≡ nothing_before → IsEnd (answer_of why) → IsEnded rules image (Some ComesUntold) session why → rules.hold ≡ 0 → session.earlier ≡ [] → ((conn : ℕ) → is_gone conn (journal_of session) ≡ false)
     → (conn : ℕ) → crowd.given_to conn called.calls ≡ output session.survivor.now.state conn
-several_given law limits rules image why old new session called end is holds first none conn =
-    crowd_lemmas.given_is limits conn called.made.ends called.calls called.are ∙ ap (gave conn) (sym called.made.entries_are) ∙ all_passed law rules image why session once end is holds first none conn
+several_given law limits rules image why old new session called alone end is holds first none conn =
+    crowd_lemmas.given_is limits conn called.made.ends called.calls called.are ∙ ap (gave conn) (sym called.made.entries_are) ∙ all_passed law rules image why session once alone end is holds first none conn
   where
     once : OpensOnce (events_in (journal_of session))
     once = subst (λ (entries : List Entry). OpensOnce (events_in entries)) (sym called.made.entries_are) (several_open_once limits called.made.ends called.calls called.are)

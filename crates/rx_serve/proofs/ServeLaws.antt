@@ -2,7 +2,7 @@
 use Rattle.rx_io.specs.declared.fault.IoFault.TheVariants as fault
 use Rattle.run_history.specs.declared.answer.Answer.TheVariants as answer
 use Rattle.over_crowd.specs.Calls as crowd
-use Rattle.rx_serve.proofs.Terms.{List, None, Option, Some, [], ap, append_assoc, false, inl, inr, subst, sym, ℕ, ◌++◌, ◌∙◌, ◌≡◌, Result, ◌≢◌, IoFault, ListenEntry, Binds, Entry, LinkEvent, ComesUntold, Coming, events_in, CrowdEntry, CrowdBinds, Limits, number_cases, Image, Answer, Stop, events_in-given, given_broken, Session, journal_of, IsComplete, NoOtherAnswer, SentIsPassed, IsEnd, IsEnded, answer_of, before_end, AreGiven, AreHeeded, heeded, Rules, entries_of, is_gone, given_to, CalledPort, GoesOverPort, CalledCrowd, GoesOverCrowd, RunValue, ServeValue, End, Outside, HasLoadCause, rules_of_run, window_of, GoesOver, Port, Route, Several, Trunk, IsFilesAnswer, HasServed, EndsOver, IsBindAnswer, limits_of, AllSendsAreGiven, GivesAll, GivesOver, GoodClientsAreServed, NoServeIsRefused, OfClients}
+use Rattle.rx_serve.proofs.Terms.{List, None, Option, Some, [], ap, append_assoc, false, inl, inr, refl, subst, sym, ℕ, ◌++◌, ◌∙◌, ◌≡◌, Result, ◌≢◌, IoFault, ListenEntry, Binds, Entry, LinkEvent, ComesUntold, Coming, events_in, CrowdEntry, CrowdBinds, Limits, number_cases, Image, Answer, Stop, events_in-given, given_broken, Session, journal_of, IsComplete, NoOtherAnswer, SentIsPassed, IsEnd, IsEnded, answer_of, before_end, AreGiven, AreHeeded, heeded, nothing_before, Rules, entries_of, is_gone, given_to, CalledPort, GoesOverPort, CalledCrowd, GoesOverCrowd, RunValue, ServeValue, End, Outside, HasLoadCause, rules_of_run, window_of, GoesOver, Port, Route, Several, Trunk, IsFilesAnswer, HasServed, EndsOver, IsBindAnswer, limits_of, AllSendsAreGiven, GivesAll, GivesOver, GoodClientsAreServed, NoServeIsRefused, OfClients}
 use Rattle.rx_serve.proofs.PortSends.{all_given, several_given}
 use Rattle.over_port.proofs.ServeLemmas.{no_refusal}
 use Rattle.rx_serve.proofs.NotingLemmas.{closes_other, closes_same}
@@ -56,32 +56,32 @@ good_clients_are_served law value route old new end served clients heeds = good_
 
 -- all that was sent was given, by the calls that were made
 given_over : SentIsPassed → (conns : ℕ) (rules : Rules) {image : Image} {why : Stop} {calls : List ListenEntry} (later : Option (List ListenEntry)) {session : Session} → GoesOverPort conns rules (Some calls) later session
-    → IsEnd (answer_of why) → IsEnded rules image (Some ComesUntold) session why → rules.hold ≡ 0 → session.earlier ≡ [] → ((conn : ℕ) → is_gone conn (journal_of session) ≡ false) → GivesAll given_to calls later session.survivor.now.state
-given_over law conns rules None goes end is holds first none = absurd goes
-given_over law conns rules {image = image} {why = why} {calls = calls} (Some later) {session = session} goes end is holds first none =
+    → rules.bounds.before ≡ nothing_before → IsEnd (answer_of why) → IsEnded rules image (Some ComesUntold) session why → rules.hold ≡ 0 → session.earlier ≡ [] → ((conn : ℕ) → is_gone conn (journal_of session) ≡ false) → GivesAll given_to calls later session.survivor.now.state
+given_over law conns rules None goes alone end is holds first none = absurd goes
+given_over law conns rules {image = image} {why = why} {calls = calls} (Some later) {session = session} goes alone end is holds first none =
     let called : CalledPort conns rules calls later session = goes in
-    record { calls = called.calls; made = ap Some called.grew; all = all_given law conns rules image why calls later session called end is holds first none }
+    record { calls = called.calls; made = ap Some called.grew; all = all_given law conns rules image why calls later session called alone end is holds first none }
 
 several_over : SentIsPassed → (limits : Limits) (rules : Rules) {image : Image} {why : Stop} {calls : List CrowdEntry} (later : Option (List CrowdEntry)) {session : Session} → GoesOverCrowd limits rules (Some calls) later session
-    → IsEnd (answer_of why) → IsEnded rules image (Some ComesUntold) session why → rules.hold ≡ 0 → session.earlier ≡ [] → ((conn : ℕ) → is_gone conn (journal_of session) ≡ false) → GivesAll crowd.given_to calls later session.survivor.now.state
-several_over law limits rules None goes end is holds first none = absurd goes
-several_over law limits rules {image = image} {why = why} {calls = calls} (Some later) {session = session} goes end is holds first none =
+    → rules.bounds.before ≡ nothing_before → IsEnd (answer_of why) → IsEnded rules image (Some ComesUntold) session why → rules.hold ≡ 0 → session.earlier ≡ [] → ((conn : ℕ) → is_gone conn (journal_of session) ≡ false) → GivesAll crowd.given_to calls later session.survivor.now.state
+several_over law limits rules None goes alone end is holds first none = absurd goes
+several_over law limits rules {image = image} {why = why} {calls = calls} (Some later) {session = session} goes alone end is holds first none =
     let called : CalledCrowd limits rules calls later session = goes in
-    record { calls = called.calls; made = ap Some called.grew; all = several_given law limits rules image why calls later session called end is holds first none }
+    record { calls = called.calls; made = ap Some called.grew; all = several_given law limits rules image why calls later session called alone end is holds first none }
 
 -- as far as the calls are told
 gives_over : SentIsPassed → (route : Route) (rules : Rules) (coming : Option Coming) {image : Image} {why : Stop} {session : Session} → GoesOver route rules coming session why
-    → IsEnd (answer_of why) → IsEnded rules image (Some ComesUntold) session why → rules.hold ≡ 0 → session.earlier ≡ [] → ((conn : ℕ) → is_gone conn (journal_of session) ≡ false) → GivesOver route session.survivor.now.state
-gives_over law (Trunk source source_later sink sink_later) rules coming goes end is holds first none = tt
-gives_over law (Port conns None later) rules coming goes end is holds first none = tt
-gives_over law (Port conns (Some calls) later) rules coming goes end is holds first none = given_over law conns rules later goes.1 end is holds first none
-gives_over law (Several limits None later) rules coming goes end is holds first none = tt
-gives_over law (Several limits (Some calls) later) rules coming goes end is holds first none = several_over law limits rules later goes.1 end is holds first none
+    → rules.bounds.before ≡ nothing_before → IsEnd (answer_of why) → IsEnded rules image (Some ComesUntold) session why → rules.hold ≡ 0 → session.earlier ≡ [] → ((conn : ℕ) → is_gone conn (journal_of session) ≡ false) → GivesOver route session.survivor.now.state
+gives_over law (Trunk source source_later sink sink_later) rules coming goes alone end is holds first none = tt
+gives_over law (Port conns None later) rules coming goes alone end is holds first none = tt
+gives_over law (Port conns (Some calls) later) rules coming goes alone end is holds first none = given_over law conns rules later goes.1 alone end is holds first none
+gives_over law (Several limits None later) rules coming goes alone end is holds first none = tt
+gives_over law (Several limits (Some calls) later) rules coming goes alone end is holds first none = several_over law limits rules later goes.1 alone end is holds first none
 
 pub all_sends_are_given : SentIsPassed → AllSendsAreGiven
 all_sends_are_given law value route old new end served clients at_end holds first none =
     let same = closes_same value.session end.taken end.steps served.files_served new.files (answer_of served.why) end.answer served.closes at_end in
-    gives_over law route (rules_of_run value.session) served.noted.serves.coming served.noted.serves.goes (subst IsEnd same at_end) (ended clients served) holds first none
+    gives_over law route (rules_of_run value.session) served.noted.serves.coming served.noted.serves.goes refl (subst IsEnd same at_end) (ended clients served) holds first none
 
 -- nor is a port refused that isn't bound
 bind_not_refused : (kind offset : ℕ) (why : IoFault) (end : Answer) → IsBindAnswer why end → end ≢ answer.InputRefused kind offset

@@ -12,7 +12,7 @@ pub use Rattle.session_history.proofs.Ended.{at_its_end, came_to, holds_at_end, 
 pub use Rattle.session_history.proofs.Endings.{events_in-given, given_broken, passed_all, received_at_end}
 pub use Rattle.session_history.proofs.Growing.{ByChoice, ByEnd, ByItem, ByItself, BySend, Moved, moved}
 pub use Rattle.file_notes.proofs.CallingLemmas.{calls_then, front_all, front_behind, front_first}
-pub use Rattle.rx_serve.specs.Terms.{Added, AddsAlone, Answer, AreAllTables, AreAsks, AreGiven, AreHeeded, AreInRange, AreTwo, AtEnd, BeginWith, Binds, CalledCrowd, CalledPort, Calls, CallsFront, Choice, Chooses, ComesUntold, Coming, CommandValue, Contents, ConvertValue, ConvertsTrunk, CrowdBinds, CrowdEntry, DiagnoseValue, DrillEnds, Effect, Emits, Ended, Ends, EndsAfter, EndsAt, EndsBy, Entry, Episode, Fails, FileCall, Form, Goes, GoesOverCrowd, GoesOverPort, Guard, HasCause, HasComeTo, HasNoted, HasPassedAll, HasRanges, HasServedTrunk, Heap, Image, InRecord, InReport, IoFault, IsAccount, IsAsk, IsBegun, IsChoice, IsComplete, IsDrained, IsEnd, IsEnded, IsHandedLast, IsImage, IsNoteStop, IsOutcome, IsRecord, IsThird, Item, Keeping, KeepsToLiveBlocks, Left, Limits, LinkEvent, ListenEntry, Loaded, MAX_TAKEN, Machine, Names, NoOtherAnswer, NoOtherEnd, NoneFailed, NoteList, Noted, NotedTablesAreTold, Nothing, OpensOnce, Options, Outcome, OwesNothingAtEnd, Parts, PassesAtOnce, Piece, Prefix, Recorded, ReplayValue, ReplaysTrunk, Rose, Rules, Run, RunValue, Send, SendsAreWritten, SentIsPassed, ServeValue, ServesCrowd, ServesPort, ServesTrunk, Session, SessionEnd, SessionState, Shown, Stands, StandsBeside, Started, State, Stop, Stream, Telling, TellsMore, Try, Turned, Unnoted, Wants, WatchesTrunk, Way, WritesSends, after, all_kept, answer_of, asm, before_end, bounds_of, closes, command_of, convert, convert_shown, diagnose, diagnose_shown, diagnosis_text, drill, drill_shown, effect, end_answer, entries_of, events_in, fits, frame, framing, given_to, has_fourth, have_names, head_text, heap_end, heap_start, heeded, is_ask, is_gone, items_in, journal_of, keeping_for, lines_of, list_episodes, noted, onto, output, payload, piece_of, pieces_in, positional, record_of, refused_behind, refused_from, refused_line, refused_lines, refused_under, replay, replay_shown, rest_text, rules_of, run, run_shown, sent_to, serve, serve_shown, starting, starts_of, story_of, text_of, texts_of, unframe, unframing, unnoted_of, written}
+pub use Rattle.rx_serve.specs.Terms.{Added, AddsAlone, Answer, AreAllTables, AreAsks, AreGiven, AreHeeded, AreInRange, AreTwo, AtEnd, BeginWith, Binds, CalledCrowd, CalledPort, Calls, CallsFront, Choice, Chooses, ComesUntold, Coming, CommandValue, Contents, ConvertValue, ConvertsTrunk, CrowdBinds, CrowdEntry, DiagnoseValue, DrillEnds, Effect, Emits, Ended, Ends, EndsAfter, EndsAt, EndsBy, Entry, Episode, Fails, FileCall, Form, Goes, GoesOverCrowd, GoesOverPort, Guard, HasCause, HasComeTo, HasNoted, HasPassedAll, HasRanges, HasServedTrunk, Heap, Image, InRecord, InReport, IoFault, IsAccount, IsAsk, IsBegun, IsChoice, IsComplete, IsDrained, IsEnd, IsEnded, IsHandedLast, IsImage, IsNoteStop, IsOutcome, IsRecord, IsThird, Item, Keeping, KeepsToLiveBlocks, Left, Limits, LinkEvent, ListenEntry, Loaded, MAX_TAKEN, Machine, Names, NoOtherAnswer, NoOtherEnd, NoneFailed, NoteList, Noted, NotedTablesAreTold, Nothing, OpensOnce, Options, Outcome, OwesNothingAtEnd, Parts, PassesAtOnce, Piece, Prefix, Recorded, ReplayValue, ReplaysTrunk, Rose, Rules, Run, RunValue, Send, SendsAreWritten, SentIsPassed, ServeValue, ServesCrowd, ServesPort, ServesTrunk, Session, SessionEnd, SessionState, Shown, Stands, StandsBeside, Started, State, Stop, Stream, Telling, TellsMore, Try, Turned, Unnoted, Wants, WatchesTrunk, Way, WritesSends, after, all_kept, answer_of, asm, before_end, bounds_of, closes, command_of, convert, convert_shown, diagnose, diagnose_shown, diagnosis_text, drill, drill_shown, effect, end_answer, entries_of, events_in, fits, frame, framing, given_to, has_fourth, have_names, head_text, heap_end, heap_start, heeded, is_ask, is_gone, items_in, journal_of, keeping_for, lines_of, list_episodes, noted, nothing_before, onto, output, payload, piece_of, pieces_in, positional, record_of, refused_behind, refused_from, refused_line, refused_lines, refused_under, replay, replay_shown, rest_text, rules_of, run, run_shown, sent_to, serve, serve_shown, starting, starts_of, story_of, text_of, texts_of, unframe, unframing, unnoted_of, written}
 unfoldable pub use Rattle.rx_serve.specs.Terms.{allocated, conns_row, diagnose_form, diagnose_value, diagnosis_row, does, end_of, head_of, is_diagnose, is_run, is_serve, next, permits, port_row, received, record_row, refusal, report_row, run_form, run_value, serve_form, serve_value, start, start_machine}
 pub use Rattle.rx_serve.specs.declared.ending.End.{End}
 pub use Rattle.rx_serve.specs.Limits.{program_limit}

@@ -43,7 +43,7 @@ pub use Rattle.session_history.specs.Account.{HasPassedAll, IsAccount, Session, 
 pub use Rattle.session_history.specs.AccountLaws.{IsComplete, NoOtherAnswer, OpensOnce, PassesAtOnce, SentIsPassed, piece_of}
 pub use Rattle.session_history.specs.Ends.{AtBreak, AtEnd, EndsAt, HasComeTo, IsEnd, IsEnded, OwesNothingAtEnd, answer_of, before_end, end_answer}
 pub use Rattle.session_history.specs.Giving.{AreGiven}
-pub use Rattle.session_history.specs.Heeding.{AreHeeded, heeded, items_in}
+pub use Rattle.session_history.specs.Heeding.{AreHeeded, heeded, items_in, nothing_before}
 pub use Rattle.session_history.specs.Lawful.{Rules, entries_of}
 pub use Rattle.session_history.specs.Opened.{closes, is_gone, is_open}
 pub use Rattle.session_notes.specs.declared.episode.Episode.{Episode}

@@ -1,6 +1,6 @@
 -- What each event of a session makes of its account.
 use Rattle.links.specs.declared.journal.Entry.TheVariants as entry
-use Rattle.session_history.proofs.Terms.{Bool, List, [], ap, append_assoc, arith, length, length-append, refl, subst, sym, ℕ, ◌++◌, ◌+◌, ◌∙◌, ◌∷◌, ◌≡◌, ◌≤◌, Item, Prefix, Send, Entry, LinkEvent, items_from, Image, Follows, IsUsed, served_follows, served_is_run, start, start_machine, Run, Limits, Override, Path, Served, origin, heeded_behind, items_in, received, AreInOrder, Covers, IsFeasible, passed_in, Moment, journal, IsDuePiece, Rules, Carries}
+use Rattle.session_history.proofs.Terms.{Bool, List, [], ap, append_assoc, arith, length, length-append, refl, subst, sym, ℕ, ◌++◌, ◌+◌, ◌∙◌, ◌∷◌, ◌≡◌, ◌≤◌, Item, Prefix, Send, Entry, LinkEvent, items_from, Image, Follows, IsUsed, served_follows, served_is_run, start, start_machine, Run, Limits, Override, Path, Served, origin, heeded_behind, Before, items_in, nothing_before, received, AreInOrder, Covers, IsFeasible, passed_in, Moment, journal, IsDuePiece, Rules, Carries, IsSoundBefore, NothingIsSound}
 use Rattle.session_history.proofs.Paths.{served_same, served_on, served_with}
 use Rattle.session_history.proofs.Growing.{Grows, run_grows}
 use Rattle.session_history.proofs.Passing.{in_order_wider, in_order_then, covers_on, covers_pass, feasible_on, feasible_pass, timed_on}
@@ -23,16 +23,26 @@ unfolding start start_machine
 used_from limits image items plan path served = (served_follows limits items plan (origin image) path served.more refl served.ran).used
 
 -- nothing came and went, and nothing was run
-pub carries_none : (rules : Rules) (image : Image) (plan : List Override) → Carries rules image [] plan (origin image)
+abbrev from_nothing : Rules → Rules
+from_nothing rules = record rules { bounds = record rules.bounds { before = nothing_before } }
+
+carries_none : (rules : Rules) (image : Image) → Carries (from_nothing rules) image [] [] (origin image)
 unfolding start start_machine heeded_behind items_from
-carries_none rules image plan = record {
-  served = served_same rules.limits (items_in rules.bounds []) plan (origin image);
+carries_none rules image = record {
+  served = served_same rules.limits (items_in (from_nothing rules).bounds []) [] (origin image);
   taken = omega arith;
   covers = (λ conn. ([], refl));
   feasible = (λ item low. absurd (omega (arith, low)));
   ordered = tt;
   timed = tt;
 }
+
+sound_none : (rules : Rules) (image : Image) → IsSoundBefore (from_nothing rules) image
+unfolding heeded_behind
+sound_none rules image = record { heeded = refl; carries = carries_none rules image }
+
+pub nothing_is_sound : NothingIsSound
+nothing_is_sound rules image alone = subst (λ (b : Before). IsSoundBefore (record rules { bounds = record rules.bounds { before = b } }) image) (sym alone) (sound_none rules image)
 
 -- the survivor goes on
 pub carries_on : (rules : Rules) (image : Image) (entries : List Entry) (plan : List Override) (now to : Path) → Carries rules image entries plan now

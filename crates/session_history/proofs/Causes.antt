@@ -1,7 +1,7 @@
 -- Each end has a cause of its own.
 use Rattle.links.specs.declared.journal.Entry.TheVariants as entry
 use Rattle.links.specs.declared.journal.LinkEvent.TheVariants as event
-use Rattle.session_history.proofs.Terms.{List, Option, Some, [], ap, refl, subst, sym, ℕ, ◌++◌, ◌∙◌, ◌∷◌, ◌≡◌, ◌≢◌, same_from_push, none-some, same_Some, unwrap_or, Entry, LinkEvent, Comes, Coming, ComesUntold, HasEnded, IsNext, Refuses, events_in, last_taken, IsPieceOf, Fails, Wants, FailsBy, SessionEnd, Bounds, Unheeded, refusal, Rules, Survivor, IsLastRefused, IsLastTooLong, IsWaiting, StandsAt, OneEnd}
+use Rattle.session_history.proofs.Terms.{List, Option, Some, [], ap, refl, subst, sym, ℕ, ◌++◌, ◌∙◌, ◌∷◌, ◌≡◌, ◌≢◌, same_from_push, none-some, same_Some, unwrap_or, Entry, LinkEvent, Comes, Coming, ComesUntold, HasEnded, IsNext, Refuses, last_taken, IsPieceOf, Fails, Wants, FailsBy, SessionEnd, Bounds, Unheeded, events_of, refusal, Rules, Survivor, IsLastRefused, IsLastTooLong, IsWaiting, StandsAt, OneEnd}
 use Rattle.session_history.specs.declared.ends.SessionEnd.TheVariants as session_end
 use Rattle.run_history.specs.declared.answer.Cause.{Cause}
 use Rattle.session_history.specs.Heeding as unheeded
@@ -20,7 +20,7 @@ one_cause : (bounds : Bounds) (entries : List Entry) (cause because : Unheeded) 
 one_cause bounds entries cause because one other =
     let before = (same_from_push one.before other.before (entry.Took one.event) (entry.Took other.event) (sym one.last ∙ other.last)).0 in
     same_Some cause because
-    (sym one.refused ∙ ap (λ es. refusal bounds (events_in es) one.event) before ∙ ap (refusal bounds (events_in other.before)) (last_event bounds entries cause because one other) ∙ other.refused)
+    (sym one.refused ∙ ap (λ es. refusal bounds (events_of bounds es) one.event) before ∙ ap (refusal bounds (events_of bounds other.before)) (last_event bounds entries cause because one other) ∙ other.refused)
 
 one_piece : (event : LinkEvent) (conn of : ℕ) → IsPieceOf event conn → IsPieceOf event of → conn ≡ of
 one_piece (event.Piece to bytes) conn of one other = sym one ∙ other

@@ -57,6 +57,7 @@ ending_account rules image earlier survivor since ending came was =
       taken = carries.taken;
       passed = carries.covers;
       feasible = carries.feasible;
+      ordered = carries.ordered;
       earlier = subst (λ its. AreLawful rules its [] earlier) items was.before;
       since = subst (λ its. AreDue rules its survivor (place_of earlier [] false) since) items was.due;
       ending = subst (λ its. AreDue rules its (from_there survivor survivor.now) (place_of earlier since (is_some came)) ending) items was.last;
@@ -84,6 +85,7 @@ broken_account rules image earlier survivor since ending came conn bytes was due
       taken = carries.taken;
       passed = carries.covers;
       feasible = carries.feasible;
+      ordered = carries.ordered;
       earlier = subst (λ its. AreLawful rules its [] earlier) kept was.before;
       since = subst (λ its. AreDue rules its survivor (place_of earlier [] false) since) kept was.due;
       ending = subst (λ its. AreDue rules its (from_there survivor survivor.now) (place_of earlier since (is_some came)) ending) kept was.last;
@@ -143,5 +145,5 @@ received_at_end bounds session ending broken =
     let before : List Entry = before_end session in
     let whole : journal_of session ≡ (before ++ session.ending) ++ session.broken =
     sym (append_assoc (entries_of session.earlier) session.since (session.ending ++ session.broken)) ∙ sym (append_assoc before session.ending session.broken) in
-    ap (λ es. items_of bounds.framing (heeded bounds es))
+    ap (λ es. items_of bounds.framing (heeded bounds (bounds.before.events ++ es)))
     (ap events_in whole ∙ (events_in-given (before ++ session.ending) session.broken broken ∙ events_in-given before session.ending ending))

@@ -3,13 +3,13 @@
 use Rattle.links.specs.declared.journal.Entry.TheVariants as entry
 use Rattle.links.specs.declared.journal.LinkEvent.TheVariants as event
 use Rattle.msg_frame.specs.declared.framing.Framing.TheVariants.{Whole}
-use Rattle.session_history.proofs.Terms.{List, Some, [], false, refl, true, ◌∷◌, ◌≡◌, Entry, LinkEvent, cut, cut_whole, none_open, heard_from, items_from, Bounds, LimitEvents, LimitItems, heeded, heeded_behind, refusal, is_open, passed_in, latest}
+use Rattle.session_history.proofs.Terms.{List, None, Some, [], false, refl, true, ◌∷◌, ◌≡◌, Entry, LinkEvent, cut, cut_whole, none_open, heard_from, items_from, Bounds, LimitEvents, LimitItems, events_of, heeded, heeded_behind, nothing_before, received, refusal, is_open, passed_in, latest}
 
 abbrev few : Bounds
-few = record { framing = Whole; max_items = 2; max_events = 3 }
+few = record { framing = Whole; max_items = 2; max_events = 3; before = nothing_before }
 
 abbrev enough : Bounds
-enough = record { framing = Whole; max_items = 9; max_events = 9 }
+enough = record { framing = Whole; max_items = 9; max_events = 9; before = nothing_before }
 
 abbrev opening : LinkEvent
 opening = event.Opens 0
@@ -56,3 +56,31 @@ gone = refl
 -- the last event is the second message: behind it nothing came but Ends, which is none
 last_one : latest (entry.Took opening ∷ entry.Took message ∷ entry.Took event.Ends ∷ []) ≡ Some (record { before = entry.Took opening ∷ []; event = message })
 last_one = refl
+
+-- Behind a part that was followed, of which the client has a byte that was sent with one item taken: the next event is the third, its item the
+-- third too, and a reply that is passed then stands behind that byte.
+abbrev later : Bounds
+later = record enough { before = record { events = opening ∷ message ∷ []; had = record { conn = 0; bytes = 121 ∷ []; taken = 1 } ∷ []; plan = []; stood = None } }
+
+abbrev reply_later : List Entry
+reply_later = entry.Took message ∷ entry.Gave 0 (120 ∷ []) false ∷ []
+
+all_later : events_of later reply_later ≡ opening ∷ message ∷ message ∷ []
+all_later = refl
+
+received_later : received later reply_later ≡ 3
+unfolding heeded_behind heard_from items_from none_open cut cut_whole
+received_later = refl
+
+passed_later : passed_in later reply_later ≡ record { conn = 0; bytes = 121 ∷ []; taken = 1 } ∷ record { conn = 0; bytes = 120 ∷ []; taken = 3 } ∷ []
+unfolding heeded_behind heard_from items_from none_open cut cut_whole
+passed_later = refl
+
+opened_before : is_open later [] 0 ≡ true
+unfolding heeded_behind heard_from items_from none_open cut cut_whole
+opened_before = refl
+
+-- so many items are one too many there
+too_many_later : refusal (record later { max_items = 2 }) (events_of later []) message ≡ Some LimitItems
+unfolding heard_from items_from none_open cut cut_whole
+too_many_later = refl

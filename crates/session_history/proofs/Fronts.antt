@@ -48,8 +48,9 @@ whole_bytes conn [] = refl
 whole_bytes conn (send ∷ sends) = ap (λ more. cond (eqb send.conn conn) send.bytes [] ++ more) (whole_bytes conn sends)
 
 -- where the pieces are some sends, these were passed
-pub front_bytes : (bounds : Bounds) (entries : List Entry) (front : List Send) (conn : ℕ) → pieces_in entries ≡ map piece_of front → sent_to conn (passed_in bounds entries) ≡ sent_to conn front
-front_bytes bounds entries front conn same = passed_bytes bounds conn [] entries ∙ ap (sent_by conn) same ∙ whole_bytes conn front
+pub front_bytes : (bounds : Bounds) (entries : List Entry) (front : List Send) (conn : ℕ) → bounds.before.had ≡ [] → pieces_in entries ≡ map piece_of front → sent_to conn (passed_in bounds entries) ≡ sent_to conn front
+front_bytes bounds entries front conn none same =
+    ap (λ had. sent_to conn (had ++ passed_behind bounds [] entries)) none ∙ passed_bytes bounds conn [] entries ∙ ap (sent_by conn) same ∙ whole_bytes conn front
 
 pub never_passed : (front : List Send) (other : Send) (passed : List ℕ) → passed ≡ sent_to other.conn front → 0 < length other.bytes → Prefix (sent_to other.conn (front ++ other ∷ [])) passed → ⊥
 never_passed front other passed same some begins =

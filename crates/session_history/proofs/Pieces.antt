@@ -1,8 +1,8 @@
 -- The pieces of a session that holds nothing back are the sends of its run.
 use Rattle.links.specs.declared.journal.Entry.TheVariants as entry
 use Rattle.links.specs.declared.journal.LinkEvent.TheVariants as event
-use Rattle.session_history.proofs.Terms.{Bool, List, None, Option, Some, [], ap, append-nil, append_assoc, arith, false, inl, inr, length, length-append, map, refl, subst, sym, true, ℕ, ◌++◌, ◌+◌, ◌∙◌, ◌∷◌, ◌≡◌, ◌≤◌, and_right, both_ways, append_cancel_left, map-append, nil_from_length, none-some, same_Some, option_map, unwrap_or, Item, Prefix, Send, sent_to, Entry, LinkEvent, pieces_in-append, events_in, pieces_in, sent_then, Image, prefix_sent, start, start_machine, Path, Served, origin, Bounds, heeded, items_in, received, closes, is_gone, is_open, AreBetween, AreInOrder, passed_in, IsDueBy, IsMadeDue, IsOwed, IsPassed, Latest, Moment, Place, Stands, behind, latest, moment_at, IsDue, IsDueEvent, IsDuePiece, IsWholePiece, Rules, Survivor, is_closed_by, is_closing, OpensOnce, piece_of}
-use Rattle.session_history.proofs.Heeding.{events_in-gave}
+use Rattle.session_history.proofs.Terms.{Bool, List, None, Option, Some, [], ap, append-nil, append_assoc, arith, false, inl, inr, length, length-append, map, refl, subst, sym, true, ℕ, ◌++◌, ◌+◌, ◌∙◌, ◌∷◌, ◌≡◌, ◌≤◌, and_right, both_ways, append_cancel_left, map-append, nil_from_length, none-some, same_Some, option_map, unwrap_or, Item, Prefix, Send, sent_to, Entry, LinkEvent, pieces_in-append, pieces_in, sent_then, Image, prefix_sent, start, start_machine, Path, Served, origin, Bounds, events_of, heeded, items_in, received, closes, is_gone, is_open, AreBetween, AreInOrder, passed_in, IsDueBy, IsMadeDue, IsOwed, IsPassed, Latest, Moment, Place, Stands, behind, latest, moment_at, IsDue, IsDueEvent, IsDuePiece, IsWholePiece, Rules, Survivor, is_closed_by, is_closing, OpensOnce, piece_of}
+use Rattle.session_history.proofs.Heeding.{events_of-gave}
 use Rattle.session_history.proofs.Passing.{timed_on}
 use Rattle.session_history.proofs.Paths.{served_on}
 use Rattle.session_history.proofs.Connected.{IsSent, AreSent, are_sent-behind}
@@ -40,26 +40,26 @@ abbrev pub seen_at : List Entry → Bool → ℕ → Moment
 seen_at entries at_end count = moment_at (place_behind entries at_end) count
 
 -- what is owed to a connection that wasn't closed was sent in time
-made_due_taken : (bounds : Bounds) (entries : List Entry) (at_end : Bool) (conn taken : ℕ) (event : LinkEvent) (before : ℕ) → closes conn (heeded bounds (events_in entries)) ≡ false → IsMadeDue bounds (place_behind entries at_end) conn taken event before → taken ≤ before
+made_due_taken : (bounds : Bounds) (entries : List Entry) (at_end : Bool) (conn taken : ℕ) (event : LinkEvent) (before : ℕ) → closes conn (heeded bounds (events_of bounds entries)) ≡ false → IsMadeDue bounds (place_behind entries at_end) conn taken event before → taken ≤ before
 made_due_taken bounds entries at_end conn taken event.Settles before unclosed due = due.1
 made_due_taken bounds entries at_end conn taken (event.Closes closed) before unclosed due = due.3
 made_due_taken bounds entries at_end conn taken (event.Opens c) before unclosed due = absurd due
 made_due_taken bounds entries at_end conn taken (event.Piece c bytes) before unclosed due = absurd due
 made_due_taken bounds entries at_end conn taken event.Ends before unclosed due = absurd due
 
-due_taken : (bounds : Bounds) (entries : List Entry) (at_end : Bool) (conn taken : ℕ) (found : Option Latest) → latest entries ≡ found → closes conn (heeded bounds (events_in entries)) ≡ false → IsDueBy bounds (place_behind entries at_end) conn taken found → taken ≤ received bounds entries
+due_taken : (bounds : Bounds) (entries : List Entry) (at_end : Bool) (conn taken : ℕ) (found : Option Latest) → latest entries ≡ found → closes conn (heeded bounds (events_of bounds entries)) ≡ false → IsDueBy bounds (place_behind entries at_end) conn taken found → taken ≤ received bounds entries
 due_taken bounds entries at_end conn taken None is unclosed due = absurd due
 due_taken bounds entries at_end conn taken (Some last) is unclosed due =
     let front = latest_front entries last is in
     omega (arith, made_due_taken bounds entries at_end conn taken last.event (received bounds last.before) unclosed due, received_longer bounds last.before front.0, ap (received bounds) front.1)
 
-owed_taken : (bounds : Bounds) (hold : ℕ) (entries : List Entry) (at_end : Bool) (count : ℕ) (send : Send) → closes send.conn (heeded bounds (events_in entries)) ≡ false → count ≤ received bounds entries → (at_end ≡ true → send.taken ≤ received bounds entries) → IsOwed bounds hold (seen_at entries at_end count) send → send.taken ≤ received bounds entries
+owed_taken : (bounds : Bounds) (hold : ℕ) (entries : List Entry) (at_end : Bool) (count : ℕ) (send : Send) → closes send.conn (heeded bounds (events_of bounds entries)) ≡ false → count ≤ received bounds entries → (at_end ≡ true → send.taken ≤ received bounds entries) → IsOwed bounds hold (seen_at entries at_end count) send → send.taken ≤ received bounds entries
 owed_taken bounds hold entries at_end count send unclosed low all (inl (opened, inl early)) = omega (arith, early, low)
 owed_taken bounds hold entries at_end count send unclosed low all (inl (opened, inr ended)) = all ended
 owed_taken bounds hold entries at_end count send unclosed low all (inr due) = due_taken bounds entries at_end send.conn send.taken (latest entries) refl unclosed due
 
 -- where one send is owed to a connection that wasn't closed, so is each one to an open connection that was made with no more items taken
-made_due_too : (bounds : Bounds) (entries : List Entry) (at_end : Bool) (conn taken other fewer : ℕ) (event : LinkEvent) (before : ℕ) → closes conn (heeded bounds (events_in entries)) ≡ false → is_open bounds entries other ≡ true → fewer ≤ taken
+made_due_too : (bounds : Bounds) (entries : List Entry) (at_end : Bool) (conn taken other fewer : ℕ) (event : LinkEvent) (before : ℕ) → closes conn (heeded bounds (events_of bounds entries)) ≡ false → is_open bounds entries other ≡ true → fewer ≤ taken
     → IsMadeDue bounds (place_behind entries at_end) conn taken event before → IsMadeDue bounds (place_behind entries at_end) other fewer event before
 made_due_too bounds entries at_end conn taken other fewer event.Settles before unclosed opened low due = (opened, omega (arith, low, due.1))
 made_due_too bounds entries at_end conn taken other fewer (event.Closes closed) before unclosed opened low due = absurd (both_ways _ unclosed due.1)
@@ -67,12 +67,12 @@ made_due_too bounds entries at_end conn taken other fewer (event.Opens c) before
 made_due_too bounds entries at_end conn taken other fewer (event.Piece c bytes) before unclosed opened low due = due
 made_due_too bounds entries at_end conn taken other fewer event.Ends before unclosed opened low due = due
 
-due_too : (bounds : Bounds) (entries : List Entry) (at_end : Bool) (conn taken other fewer : ℕ) (found : Option Latest) → closes conn (heeded bounds (events_in entries)) ≡ false → is_open bounds entries other ≡ true → fewer ≤ taken
+due_too : (bounds : Bounds) (entries : List Entry) (at_end : Bool) (conn taken other fewer : ℕ) (found : Option Latest) → closes conn (heeded bounds (events_of bounds entries)) ≡ false → is_open bounds entries other ≡ true → fewer ≤ taken
     → IsDueBy bounds (place_behind entries at_end) conn taken found → IsDueBy bounds (place_behind entries at_end) other fewer found
 due_too bounds entries at_end conn taken other fewer None unclosed opened low due = due
 due_too bounds entries at_end conn taken other fewer (Some last) unclosed opened low due = made_due_too bounds entries at_end conn taken other fewer last.event (received bounds last.before) unclosed opened low due
 
-owed_too : (bounds : Bounds) (hold : ℕ) (entries : List Entry) (at_end : Bool) (count : ℕ) (send other : Send) → closes send.conn (heeded bounds (events_in entries)) ≡ false → is_open bounds entries other.conn ≡ true → other.taken ≤ send.taken
+owed_too : (bounds : Bounds) (hold : ℕ) (entries : List Entry) (at_end : Bool) (count : ℕ) (send other : Send) → closes send.conn (heeded bounds (events_of bounds entries)) ≡ false → is_open bounds entries other.conn ≡ true → other.taken ≤ send.taken
     → IsOwed bounds hold (seen_at entries at_end count) send → IsOwed bounds hold (seen_at entries at_end count) other
 owed_too bounds hold entries at_end count send other unclosed opened low (inl (was, inl early)) = inl (opened, inl (omega (arith, early, low)))
 owed_too bounds hold entries at_end count send other unclosed opened low (inl (was, inr ended)) = inl (opened, inr ended)
@@ -81,6 +81,7 @@ owed_too bounds hold entries at_end count send other unclosed opened low (inr du
 
 -- what the walk over a session's entries knows: its whole journal, and the sends of its run
 pub record Knows (rules : Rules) (image : Image) (survivor : Survivor) (whole : List Entry) : Type 0 where
+  pub none_had : rules.bounds.before.had ≡ []
   pub begins : Served rules.limits (items_in rules.bounds whole) survivor.plan (origin image) survivor.begun
   pub ordered : AreInOrder survivor.now.state.machine.taken survivor.now.state.sends
   pub timed : AreBetween 0 survivor.now.state.machine.taken survivor.now.state.sends
@@ -88,7 +89,7 @@ pub record Knows (rules : Rules) (image : Image) (survivor : Survivor) (whole : 
   pub sent : AreSent (items_in rules.bounds whole) survivor.now.state.sends
   pub holds_nothing : rules.hold ≡ 0
   pub none_gone : (conn : ℕ) → is_gone conn whole ≡ false
-  pub opens_once : OpensOnce (events_in whole)
+  pub opens_once : OpensOnce (events_of rules.bounds whole)
 
 -- The pieces so far are the first sends of the run, and none of the others goes to a connection that was closed.
 pub record Walked (bounds : Bounds) (entries : List Entry) (sends : List Send) : Type 0 where
@@ -96,13 +97,13 @@ pub record Walked (bounds : Bounds) (entries : List Entry) (sends : List Send) :
   pub rest : List Send
   pub split : sends ≡ front ++ rest
   pub pieces : pieces_in entries ≡ map piece_of front
-  pub unclosed : AreUnclosed (heeded bounds (events_in entries)) rest
+  pub unclosed : AreUnclosed (heeded bounds (events_of bounds entries)) rest
 
 -- a send that wasn't passed yet goes to an open connection, if it is in time
 still_open : (rules : Rules) (image : Image) (survivor : Survivor) (entries more : List Entry) (send : Send) → Knows rules image survivor (entries ++ more) → IsSent (items_in rules.bounds (entries ++ more)) send
-    → closes send.conn (heeded rules.bounds (events_in entries)) ≡ false → send.taken ≤ received rules.bounds entries → is_open rules.bounds entries send.conn ≡ true
+    → closes send.conn (heeded rules.bounds (events_of rules.bounds entries)) ≡ false → send.taken ≤ received rules.bounds entries → is_open rules.bounds entries send.conn ≡ true
 still_open rules image survivor entries more send knows sent unclosed early =
-    and_three _ (closes send.conn (heeded rules.bounds (events_in entries))) (is_gone send.conn entries)
+    and_three _ (closes send.conn (heeded rules.bounds (events_of rules.bounds entries))) (is_gone send.conn entries)
     (opened_in_time rules.bounds entries more send sent early) unclosed (gone_front send.conn entries more (knows.none_gone send.conn))
 
 -- the sends that weren't passed yet
@@ -116,9 +117,9 @@ pub next_owed : (rules : Rules) (image : Image) (survivor : Survivor) (entries m
     → ((stands : Stands sends other) → stands.earlier ≡ walked.front → IsOwed rules.bounds rules.hold (seen_at entries at_end count) other → IsPassed rules.bounds entries sends other stands) → ⊥
 next_owed rules image survivor entries more at_end count sends other mid later knows walked is split early owed passed =
     let sent = (subst (AreSent (items_in rules.bounds (entries ++ more))) is (rest_sent rules image survivor entries (entries ++ more) knows walked)).0 in
-    never_passed walked.front other (sent_to other.conn (passed_in rules.bounds entries)) (front_bytes rules.bounds entries walked.front other.conn walked.pieces) sent.some
+    never_passed walked.front other (sent_to other.conn (passed_in rules.bounds entries)) (front_bytes rules.bounds entries walked.front other.conn knows.none_had walked.pieces) sent.some
     (passed (record { earlier = walked.front; later = mid; split = split }) refl
-    (owed (still_open rules image survivor entries more other knows sent ((subst (AreUnclosed (heeded rules.bounds (events_in entries))) is walked.unclosed).0) early)))
+    (owed (still_open rules image survivor entries more other knows sent ((subst (AreUnclosed (heeded rules.bounds (events_of rules.bounds entries))) is walked.unclosed).0) early)))
 
 -- an event
 pub step_event : (rules : Rules) (image : Image) (survivor : Survivor) (entries : List Entry) (event : LinkEvent) (more : List Entry) (at_end : Bool) → Knows rules image survivor (entries ++ entry.Took event ∷ more)
@@ -159,7 +160,7 @@ module _ (rules : Rules) (image : Image) (survivor : Survivor) (entries : List E
   not_between knows walked due low grown all other mid earlier rest =
       let whole : List Entry = entries ++ entry.Gave conn bytes false ∷ more in
       let behind : List Send = due.send ∷ (due.stands.later ++ beyond) in
-      let events : List LinkEvent = heeded rules.bounds (events_in entries) in
+      let events : List LinkEvent = heeded rules.bounds (events_of rules.bounds entries) in
       let unclosed : AreUnclosed events ((other ∷ mid) ++ behind) = subst (AreUnclosed events) rest walked.unclosed in
       let closed_not = (unclosed_behind events (other ∷ mid) behind unclosed).0 in
       let every : survivor.now.state.sends ≡ walked.front ++ other ∷ (mid ++ behind) = walked.split ∙ ap (λ sends. walked.front ++ sends) rest in
@@ -176,27 +177,27 @@ module _ (rules : Rules) (image : Image) (survivor : Survivor) (entries : List E
       (λ stands is owed. due.in_order other stands (inr ((and_right (is_closed_by (latest entries) other.conn) (closes other.conn events) unclosed.0) ∙ sym send_not, omega (arith, long, ap length is))) owed)
 
   -- a send that was passed
-  not_before : (walked : Walked rules.bounds entries survivor.now.state.sends) (piece : IsWholePiece rules sends (seen_at entries at_end count) conn bytes)
+  not_before : rules.bounds.before.had ≡ [] → (walked : Walked rules.bounds entries survivor.now.state.sends) (piece : IsWholePiece rules sends (seen_at entries at_end count) conn bytes)
       → (mid : List Send) → walked.front ≡ piece.due.stands.earlier ++ piece.due.send ∷ mid → ⊥
-  not_before walked piece mid front =
+  not_before none walked piece mid front =
       let due = piece.due in
       let done : List Send = due.stands.earlier ++ due.send ∷ [] in
-      let bytes_are = front_bytes rules.bounds entries walked.front conn walked.pieces in
+      let bytes_are = front_bytes rules.bounds entries walked.front conn none walked.pieces in
       let begins : Prefix (sent_to conn done) (sent_to conn walked.front) = prefix_sent conn done walked.front (mid, append_assoc due.stands.earlier (due.send ∷ []) mid ∙ sym front) in
       let none : length bytes ≡ 0 =
       omega (arith, ap length piece.whole, length-append (sent_to conn (passed_in rules.bounds entries)) bytes, ap length bytes_are, ap length begins.1, length-append (sent_to conn done) begins.0) in
       due.left (sym (append-nil (sent_to conn (passed_in rules.bounds entries))) ∙ ap (λ l. sent_to conn (passed_in rules.bounds entries) ++ l) (sym (nil_from_length bytes none)) ∙ piece.whole)
 
-  next_whole : (walked : Walked rules.bounds entries survivor.now.state.sends) (piece : IsWholePiece rules sends (seen_at entries at_end count) conn bytes) → survivor.now.state.sends ≡ sends ++ beyond
+  next_whole : rules.bounds.before.had ≡ [] → (walked : Walked rules.bounds entries survivor.now.state.sends) (piece : IsWholePiece rules sends (seen_at entries at_end count) conn bytes) → survivor.now.state.sends ≡ sends ++ beyond
       → piece.due.stands.earlier ≡ walked.front → walked.rest ≡ piece.due.send ∷ (piece.due.stands.later ++ beyond) → Walked rules.bounds (entries ++ entry.Gave conn bytes false ∷ []) survivor.now.state.sends
-  next_whole walked piece grown earlier rest =
+  next_whole none walked piece grown earlier rest =
       let due = piece.due in
-      let bytes_are = front_bytes rules.bounds entries walked.front conn walked.pieces in
+      let bytes_are = front_bytes rules.bounds entries walked.front conn none walked.pieces in
       let own : bytes ≡ due.send.bytes =
       append_cancel_left (sent_to conn walked.front) bytes due.send.bytes
       (ap (λ front. front ++ bytes) (sym bytes_are) ∙ piece.whole ∙ sent_then conn due.stands.earlier due.send due.to ∙ ap (λ front. sent_to conn front ++ due.send.bytes) earlier) in
       let same : record { conn = conn; bytes = bytes; gone = false } ≡ piece_of due.send = ap (λ c. record { conn = c; bytes = bytes; gone = false }) (sym due.to) ∙ ap (λ b. record { conn = due.send.conn; bytes = b; gone = false }) own in
-      let events : events_in entries ≡ events_in (entries ++ entry.Gave conn bytes false ∷ []) = sym (events_in-gave entries conn bytes false) in
+      let events : events_of rules.bounds entries ≡ events_of rules.bounds (entries ++ entry.Gave conn bytes false ∷ []) = sym (events_of-gave rules.bounds entries conn bytes false) in
       record {
         front = walked.front ++ due.send ∷ [];
         rest = due.stands.later ++ beyond;
@@ -206,7 +207,7 @@ module _ (rules : Rules) (image : Image) (survivor : Survivor) (entries : List E
             ∙ ap (λ pieces. pieces ++ record { conn = conn; bytes = bytes; gone = false } ∷ []) walked.pieces
             ∙ ap (λ piece. map piece_of walked.front ++ piece ∷ []) same
             ∙ sym (map-append piece_of walked.front (due.send ∷ []));
-        unclosed = subst (λ es. AreUnclosed (heeded rules.bounds es) (due.stands.later ++ beyond)) events (subst (AreUnclosed (heeded rules.bounds (events_in entries))) rest walked.unclosed).1;
+        unclosed = subst (λ es. AreUnclosed (heeded rules.bounds es) (due.stands.later ++ beyond)) events (subst (AreUnclosed (heeded rules.bounds (events_of rules.bounds entries))) rest walked.unclosed).1;
       }
 
   of_mid : (walked : Walked rules.bounds entries survivor.now.state.sends) (piece : IsWholePiece rules sends (seen_at entries at_end count) conn bytes) (mid : List Send)
@@ -226,9 +227,9 @@ module _ (rules : Rules) (image : Image) (survivor : Survivor) (entries : List E
       grown ∙ ap (λ sends. sends ++ beyond) due.stands.split ∙ append_assoc due.stands.earlier (due.send ∷ due.stands.later) beyond in
       elim (two_splits due.stands.earlier (due.send ∷ (due.stands.later ++ beyond)) walked.front walked.rest (sym split ∙ walked.split)) [
         | inl found ↦ of_mid walked piece found.0 found.1 found.2
-            (λ earlier rest. next_whole walked piece grown earlier rest)
+            (λ earlier rest. next_whole knows.none_had walked piece grown earlier rest)
             (λ other mid earlier rest. not_between knows walked due low grown all other mid earlier rest)
         | inr found ↦
             let here : due.send ≡ found.0 = cc in
-            absurd (not_before walked piece found.1 (found.2 ∙ ap (λ send. due.stands.earlier ++ send ∷ found.1) (sym here)))
+            absurd (not_before knows.none_had walked piece found.1 (found.2 ∙ ap (λ send. due.stands.earlier ++ send ∷ found.1) (sym here)))
       ]

@@ -1,8 +1,8 @@
 -- An event that is heeded isn't refused.
 use Rattle.links.specs.declared.journal.Entry.TheVariants as entry
 use Rattle.links.specs.declared.journal.LinkEvent.TheVariants as event
-use Rattle.session_history.proofs.Terms.{List, Option, Some, [], ap, arith, inl, inr, length, length-append, refl, subst, sym, ◌++◌, ◌∙◌, ◌∷◌, ◌≡◌, same_from_push, is_none, Entry, LinkEvent, Ends, events_in-append, events_in, AreHeeded, Bounds, Unheeded, heeded, refusal, IsLastRefused}
-use Rattle.session_history.proofs.Heeding.{refused_unheeded}
+use Rattle.session_history.proofs.Terms.{List, Option, Some, [], ap, arith, inl, inr, length, length-append, refl, subst, sym, ◌++◌, ◌∙◌, ◌∷◌, ◌≡◌, same_from_push, is_none, Entry, LinkEvent, Ends, events_in, AreHeeded, Bounds, Unheeded, events_of, heeded, refusal, IsLastRefused}
+use Rattle.session_history.proofs.Heeding.{events_of-append, refused_unheeded}
 use Rattle.session_history.proofs.Heeded.{heeded_front, heeded_then}
 
 -- an event that is heeded isn't refused
@@ -18,15 +18,16 @@ last_unrefused bounds events last cause all refused =
     ]
 
 -- where every event is heeded, the last isn't refused
-refused_not : (bounds : Bounds) (entries before : List Entry) (event : LinkEvent) (cause : Unheeded) → AreHeeded bounds entries → entries ≡ before ++ entry.Took event ∷ [] → events_in (entry.Took event ∷ []) ≡ event ∷ [] → refusal bounds (events_in before) event ≡ Some cause → ⊥
+refused_not : (bounds : Bounds) (entries before : List Entry) (event : LinkEvent) (cause : Unheeded) → AreHeeded bounds entries → entries ≡ before ++ entry.Took event ∷ [] → events_in (entry.Took event ∷ []) ≡ event ∷ [] → refusal bounds (events_of bounds before) event ≡ Some cause → ⊥
 refused_not bounds entries before event cause heeds last is refused =
-    let events : events_in entries ≡ events_in before ++ event ∷ [] = ap events_in last ∙ events_in-append before (entry.Took event ∷ []) ∙ ap (λ es. events_in before ++ es) is in
-    last_unrefused bounds (events_in before) event cause (subst (λ es. heeded bounds es ≡ es) events heeds) refused
+    let events : events_of bounds entries ≡ events_of bounds before ++ event ∷ [] =
+    ap (events_of bounds) last ∙ events_of-append bounds before (entry.Took event ∷ []) ∙ ap (λ es. events_of bounds before ++ es) is in
+    last_unrefused bounds (events_of bounds before) event cause (subst (λ es. heeded bounds es ≡ es) events heeds) refused
 
 pub none_refused : (bounds : Bounds) (entries : List Entry) (cause : Unheeded) → AreHeeded bounds entries → IsLastRefused bounds entries cause → ⊥
 none_refused bounds entries cause heeds last = of last.event last.last last.no_end last.refused
   where
-    of : (e : LinkEvent) → entries ≡ last.before ++ entry.Took e ∷ [] → (e ≡ Ends → ⊥) → refusal bounds (events_in last.before) e ≡ Some cause → ⊥
+    of : (e : LinkEvent) → entries ≡ last.before ++ entry.Took e ∷ [] → (e ≡ Ends → ⊥) → refusal bounds (events_of bounds last.before) e ≡ Some cause → ⊥
     of (event.Opens conn) split counts refused = refused_not bounds entries last.before (event.Opens conn) cause heeds split refl refused
     of (event.Piece conn bytes) split counts refused = refused_not bounds entries last.before (event.Piece conn bytes) cause heeds split refl refused
     of (event.Closes conn) split counts refused = refused_not bounds entries last.before (event.Closes conn) cause heeds split refl refused

@@ -1,6 +1,7 @@
 -- The walk over a session's entries, up to its end: what is sent is passed.
 use Rattle.links.specs.declared.journal.Entry.TheVariants as entry
-use Rattle.session_history.proofs.Terms.{Bool, List, Option, [], ap, append-nil, append_assoc, arith, false, inl, inr, length, map, refl, subst, sym, true, ◌++◌, ◌∙◌, ◌∷◌, ◌≡◌, ◌≤◌, both_ways, is_some, Item, Send, Entry, Grew, events_in, pieces_in, items_of, Image, start, start_machine, origin, SessionEnd, heeded, heeded_behind, items_in, received, AreBetween, OwesNothing, IsDue, Rules, Survivor, Session, journal_of, PassesAtOnce, SentIsPassed, ServedIsPassed, piece_of}
+use Rattle.session_history.proofs.Terms.{Bool, List, Option, [], ap, append-nil, append_assoc, arith, false, inl, inr, length, map, refl, subst, sym, true, ◌++◌, ◌∙◌, ◌∷◌, ◌≡◌, ◌≤◌, both_ways, is_some, Item, Send, Entry, Grew, events_in, pieces_in, items_of, Image, start, start_machine, origin, SessionEnd, heeded, heeded_behind, items_in, nothing_before, received, AreBetween, OwesNothing, IsDue, Rules, Survivor, Session, journal_of, OpensOnce, PassesAtOnce, SentIsPassed, ServedIsPassed, piece_of}
+use Rattle.session_history.proofs.Heeding.{none_had, events_alone}
 use Rattle.session_history.proofs.Paths.{served_same}
 use Rattle.session_history.proofs.Due.{EachDue, due_ran, each_due}
 use Rattle.session_history.proofs.Ended.{at_its_end}
@@ -9,7 +10,7 @@ use Rattle.session_history.proofs.Passing.{timed_on}
 use Rattle.session_history.proofs.Asked.{served_grows}
 use Rattle.session_history.proofs.Connected.{run_connected}
 use Rattle.session_history.proofs.Fronts.{between_here, gone_here}
-use Rattle.session_history.proofs.Closing.{received_longer, unclosed_nothing}
+use Rattle.session_history.proofs.Closing.{received_longer, AreUnclosed, unclosed_nothing}
 use Rattle.session_history.proofs.Pieces.{place_behind, seen_at, Knows, Walked, next_owed, step_event, step_whole}
 
 -- one more entry
@@ -38,9 +39,15 @@ walk rules image survivor whole entries (e ∷ todo) more at_end knows is all du
     (λ ended. let longer = received_longer rules.bounds entries (e ∷ []) in omega (arith, all ended, longer)) due.1 next)
 
 -- nothing was passed yet
-walked_nothing : (rules : Rules) (survivor : Survivor) → Walked rules.bounds [] survivor.now.state.sends
+walked_nothing : (rules : Rules) (survivor : Survivor) → rules.bounds.before ≡ nothing_before → Walked rules.bounds [] survivor.now.state.sends
 unfolding heeded_behind
-walked_nothing rules survivor = record { front = []; rest = survivor.now.state.sends; split = refl; pieces = refl; unclosed = unclosed_nothing survivor.now.state.sends }
+walked_nothing rules survivor alone = record {
+  front = [];
+  rest = survivor.now.state.sends;
+  split = refl;
+  pieces = refl;
+  unclosed = subst (λ es. AreUnclosed (heeded rules.bounds es) survivor.now.state.sends) (sym (events_alone rules.bounds [] alone)) (unclosed_nothing survivor.now.state.sends);
+}
 
 -- what an account says to the walk
 knows_all : (rules : Rules) (image : Image) (session : Session) → PassesAtOnce rules image session → Knows rules image session.survivor (journal_of session)
@@ -49,6 +56,7 @@ knows_all rules image session has =
     let items : List Item = items_in rules.bounds (journal_of session) in
     let connected = run_connected image items session.survivor.now.choices session.survivor.now.steps session.survivor.now.state has.account.ran in
     record {
+      none_had = none_had rules.bounds has.alone;
       begins = has.account.begins;
       ordered = connected.ordered;
       timed = timed_on (origin image).state session.survivor.now.state (served_grows rules.limits items session.survivor.plan (origin image) session.survivor.now has.account.served) tt;
@@ -56,7 +64,7 @@ knows_all rules image session has =
       sent = connected.sent;
       holds_nothing = has.holds_nothing;
       none_gone = has.none_gone;
-      opens_once = has.opens_once;
+      opens_once = subst OpensOnce (sym (events_alone rules.bounds (journal_of session) has.alone)) has.opens_once;
     }
 
 -- at the end no send is left
@@ -81,9 +89,9 @@ alone_passed rules image survivor since came ending has =
     let knows : Knows rules image survivor whole = knows_all rules image session has in
     let first : Walked rules.bounds since survivor.now.state.sends =
     walk rules image survivor whole [] since (ending ++ []) false knows refl (λ never. absurd (cc))
-    (each_due rules items survivor survivor.begun (place_behind [] false) since (served_same rules.limits items survivor.plan survivor.begun) has.account.since) (walked_nothing rules survivor) in
+    (each_due rules items survivor survivor.begun (place_behind [] false) since (served_same rules.limits items survivor.plan survivor.begun) has.account.since) (walked_nothing rules survivor has.alone) in
     let same : events_in whole ≡ events_in since = ap (λ es. events_in (since ++ es)) (append-nil ending) ∙ events_in-given since ending has.given in
-    let count : received rules.bounds whole ≡ received rules.bounds since = ap (λ es. length (items_of rules.bounds.framing (heeded rules.bounds es))) same in
+    let count : received rules.bounds whole ≡ received rules.bounds since = ap (λ es. length (items_of rules.bounds.framing (heeded rules.bounds (rules.bounds.before.events ++ es)))) same in
     let walked : Walked rules.bounds (since ++ ending) survivor.now.state.sends =
     walk rules image survivor whole since ending [] (is_some came) knows refl (λ ended. omega (arith, count))
     (each_due rules items survivor survivor.now (place_behind since (is_some came)) ending (due_ran rules items survivor (place_behind [] false) since has.account.since) has.account.ending) first in
@@ -99,10 +107,11 @@ sent_is_passed rules image session has =
     ∙ alone_passed rules image session.survivor session.since session.came session.ending (subst (PassesAtOnce rules image) same has)
 
 pub served_is_passed : ServedIsPassed
-served_is_passed rules image began seen session end is shows first holds_nothing none_gone opens_once =
+served_is_passed rules image began seen session end is shows alone first holds_nothing none_gone opens_once =
     let ends = at_its_end rules session end is.ends in
     let passed = sent_is_passed rules image session (record {
       account = is.account;
+      alone = alone;
       first = first;
       given = is.pieces;
       unbroken = ends.unbroken;

@@ -1,15 +1,15 @@
 -- One lemma for each event of a session: what it makes of the account.
 use Rattle.links.specs.declared.journal.Entry.TheVariants as entry
-use Rattle.session_history.proofs.Terms.{Bool, List, Option, [], ap, append-nil, append_assoc, false, refl, subst, sym, true, ℕ, ◌++◌, ◌∙◌, ◌∷◌, ◌≡◌, ◌≤◌, is_some, Item, Entry, LinkEvent, Image, start, start_machine, Override, Path, Served, origin, SessionEnd, items_in, received, Covers, IsFeasible, passed_in, Moment, AreDue, AreLawful, Chapter, IsDueAt, IsDueEvent, IsDuePiece, IsPrompt, IsWholePiece, LeavesNothing, Rules, Survivor, entries_of, from_there, gone_on, place_of, IsAccount, Carries, Serving, first_survivor, moment_of}
+use Rattle.session_history.proofs.Terms.{Bool, List, Option, [], ap, append-nil, append_assoc, false, refl, subst, sym, true, ℕ, ◌++◌, ◌∙◌, ◌∷◌, ◌≡◌, ◌≤◌, is_some, Item, Entry, LinkEvent, Image, start, start_machine, Override, Path, Served, origin, SessionEnd, items_in, received, Covers, IsFeasible, passed_in, Moment, AreDue, AreLawful, Chapter, IsDueAt, IsDueEvent, IsDuePiece, IsPrompt, IsWholePiece, LeavesNothing, Rules, Survivor, entries_of, from_there, gone_on, place_of, IsAccount, Carries, IsSoundBefore, Serving, first_survivor, moment_of}
 use Rattle.session_history.proofs.Passing.{timed_on}
-use Rattle.session_history.proofs.Accounts.{went, carries_none, carries_on, carries_event, carries_piece, carries_run}
-use Rattle.session_history.proofs.Paths.{served_same, served_with}
+use Rattle.session_history.proofs.Accounts.{went, carries_on, carries_event, carries_piece, carries_run}
+use Rattle.session_history.proofs.Paths.{served_with}
 use Rattle.session_history.proofs.Prompt.{prompt_none}
 use Rattle.session_history.proofs.Heeding.{items_in-gave}
 use Rattle.session_history.proofs.Due.{are_due_on, are_due_with, are_due_then, are_lawful_with}
 
-pub serving_first : (rules : Rules) (image : Image) → Serving rules image [] (first_survivor image) []
-serving_first rules image = record { carries = carries_none rules image []; begins = served_same rules.limits (items_in rules.bounds []) [] (origin image); before = tt; due = prompt_none rules (items_in rules.bounds []) (first_survivor image) (place_of [] [] false) }
+pub serving_first : (rules : Rules) (image : Image) → IsSoundBefore rules image → Serving rules image [] (first_survivor rules image) []
+serving_first rules image sound = record { carries = sound.carries; begins = sound.carries.served; before = tt; due = prompt_none rules (items_in rules.bounds []) (first_survivor rules image) (place_of [] [] false) }
 
 -- the survivor goes on where it owes nothing, to any run that took received items alone
 pub serving_on : (rules : Rules) (image : Image) (earlier : List Chapter) (survivor : Survivor) (since : List Entry) (to : Path) → Serving rules image earlier survivor since
@@ -82,6 +82,7 @@ serving_account rules image earlier survivor since came serving =
       taken = carries.taken;
       passed = carries.covers;
       feasible = carries.feasible;
+      ordered = carries.ordered;
       earlier = subst (λ its. AreLawful rules its [] earlier) items serving.before;
       since = subst (λ its. AreDue rules its survivor (place_of earlier [] false) since) items serving.due;
       ending = prompt_none rules (items_in rules.bounds (entries_of earlier ++ (since ++ []))) survivor (place_of earlier since (is_some came));

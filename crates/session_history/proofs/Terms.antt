@@ -15,14 +15,15 @@ pub use Rattle.session_history.specs.Terms.{Ask, AsksFor, CLOSED, Choice, Choose
 unfoldable pub use Rattle.session_history.specs.Terms.{allocated, cut, cut_whole, does, grant, heard_from, items_from, next, no_connections, none_open, served_next, serves, start, start_machine}
 pub use Rattle.session_history.specs.declared.ends.SessionEnd.{SessionEnd}
 pub use Rattle.session_history.specs.declared.ends.Stop.{Stop}
-pub use Rattle.session_history.specs.Heeding.{AreHeeded, Bounds, LimitEvents, LimitItems, TooLong, Unheeded, heeded, items_in, received, refusal}
+pub use Rattle.session_history.specs.Heeding.{AreHeeded, Before, Bounds, LimitEvents, LimitItems, TooLong, Unheeded, events_of, heeded, items_in, nothing_before, received, refusal}
 unfoldable pub use Rattle.session_history.specs.Heeding.{heeded_behind}
 pub use Rattle.session_history.specs.Opened.{closes, is_gone, is_open, opens}
 pub use Rattle.session_history.specs.Passing.{AreBetween, AreInOrder, Covers, IsFeasible, passed_behind, passed_in, until}
 pub use Rattle.session_history.specs.Owing.{IsDueBy, IsMadeDue, IsOwed, IsPassed, Latest, Moment, OwesNothing, Place, Stands, behind, journal, latest, moment_at}
 pub use Rattle.session_history.specs.Lawful.{AreDue, AreLawful, Chapter, IsDue, IsDueAt, IsDueEvent, IsDuePiece, IsPrompt, IsWholePiece, LeavesNothing, OnTheWay, Rules, Survivor, entries_of, from_there, gone_on, is_closed_by, is_closing, moves, place_of, then_place}
 pub use Rattle.session_history.specs.Account.{HasPassedAll, IsAccount, IsBroken, Session, journal_of}
-pub use Rattle.session_history.specs.Serving.{Carries, Ending, Serving, ending_at, first_survivor, moment_of}
+pub use Rattle.session_history.specs.Serving.{Carries, Ending, IsSoundBefore, Serving, ending_at, first_survivor, moment_of}
 pub use Rattle.session_history.specs.Giving.{AreGiven}
 pub use Rattle.session_history.specs.Ends.{AtEnd, EndsAt, EndsBy, HasCome, HasComeTo, IsEnd, IsLastRefused, IsLastTooLong, IsWaiting, StandsAt, answer_of, before_end, end_answer}
+pub use Rattle.session_history.specs.Laws.{NothingIsSound}
 pub use Rattle.session_history.specs.AccountLaws.{AreInTurn, IsComplete, LinksOpenOnce, NoOtherAnswer, OneEnd, OpensOnce, PassesAtOnce, SentIsPassed, ServedIsPassed, piece_of}

@@ -3,9 +3,9 @@ use Rattle.std.specs.Prelude.{◌≡◌, ℕ, ◌≤◌, List, [], ◌∷◌, �
 use Rattle.links.specs.declared.journal.Entry.TheVariants as entry
 use Rattle.session_history.specs.Terms.{Prefix, Send, sent_to, Entry, Image, Run, output, Served, origin}
 use Rattle.session_history.specs.declared.ends.SessionEnd.{SessionEnd}
-use Rattle.session_history.specs.Heeding.{items_in}
+use Rattle.session_history.specs.Heeding.{items_in, received}
 use Rattle.session_history.specs.Opened.{is_open}
-use Rattle.session_history.specs.Passing.{passed_in, IsFeasible}
+use Rattle.session_history.specs.Passing.{passed_in, IsFeasible, AreInOrder}
 use Rattle.session_history.specs.Owing.{Moment, moment_at}
 use Rattle.session_history.specs.Lawful.{Rules, Survivor, Chapter, entries_of, from_there, place_of, AreDue, AreLawful, IsDuePiece}
 
@@ -37,7 +37,7 @@ abbrev pub after_ending : Session → Bool → Moment
 after_ending session at_end = moment_at (place_of session.earlier (session.since ++ session.ending) at_end) session.survivor.now.state.machine.taken
 
 -- The account of a session of an image: there is one run, on the items received, of which each answer of the allocator is one that C
--- allows; each connection was passed a prefix of what it sends there, and nothing that it sends later; and the journal is lawful. The pieces of
+-- allows; each connection was passed a prefix of what it sends there, and nothing that it sends later, in the order of stamps; and the journal is lawful. The pieces of
 -- the end were passed where the survivor stands.
 pub record IsAccount (rules : Rules) (image : Image) (session : Session) : Type 0 where
   pub ran : Run image (items_in rules.bounds (journal_of session)) session.survivor.now.choices session.survivor.now.steps session.survivor.now.state
@@ -46,6 +46,7 @@ pub record IsAccount (rules : Rules) (image : Image) (session : Session) : Type 
   pub taken : session.survivor.now.state.machine.taken ≤ length (items_in rules.bounds (journal_of session))
   pub passed : (conn : ℕ) → Prefix (sent_to conn (passed_in rules.bounds (journal_of session))) (output session.survivor.now.state conn)
   pub feasible : IsFeasible (passed_in rules.bounds (journal_of session)) session.survivor.now.state
+  pub ordered : AreInOrder (received rules.bounds (journal_of session)) (passed_in rules.bounds (journal_of session))
   pub earlier : AreLawful rules (items_in rules.bounds (journal_of session)) [] session.earlier
   pub since : AreDue rules (items_in rules.bounds (journal_of session)) session.survivor (place_of session.earlier [] false) session.since
   pub ending : AreDue rules (items_in rules.bounds (journal_of session)) (from_there session.survivor session.survivor.now) (place_of session.earlier session.since (is_some session.came)) session.ending

@@ -6,7 +6,7 @@ use Rattle.session_history.specs.declared.ends.SessionEnd.{SessionEnd}
 use Rattle.session_history.specs.declared.ends.SessionEnd.TheVariants as session_end
 use Rattle.session_history.specs.declared.ends.Stop.{Stop}
 use Rattle.session_history.specs.declared.ends.Stop.TheVariants as stop
-use Rattle.session_history.specs.Heeding.{received, AreHeeded}
+use Rattle.session_history.specs.Heeding.{nothing_before, received, AreHeeded}
 use Rattle.session_history.specs.Opened.{closes, is_gone}
 use Rattle.session_history.specs.Lawful.{Rules, Survivor}
 use Rattle.session_history.specs.Account.{Session, journal_of, IsAccount}
@@ -27,9 +27,10 @@ piece_of send = record { conn = send.conn; bytes = send.bytes; gone = false }
 abbrev pub OpensOnce : List LinkEvent → Type 0
 OpensOnce events = (before after : List LinkEvent) (conn : ℕ) → events ≡ before ++ event.Opens conn ∷ after → closes conn before ≡ false
 
--- a session of one survivor came to its end with all passed that it owes; it held nothing back, and no connection was found gone
+-- a session of one survivor, with nothing before it, came to its end with all passed that it owes; it held nothing back, and no connection was found gone
 pub record PassesAtOnce (rules : Rules) (image : Image) (session : Session) : Type 0 where
   pub account : IsAccount rules image session
+  pub alone : rules.bounds.before ≡ nothing_before
   pub first : session.earlier ≡ []
   pub given : AreGiven session.ending
   pub unbroken : session.broken ≡ []
@@ -42,11 +43,11 @@ pub record PassesAtOnce (rules : Rules) (image : Image) (session : Session) : Ty
 abbrev pub SentIsPassed : Type 0
 SentIsPassed = (rules : Rules) (image : Image) (session : Session) → PassesAtOnce rules image session → pieces_in (journal_of session) ≡ map piece_of session.survivor.now.state.sends
 
--- So are they at each end of a session that served, and its link tells no other pieces.
+-- So are they at each end of a session that served with nothing before it, and its link tells no other pieces.
 abbrev pub ServedIsPassed : Type 0
 ServedIsPassed =
     (rules : Rules) (image : Image) (began seen : Seen) (session : Session) (end : SessionEnd) → IsEnded rules image seen.coming session (stop.Ends end) → ShowsSession rules began seen session →
-    session.earlier ≡ [] → rules.hold ≡ 0 → ((conn : ℕ) → is_gone conn (journal_of session) ≡ false) → OpensOnce (events_in (journal_of session)) →
+    rules.bounds.before ≡ nothing_before → session.earlier ≡ [] → rules.hold ≡ 0 → ((conn : ℕ) → is_gone conn (journal_of session) ≡ false) → OpensOnce (events_in (journal_of session)) →
     (pieces_in (journal_of session) ≡ map piece_of session.survivor.now.state.sends) × Grew began.told.pieces seen.told.pieces (map piece_of session.survivor.now.state.sends)
 
 -- events that a link gave, each in order for its connection

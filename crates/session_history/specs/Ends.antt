@@ -3,14 +3,14 @@ use Rattle.std.specs.Prelude.{◌≡◌, ◌≢◌, ℕ, List, [], ◌∷◌, �
 use Rattle.links.specs.declared.journal.Entry.TheVariants as entry
 use Rattle.links.specs.declared.journal.LinkEvent.TheVariants as event
 use Rattle.run_history.specs.declared.answer.Answer.TheVariants as answer
-use Rattle.session_history.specs.Terms.{Entry, LinkEvent, Ends, Coming, HasEnded, IsNext, Refuses, Tells, events_in, Seen, IsPieceOf, Image, Answer, AsksFor, FailsBy}
+use Rattle.session_history.specs.Terms.{Entry, LinkEvent, Ends, Coming, HasEnded, IsNext, Refuses, Tells, Seen, IsPieceOf, Image, Answer, AsksFor, FailsBy}
 use Rattle.session_history.specs.declared.ends.SessionBreak.{SessionBreak}
 use Rattle.session_history.specs.declared.ends.SessionEnd.{SessionEnd}
 use Rattle.session_history.specs.declared.ends.SessionEnd.TheVariants as session_end
 use Rattle.session_history.specs.declared.ends.SessionBreak.TheVariants as session_break
 use Rattle.session_history.specs.declared.ends.Stop.{Stop}
 use Rattle.session_history.specs.declared.ends.Stop.TheVariants as stop
-use Rattle.session_history.specs.Heeding.{Bounds, Unheeded, refusal, received, AreHeeded}
+use Rattle.session_history.specs.Heeding.{Bounds, Unheeded, events_of, refusal, received, AreHeeded}
 use Rattle.session_history.specs.Heeding as unheeded
 use Rattle.session_history.specs.Owing.{OwesNothing}
 use Rattle.session_history.specs.Lawful.{Rules, Survivor, entries_of}
@@ -67,7 +67,7 @@ pub record IsLastRefused (bounds : Bounds) (entries : List Entry) (cause : Unhee
   pub event : LinkEvent
   pub last : entries ≡ before ++ entry.Took event ∷ []
   pub no_end : event ≢ Ends
-  pub refused : refusal bounds (events_in before) event ≡ Some cause
+  pub refused : refusal bounds (events_of bounds before) event ≡ Some cause
 
 -- the last entry is an event of which a message of this connection is too long
 pub record IsLastTooLong (bounds : Bounds) (entries : List Entry) (conn : ℕ) : Type 0 where

@@ -3,8 +3,8 @@ use Rattle.std.specs.Prelude.{◌≢◌, ◌≡◌, ℕ, ◌≤◌, List, [], �
 use Rattle.links.specs.declared.journal.Entry.TheVariants as entry
 use Rattle.links.specs.declared.journal.LinkEvent.TheVariants as event
 use Rattle.reply_ledger.specs.Parts.{next_part, rest_part}
-use Rattle.session_history.specs.Terms.{Prefix, Send, sent_to, Entry, Tells, TellsHanded, Told, cut_entries, events_in, Seen, Ledger}
-use Rattle.session_history.specs.Heeding.{heeded}
+use Rattle.session_history.specs.Terms.{Prefix, Send, sent_to, Entry, Tells, TellsHanded, Told, cut_entries, Seen, Ledger}
+use Rattle.session_history.specs.Heeding.{events_of, heeded}
 use Rattle.session_history.specs.Opened.{closes, is_open, is_gone}
 use Rattle.session_history.specs.Passing.{passed_in}
 use Rattle.session_history.specs.Owing.{Moment, journal, Latest, latest, Stands, IsOwed, IsPassed}
@@ -67,7 +67,7 @@ pub record IsReady (rules : Rules) (sends : List Send) (moment : Moment) (until 
 pub record IsClosing (rules : Rules) (sends : List Send) (moment : Moment) (conn : ℕ) (ledger : Ledger) : Type 0 where
   pub keeps : KeepsReplies rules.bounds (journal moment) (Some conn) sends ledger
   pub fronts : AreFronts (passed_in rules.bounds (journal moment)) sends
-  pub closed : closes conn (heeded rules.bounds (events_in (journal moment))) ≡ true
+  pub closed : closes conn (heeded rules.bounds (events_of rules.bounds (journal moment))) ≡ true
   pub last : Latest
   pub is_last : latest moment.since ≡ Some last
   pub closes : last.event ≡ event.Closes conn

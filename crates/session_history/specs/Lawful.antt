@@ -3,8 +3,8 @@
 use Rattle.std.specs.Prelude.{◌≡◌, ◌≢◌, ℕ, ◌+◌, ◌<◌, ◌≤◌, List, [], ◌∷◌, ◌++◌, length, Bool, true, false, Option, None, Some, ◌⊎◌, ◌==◌, ◌&&◌}
 use Rattle.links.specs.declared.journal.Entry.TheVariants as entry
 use Rattle.links.specs.declared.journal.LinkEvent.TheVariants as event
-use Rattle.session_history.specs.Terms.{Item, Prefix, Send, sent_to, Entry, LinkEvent, events_in, AsksFor, Limits, Override, Path, Served}
-use Rattle.session_history.specs.Heeding.{Bounds, heeded, received, AreHeeded}
+use Rattle.session_history.specs.Terms.{Item, Prefix, Send, sent_to, Entry, LinkEvent, AsksFor, Limits, Override, Path, Served}
+use Rattle.session_history.specs.Heeding.{Bounds, events_of, heeded, received, AreHeeded}
 use Rattle.session_history.specs.Opened.{closes}
 use Rattle.session_history.specs.Passing.{passed_in}
 use Rattle.session_history.specs.Owing.{Place, Moment, moment_at, journal, Latest, latest, IsOwed, IsPassed, OwesNothing, Stands}
@@ -48,7 +48,7 @@ is_closed_by (Some latest) conn = is_close_of conn latest.event
 
 -- whether a connection is closing: the last event closes it, and was heeded
 abbrev pub is_closing : Bounds → Moment → ℕ → Bool
-is_closing bounds moment conn = is_closed_by (latest moment.since) conn && closes conn (heeded bounds (events_in (journal moment)))
+is_closing bounds moment conn = is_closed_by (latest moment.since) conn && closes conn (heeded bounds (events_of bounds (journal moment)))
 
 -- of two sends of a run the first is passed before the second: those to a connection that closes go first, and else they keep
 -- the order in which they were made

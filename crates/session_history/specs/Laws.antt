@@ -4,11 +4,11 @@ use Rattle.links.specs.declared.journal.Entry.TheVariants as entry
 use Rattle.session_history.specs.Terms.{Item, Entry, LinkEvent, Image, Override, Path, Served, origin}
 use Rattle.session_history.specs.declared.ends.SessionEnd.{SessionEnd}
 use Rattle.session_history.specs.Passing.{passed_in, Covers, IsFeasible}
-use Rattle.session_history.specs.Heeding.{Bounds, refusal, heeded, items_in, received}
+use Rattle.session_history.specs.Heeding.{Bounds, nothing_before, refusal, heeded, items_in, received}
 use Rattle.session_history.specs.Owing.{OwesNothing}
 use Rattle.session_history.specs.Lawful.{Rules, Survivor, IsDueAt, IsDueEvent, IsPrompt, Chapter, entries_of, from_there, gone_on, place_of, IsDuePiece, LeavesNothing}
 use Rattle.session_history.specs.Account.{Session, IsAccount, HasPassedAll}
-use Rattle.session_history.specs.Serving.{Serving, first_survivor, moment_of, ending_at, Ending}
+use Rattle.session_history.specs.Serving.{IsSoundBefore, Serving, first_survivor, moment_of, ending_at, Ending}
 
 -- behind events that are all heeded, one more is heeded unless it is refused
 abbrev pub OneMoreHeeded : Type 0
@@ -22,9 +22,13 @@ RefusedUnheeded =
     (bounds : Bounds) (events : List LinkEvent) (event : LinkEvent) → heeded bounds events ≡ events → is_none (refusal bounds events event) ≡ false →
     heeded bounds (events ++ event ∷ []) ≡ events
 
--- a session serves from its first survivor's start, with an empty journal
+-- where nothing came before a session, that is sound
+abbrev pub NothingIsSound : Type 0
+NothingIsSound = (rules : Rules) (image : Image) → rules.bounds.before ≡ nothing_before → IsSoundBefore rules image
+
+-- a session serves from where its first survivor begins, with an empty journal
 abbrev pub SessionBegins : Type 0
-SessionBegins = (rules : Rules) (image : Image) → Serving rules image [] (first_survivor image) []
+SessionBegins = (rules : Rules) (image : Image) → IsSoundBefore rules image → Serving rules image [] (first_survivor rules image) []
 
 -- its survivor goes on, and makes no move where it owes something, to a run that took received items alone
 abbrev pub SurvivorGoesOn : Type 0

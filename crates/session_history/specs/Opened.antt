@@ -2,8 +2,8 @@
 use Rattle.std.specs.Prelude.{ℕ, List, [], ◌∷◌, Bool, false, not, ◌&&◌, ◌||◌, ◌==◌}
 use Rattle.links.specs.declared.journal.Entry.TheVariants as entry
 use Rattle.links.specs.declared.journal.LinkEvent.TheVariants as event
-use Rattle.session_history.specs.Terms.{Entry, LinkEvent, events_in}
-use Rattle.session_history.specs.Heeding.{Bounds, heeded}
+use Rattle.session_history.specs.Terms.{Entry, LinkEvent}
+use Rattle.session_history.specs.Heeding.{Bounds, events_of, heeded}
 
 -- whether some events open a connection, and whether they close it
 abbrev pub opens : ℕ → List LinkEvent → Bool
@@ -25,4 +25,4 @@ is_gone conn (other ∷ entries) = is_gone conn entries
 -- whether a connection is open: its opening was heeded, no close of it was, and it isn't gone
 abbrev pub is_open : Bounds → List Entry → ℕ → Bool
 is_open bounds entries conn =
-    opens conn (heeded bounds (events_in entries)) && not (closes conn (heeded bounds (events_in entries))) && not (is_gone conn entries)
+    opens conn (heeded bounds (events_of bounds entries)) && not (closes conn (heeded bounds (events_of bounds entries))) && not (is_gone conn entries)

@@ -2,8 +2,8 @@
 use Rattle.std.specs.Prelude.{◌≡◌, ℕ, ◌+◌, ◌≤◌, List, [], ◌∷◌, ◌++◌, Bool, true, false, Option, None, Some, option_map, unwrap_or, ◌⊎◌}
 use Rattle.links.specs.declared.journal.Entry.TheVariants as entry
 use Rattle.links.specs.declared.journal.LinkEvent.TheVariants as event
-use Rattle.session_history.specs.Terms.{Prefix, Send, sent_to, Entry, LinkEvent, events_in}
-use Rattle.session_history.specs.Heeding.{Bounds, heeded, received}
+use Rattle.session_history.specs.Terms.{Prefix, Send, sent_to, Entry, LinkEvent}
+use Rattle.session_history.specs.Heeding.{Bounds, events_of, heeded, received}
 use Rattle.session_history.specs.Opened.{closes, is_open, is_gone}
 use Rattle.session_history.specs.Passing.{passed_in}
 
@@ -56,7 +56,7 @@ received_before bounds place latest = received bounds (place.start ++ latest.bef
 -- and a close that is heeded to its own, unless a piece found it gone
 abbrev pub IsMadeDue : Bounds → Place → ℕ → ℕ → LinkEvent → ℕ → Type 0
 IsMadeDue bounds place conn taken event.Settles before = (is_open bounds (journal_at place) conn ≡ true) × (taken ≤ before)
-IsMadeDue bounds place conn taken (event.Closes closed) before = (closed ≡ conn) × (closes conn (heeded bounds (events_in (journal_at place))) ≡ true) × (is_gone conn (journal_at place) ≡ false) × (taken ≤ before)
+IsMadeDue bounds place conn taken (event.Closes closed) before = (closed ≡ conn) × (closes conn (heeded bounds (events_of bounds (journal_at place))) ≡ true) × (is_gone conn (journal_at place) ≡ false) × (taken ≤ before)
 IsMadeDue bounds place conn taken (event.Opens opened) before = ⊥
 IsMadeDue bounds place conn taken (event.Piece to bytes) before = ⊥
 IsMadeDue bounds place conn taken event.Ends before = ⊥

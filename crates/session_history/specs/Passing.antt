@@ -12,9 +12,9 @@ passed_behind bounds before (entry.Took event ∷ entries) = passed_behind bound
 passed_behind bounds before (entry.Gave conn bytes gone ∷ entries) =
     record { conn = conn; bytes = bytes; taken = received bounds before } ∷ passed_behind bounds (before ++ entry.Gave conn bytes gone ∷ []) entries
 
--- what was passed in a journal
+-- what was passed: before a session, and in its journal
 abbrev pub passed_in : Bounds → List Entry → List Send
-passed_in bounds entries = passed_behind bounds [] entries
+passed_in bounds entries = bounds.before.had ++ passed_behind bounds [] entries
 
 -- the sends with this number, or a lower one
 abbrev pub until : ℕ → List Send → List Send

@@ -1,7 +1,7 @@
 -- What holds while a session serves, and at its end. Each event keeps it; it has the account.
-use Rattle.std.specs.Prelude.{ℕ, ◌≤◌, List, [], ◌++◌, Bool, false}
+use Rattle.std.specs.Prelude.{ℕ, ◌≤◌, List, [], ◌++◌, Bool, false, unwrap_or}
 use Rattle.session_history.specs.Terms.{Entry, Image, Override, Path, Served, origin}
-use Rattle.session_history.specs.Heeding.{items_in, received}
+use Rattle.session_history.specs.Heeding.{items_in, received, AreHeeded}
 use Rattle.session_history.specs.Passing.{passed_in, Covers, IsFeasible, AreBetween, AreInOrder}
 use Rattle.session_history.specs.Owing.{Moment, moment_at}
 use Rattle.session_history.specs.Lawful.{Rules, Survivor, AreDue, AreLawful, Chapter, entries_of, from_there, place_of}
@@ -26,9 +26,18 @@ pub record Serving (rules : Rules) (image : Image) (earlier : List Chapter) (sur
   pub before : AreLawful rules (items_in rules.bounds (entries_of earlier ++ since)) [] earlier
   pub due : AreDue rules (items_in rules.bounds (entries_of earlier ++ since)) survivor (place_of earlier [] false) since
 
--- the first survivor at its start
-abbrev pub first_survivor : Image → Survivor
-first_survivor image = record { plan = []; begun = origin image; now = origin image }
+-- where a session's run stands when it begins: at the start of its image, or where that of the part before it stood
+abbrev pub starting_path : Rules → Image → Path
+starting_path rules image = unwrap_or rules.bounds.before.stood (origin image)
+
+-- the first survivor where it begins
+abbrev pub first_survivor : Rules → Image → Survivor
+first_survivor rules image = record { plan = rules.bounds.before.plan; begun = starting_path rules image; now = starting_path rules image }
+
+-- What came before a session is sound: each event of it was heeded, and the run that stood there emits what clients have.
+pub record IsSoundBefore (rules : Rules) (image : Image) : Type 0 where
+  pub heeded : AreHeeded rules.bounds []
+  pub carries : Carries rules image [] rules.bounds.before.plan (starting_path rules image)
 
 -- the moment behind the entries of the survivor's time and the pieces of the end
 abbrev pub ending_at : List Chapter → List Entry → Bool → ℕ → Moment

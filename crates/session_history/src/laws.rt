@@ -1,5 +1,5 @@
 //! Laws of sessions, each as the contract of a function that does nothing.
-ghost use Rattle.session_history.specs.Laws.{OneMoreHeeded, RefusedUnheeded, SessionBegins, SurvivorGoesOn, EventIsTaken, PieceIsPassed, SurvivorIsAdopted, SessionEnds, LastIsPassed, EndHasAccount, BreakHasAccount, EndPassedAll};
+ghost use Rattle.session_history.specs.Laws.{OneMoreHeeded, RefusedUnheeded, NothingIsSound, SessionBegins, SurvivorGoesOn, EventIsTaken, PieceIsPassed, SurvivorIsAdopted, SessionEnds, LastIsPassed, EndHasAccount, BreakHasAccount, EndPassedAll};
 
 /// Behind events that are all heeded, one more is heeded unless it is refused.
 pub fn one_more_heeded()
@@ -11,7 +11,12 @@ pub fn refused_unheeded()
     ensures { RefusedUnheeded }
 {}
 
-/// A session serves from the start of its image.
+/// Where nothing came before a session, that is sound.
+pub fn nothing_is_sound()
+    ensures { NothingIsSound }
+{}
+
+/// A session serves from the start of its image, or from where a sound part before it stood.
 pub fn session_begins()
     ensures { SessionBegins }
 {}

@@ -10,7 +10,7 @@ pub use Rattle.session_state.proofs.events.ArmLemmas.{IsQuiet, before_given, bef
 pub use Rattle.session_state.proofs.events.EventLemmas.{IsNoEnd, latest-ended, latest-took, told_event}
 pub use Rattle.session_state.proofs.events.HearLemmas.{HasHeard, HasSameRun, answers_still, has_heard, more_entries, run_keeping, saved_heard}
 pub use Rattle.session_state.proofs.events.SettleLemmas.{all_due, between_at, close_done, close_ready, fronts_of, made_by, settle_done, settle_ready}
-pub use Rattle.session_state.proofs.passing.GivenLemmas.{closed_given, done_given, events_in-story, latest-given}
+pub use Rattle.session_state.proofs.passing.GivenLemmas.{closed_given, done_given, events_of-story, latest-given}
 pub use Rattle.session_state.proofs.passing.PieceLemmas.{are_given, told_pieces}
 pub use Rattle.session_state.proofs.recovering.AdoptLemmas.{asks_or_fails, off_lost}
 pub use Rattle.session_state.proofs.recovering.TableLemmas.{tables_here, tells_none, told_unwatched}

@@ -1,6 +1,6 @@
 -- What a session is asked for.
 use Rattle.std.specs.Prelude.{ℕ, ◌*◌, ◌/◌, ◌≤◌, ◌^◌, Bool}
-use Rattle.session_state.specs.Terms.{Heap, limits_of, Rules, Keeping, Options}
+use Rattle.session_state.specs.Terms.{Heap, limits_of, nothing_before, Rules, Keeping, Options}
 
 -- each number is in its range
 pub record AreInRange (options : Options) : Type 0 where
@@ -26,6 +26,6 @@ keeping_for options = record { ring = options.ring; every = options.every; pages
 abbrev pub rules_of : Options → (Heap → ℕ → ℕ → Bool) → Rules
 rules_of options permits = record {
   limits = limits_of options.budget permits;
-  bounds = record { framing = options.frame; max_items = options.max_items; max_events = options.max_events };
+  bounds = record { framing = options.frame; max_items = options.max_items; max_events = options.max_events; before = nothing_before };
   hold = options.hold;
 }

@@ -117,7 +117,7 @@ GivesUpBy walk _ = Unit {0}
 -- only behind such a walk, whatever it answers then.
 pub record IsTelling (rules : Rules) (image : Image) (keeping : Keeping) (coming : Option Coming) (telling : Telling) (why : Stop) : Type 0 where
   pub ended : IsEnded rules image coming telling.account why
-  pub recovered : AreRecovered rules image [] (first_survivor image) telling.account.earlier telling.recoveries telling.account.survivor
+  pub recovered : AreRecovered rules image [] (first_survivor rules image) telling.account.earlier telling.recoveries telling.account.survivor
   pub ringed : HaveRings rules image keeping telling.account.earlier telling.recoveries
   pub walked : IfSome telling.walk (HasGivenUp rules image keeping (story_of telling))
   pub gave_up : IfSome telling.account.came (GivesUpBy telling.walk)

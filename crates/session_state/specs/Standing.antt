@@ -3,7 +3,7 @@ use Rattle.std.specs.Prelude.{◌≡◌, ◌≢◌, ◌⊎◌, ℕ, ◌+◌, ◌
 use Rattle.session_history.specs.declared.ends.SessionBreak.TheVariants as session_break
 use Rattle.session_history.specs.declared.ends.Stop.TheVariants as stop
 use Rattle.item_log.specs.Log as logs
-use Rattle.session_state.specs.Terms.{Send, Entry, Grew, Phases, Tells, Told, events_in, Seen, Choice, Ledger, Image, Cause, may_send, AsksFor, FailsBy, Path, Served, standing_of, IsBounded, SessionBreak, SessionEnd, journal_of, HandedLast, IsWaiting, StandsAt, before_end, AreHeeded, heeded, items_in, received, KeepsItems, KeepsPhases, KeepsReplies, Rules, is_closing, is_open, opens, IsDueBy, IsPassed, Latest, Moment, OwesNothing, Stands, journal, latest, place_at, received_before, Serving, first_survivor, moment_of, Episode, Try, Noted, OneEpisode, failed_with, AreRecovered, episode_of, HasHandled, Keeping, stands_of, AreBehind, IsInForce, KeepsRing, steps_of, TellsMore}
+use Rattle.session_state.specs.Terms.{Send, Entry, Grew, Phases, Tells, Told, events_in, Seen, Choice, Ledger, Image, Cause, may_send, AsksFor, FailsBy, Path, Served, standing_of, IsBounded, SessionBreak, SessionEnd, journal_of, HandedLast, IsWaiting, StandsAt, before_end, AreHeeded, events_of, heeded, items_in, received, KeepsItems, KeepsPhases, KeepsReplies, Rules, is_closing, is_open, opens, IsDueBy, IsPassed, Latest, Moment, OwesNothing, Stands, journal, latest, place_at, received_before, Serving, first_survivor, moment_of, Episode, Try, Noted, OneEpisode, failed_with, AreRecovered, episode_of, HasHandled, Keeping, stands_of, AreBehind, IsInForce, KeepsRing, steps_of, TellsMore}
 pub use Rattle.session_state.specs.Recovered.{Story, entries}
 use Rattle.session_state.specs.Recovered.{Unanswered, IsUnanswered, steps_unanswered, Walk, Telling, story_of, trials_of, last_of, episodes_of, spent, HasGivenUp, GivesUpBy, IsTelling, HasNoted, HasNothingBehind, AreTables, AreAllTables}
 use Rattle.session_state.specs.Leaving.{HoldsCheckpoints, UnlessGaveUp, IsAtRequest, IsReadFault, HandlesRequests, keeping_of}
@@ -55,7 +55,7 @@ pub record IsTold (rules : Rules) (image : Image) (began : Since) (now : Told) (
   pub way : Served rules.limits (items_in rules.bounds (entries story)) story.survivor.plan story.survivor.begun story.survivor.now
   pub tells : Tells began.told now (entries story)
   pub counted : spent story.recoveries ≡ began.lost + story.survivor.begun.steps
-  pub recovered : AreRecovered rules image [] (first_survivor image) story.earlier story.recoveries story.survivor
+  pub recovered : AreRecovered rules image [] (first_survivor rules image) story.earlier story.recoveries story.survivor
   pub episodes : Grew began.noted_before.episodes began.noted.episodes (map episode_of story.recoveries)
   pub tables : TellsMore began.tables_before began.tables (AreTables rules [] story.earlier story.recoveries)
 
@@ -81,10 +81,10 @@ module _ {R : Type 0} where
     pub guest : session.cpu.slots.live ≡ standing_of story.survivor.now
     pub bounded : IsBounded rules.limits.budget story.survivor.now
     pub few : story.survivor.now.state.machine.taken ≤ rules.bounds.max_items
-    pub within : (conn : ℕ) → may_send story.survivor.now.state.machine conn ≡ true → opens conn (heeded rules.bounds (events_in (entries story))) ≡ true
+    pub within : (conn : ℕ) → may_send story.survivor.now.state.machine conn ≡ true → opens conn (heeded rules.bounds (events_of rules.bounds (entries story))) ≡ true
     pub items : KeepsItems rules.bounds (entries story) session.log
-    pub events : session.events ≡ length (events_in (entries story))
-    pub phases_are : KeepsPhases (entries story) phases
+    pub events : session.events ≡ length (events_of rules.bounds (entries story))
+    pub phases_are : KeepsPhases rules.bounds (entries story) phases
 
   -- it has the survivor's checkpoints, those that its requests left, before which all answers of the allocator were used that are noted, and the environment in which the survivor runs: past the failure behind which it was adopted, or there
   pub record KeepsCheckpoints (rules : Rules) (image : Image) (story : Story) (session : SessionState R) : Type 0 where

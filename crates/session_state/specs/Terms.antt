@@ -16,6 +16,7 @@ pub use Rattle.alloc_env.specs.declared.env.Env.TheVariants.{Plain}
 pub use Rattle.ckpt_ring.specs.Rings.{Checkpoints, checkpoints, from_newest}
 pub use Rattle.ckpt_ring.specs.Slots.{Saved}
 pub use Rattle.page_line.specs.Line.{count_true}
+pub use Rattle.msg_frame.specs.declared.framing.Framing.{Framing}
 pub use Rattle.item_log.specs.Heard.{behind_items, brought, hear, hear_parts, items_of}
 unfoldable pub use Rattle.item_log.specs.Heard.{heard_from}
 pub use Rattle.item_log.specs.Log.{IsItemOf, Log, Shows, empty_log}
@@ -50,7 +51,7 @@ pub use Rattle.session_history.specs.Answering.{HasAnswerCause}
 pub use Rattle.session_history.specs.Ends.{AtBreak, AtEnd, EndsBy, HandedLast, HasNoEnding, IsEnd, IsEnded, IsLastRefused, IsWaiting, OwesNothingAtEnd, ShowsSession, StandsAt, StaysKnown, TakesAtEnd, WasAsked, answer_of, before_end, break_answer}
 pub use Rattle.session_history.specs.Giving.{AreDuePieces, AreFronts, AreGiven, HasHanded, IsClosing, IsReady, Passes, PassesRest, then_entries}
 pub use Rattle.session_history.specs.Hearing.{IsHeard, IsHeeded, IsUnheeded, closing_of}
-pub use Rattle.session_history.specs.Heeding.{AreHeeded, Bounds, Unheeded, heeded, items_in, received}
+pub use Rattle.session_history.specs.Heeding.{AreHeeded, Bounds, Unheeded, events_of, heeded, items_in, nothing_before, received}
 pub use Rattle.session_history.specs.Keeping.{AreSendable, IsSendable, KeepsItems, KeepsPhases, KeepsReplies}
 pub use Rattle.session_history.specs.Lawful.{Chapter, IsDuePiece, LeavesNothing, Rules, Survivor, entries_of, gone_on, is_closed_by, is_closing, moves, place_of, then_entry}
 pub use Rattle.session_history.specs.Opened.{closes, is_gone, is_open, opens}

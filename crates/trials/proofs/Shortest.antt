@@ -123,8 +123,8 @@ chapters_shortest rules image items before first (earlier ∷ front) chapter bac
 
 pub recoveries_are_shortest : RecoveriesAreShortest
 recoveries_are_shortest rules image session recoveries front chapter back account are split =
-    chapters_shortest rules image (items_in rules.bounds (journal_of session)) [] (first_survivor image) front chapter back recoveries session.survivor (subst (AreLawful rules (items_in rules.bounds (journal_of session)) []) split account.earlier)
-    (subst (λ (chapters : List Chapter). AreRecovered rules image [] (first_survivor image) chapters recoveries session.survivor) split are)
+    chapters_shortest rules image (items_in rules.bounds (journal_of session)) [] (first_survivor rules image) front chapter back recoveries session.survivor (subst (AreLawful rules (items_in rules.bounds (journal_of session)) []) split account.earlier)
+    (subst (λ (chapters : List Chapter). AreRecovered rules image [] (first_survivor rules image) chapters recoveries session.survivor) split are)
 
 pub failure_is_shortest : FailureIsShortest
 failure_is_shortest rules image session cause account given fails owes =

@@ -43,7 +43,7 @@ PointsRise =
 
 -- The survivors of a session: the first one, one that goes on, and behind a recovery the trial that survived.
 abbrev pub RecoveredFirst : Type 0
-RecoveredFirst = (rules : Rules) (image : Image) → AreRecovered rules image [] (first_survivor image) [] [] (first_survivor image)
+RecoveredFirst = (rules : Rules) (image : Image) → AreRecovered rules image [] (first_survivor rules image) [] [] (first_survivor rules image)
 
 abbrev pub RecoveredOn : Type 0
 RecoveredOn =

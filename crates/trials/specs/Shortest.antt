@@ -16,7 +16,7 @@ pub record IsShortest (rules : Rules) (start since : List Entry) (survivor : Sur
 abbrev pub RecoveriesAreShortest : Type 0
 RecoveriesAreShortest =
     (rules : Rules) (image : Image) (session : Session) (recoveries : List Recovery) (front : List Chapter) (chapter : Chapter) (back : List Chapter) → IsAccount rules image session →
-    AreRecovered rules image [] (first_survivor image) session.earlier recoveries session.survivor → session.earlier ≡ front ++ chapter ∷ back →
+    AreRecovered rules image [] (first_survivor rules image) session.earlier recoveries session.survivor → session.earlier ≡ front ++ chapter ∷ back →
     IsShortest rules (entries_of front) chapter.entries chapter.survivor
 
 -- and so it is where the last survivor failed

@@ -7,8 +7,9 @@ use Rattle.guest_runs.specs.Laws.{IsStart}
 use Rattle.std.specs.Option.{unwrap_or}
 use Rattle.run_history.specs.Machine as M
 use Rattle.session_history.specs.Heeding as H
+use Rattle.session_history.proofs.Accounts.{nothing_is_sound}
 use Rattle.session_state.proofs.Lemmas.{in_force_by, none_noted, tells_none}
-use Rattle.session_state.proofs.Terms.{Bool, List, None, Option, [], ap, arith, drop, false, inl, length, refl, subst, suc, sym, take, true, zero, ℕ, ◌*◌, ◌++◌, ◌+◌, ◌-◌, ◌/◌, ◌∙◌, ◌∷◌, ◌≡◌, ◌≤◌, replicate, slice_get, Send, tells_nothing, Grew, IsFresh, Seen, Heap, Checkpoints, Ledger, no_replies, Image, no_connections, origin, CpuState, standing_of, Standing, runs_start, served_same, serving_first, Bounds, items_in, KeepsReplies, Rules, Stands, CanGive, Try, Noted, Shown, recovered_first, in_force_none, handled_first, alone, keeping_by, stands_of, KeepsRing, keeping_for, rules_of, IsBegun, SessionState, AreTables, IsTrimmed, keeping_of, IsBetween, Since, Story, told_since, HasSameFrame, IsCounted, MayServe, StaysKnown}
+use Rattle.session_state.proofs.Terms.{Bool, List, None, Option, [], ap, arith, drop, false, inl, length, refl, subst, suc, sym, take, true, zero, ℕ, ◌*◌, ◌++◌, ◌+◌, ◌-◌, ◌/◌, ◌∙◌, ◌∷◌, ◌≡◌, ◌≤◌, replicate, slice_get, Send, tells_nothing, Grew, IsFresh, Seen, Heap, Checkpoints, Framing, Ledger, no_replies, Image, no_connections, origin, CpuState, standing_of, Standing, runs_start, served_same, serving_first, Bounds, items_in, nothing_before, KeepsReplies, Rules, Stands, CanGive, Try, Noted, Shown, recovered_first, in_force_none, handled_first, alone, keeping_by, stands_of, KeepsRing, keeping_for, rules_of, IsBegun, SessionState, AreTables, IsTrimmed, keeping_of, IsBetween, Since, Story, told_since, HasSameFrame, IsCounted, MayServe, StaysKnown}
 use Rattle.session_state.proofs.ending.LeavingLemmas.{start_trimmed}
 
 -- the story of no event
@@ -33,10 +34,10 @@ none_known : (conn : ℕ) → unwrap_or (slice_get no_connections conn) false �
 unfolding no_connections
 none_known conn = none_open 4096 conn
 
--- a ledger without replies is that of an empty journal
-first_replies : {bounds : Bounds} → KeepsReplies bounds [] None [] no_replies
+-- a ledger without replies is that of an empty journal with nothing before it
+first_replies : (framing : Framing) (max_items max_events : ℕ) → KeepsReplies (record { framing = framing; max_items = max_items; max_events = max_events; before = nothing_before }) [] None [] no_replies
 unfolding H.heeded_behind I.earlier_at S.stamped_of ledgers.connection_of ledgers.stamped_to ledgers.is_open
-first_replies = record {
+first_replies framing max_items max_events = record {
   shows = record { counted = omega arith; kept = refl; opened = λ conn none. refl; earlier = λ conn. refl; passed = λ conn. refl };
   opened = λ conn. refl;
   may = λ conn. refl;
@@ -84,7 +85,7 @@ module _ {R : Type 0} where
         going = record {
           story = first_story image;
           told = record {
-            serving = serving_first rules image;
+            serving = serving_first rules image (nothing_is_sound rules image refl);
             way = served_same rules.limits (items_in rules.bounds []) [] (origin image);
             tells = tells_nothing _;
             recovered = recovered_first rules image;
@@ -111,7 +112,7 @@ module _ {R : Type 0} where
             phases_are = fresh;
           };
           saved = record { paths = origin image ∷ []; ring = keeps; early = (omega (arith, begun.none_recorded), tt); requests = inl (handled_first rules image (keeping_by ring.capacity session.options.every cpu.slots) [] (first_story image).survivor (stands_of cpu.slots.saved) stands); in_force = in_force_by begun.plain begun.until_none (in_force_none 0); past = inl (let none : session.until ≡ 0 = begun.until_none in omega (arith, none)) };
-          passed = record { replies = subst (λ (ledger : Ledger). KeepsReplies rules.bounds [] None [] ledger) (sym begun.replies) (first_replies); no_trial = ap (λ (ledger : Ledger). ledger.trial) begun.replies; done = λ send stands due. absurd due };
+          passed = record { replies = subst (λ (ledger : Ledger). KeepsReplies rules.bounds [] None [] ledger) (sym begun.replies) (first_replies session.options.frame session.options.max_items session.options.max_events); no_trial = ap (λ (ledger : Ledger). ledger.trial) begun.replies; done = λ send stands due. absurd due };
           latest = λ last found. absurd (let no : ⊥ = cc in no);
         };
         due = λ send stands is taken. absurd (none_stands stands);

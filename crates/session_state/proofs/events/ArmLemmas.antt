@@ -1,10 +1,10 @@
 -- The arms of a session: items came, a settle, a close, an end, a refusal.
 use Rattle.links.specs.declared.journal.Entry.TheVariants as entry
 use Rattle.links.specs.declared.journal.LinkEvent.TheVariants as event
-use Rattle.session_state.proofs.Terms.{List, None, Some, [], ap, append-nil, arith, length, refl, subst, sym, ℕ, ◌<◌, ◌∙◌, ◌∷◌, ◌≡◌, ◌≤◌, same_Some, Send, Entry, LinkEvent, Phases, events_in, Seen, items_of, Ledger, Image, AreGiven, Bounds, heeded, items_in, received, KeepsReplies, Rules, opens, IsDueBy, IsMadeDue, Latest, Moment, latest, place_at, received_before, SessionState, GoesWith, HasPassed, HasPassedDue, IsBetween, IsGoing, IsHearing, IsLatestBefore, IsLatestDone, IsTold, IsWaitingFor, KeepsCheckpoints, Since, Story, entries, moment, sends, then_story}
+use Rattle.session_state.proofs.Terms.{List, None, Some, [], ap, append-nil, arith, length, refl, subst, sym, ℕ, ◌<◌, ◌∙◌, ◌∷◌, ◌≡◌, ◌≤◌, same_Some, Send, Entry, LinkEvent, Phases, Seen, items_of, Ledger, Image, AreGiven, Bounds, events_of, heeded, items_in, received, KeepsReplies, Rules, opens, IsDueBy, IsMadeDue, Latest, Moment, latest, place_at, received_before, SessionState, GoesWith, HasPassed, HasPassedDue, IsBetween, IsGoing, IsHearing, IsLatestBefore, IsLatestDone, IsTold, IsWaitingFor, KeepsCheckpoints, Since, Story, entries, moment, sends, then_story}
 use Rattle.session_state.proofs.events.EventLemmas.{IsNoEnd, latest-took}
 use Rattle.session_state.proofs.events.HearLemmas.{HasSameRun, HasHeard, answers_still, goes_then, saved_then}
-use Rattle.session_state.proofs.passing.GivenLemmas.{latest-given, items_by, events_in-story}
+use Rattle.session_state.proofs.passing.GivenLemmas.{latest-given, items_by, events_of-story}
 
 -- the latest event of a story with one behind it
 pub latest_story : (story : Story) {e : LinkEvent} → IsNoEnd e → latest (moment (then_story story (entry.Took e ∷ []))).since ≡ Some (record { before = story.since; event = e })
@@ -69,8 +69,8 @@ module _ {R : Type 0} where
   -- guest, items and phases behind pieces
   pub goes_given : {rules : Rules} {story : Story} {old : SessionState R} {replies : Ledger} {phases later : Phases} (more : List Entry) → AreGiven more → ((conn : ℕ) → later conn ≡ phases conn) → GoesWith rules story old phases
       → GoesWith rules (then_story story more) (record old { replies = replies }) later
-  goes_given {story = story} more given stay goes =
-      let same : events_in (entries (then_story story more)) ≡ events_in (entries story) = events_in-story story more given in
+  goes_given {rules = rules} {story = story} more given stay goes =
+      let same : events_of rules.bounds (entries (then_story story more)) ≡ events_of rules.bounds (entries story) = events_of-story rules.bounds story more given in
       goes_then more (same_run) goes (items_by same goes.items)
       (goes.events ∙ ap length (sym same)) (λ conn. stay conn ∙ (goes.phases_are conn ∙ ap (λ es. Rattle.session_history.specs.Keeping.phase_after conn es) (sym same)))
 
@@ -78,7 +78,7 @@ module _ {R : Type 0} where
   pub saved_given : {rules : Rules} {image : Image} {story : Story} {old : SessionState R} {replies : Ledger} (more : List Entry) → AreGiven more → replies.first ≡ old.replies.first → KeepsCheckpoints rules image story old
       → KeepsCheckpoints rules image (then_story story more) (record old { replies = replies })
   saved_given {rules = rules} {story = story} more given kept saved =
-      let same : events_in (entries (then_story story more)) ≡ events_in (entries story) = events_in-story story more given in
+      let same : events_of rules.bounds (entries (then_story story more)) ≡ events_of rules.bounds (entries story) = events_of-story rules.bounds story more given in
       saved_then more (same_run) kept
       (record {
         items = ap (λ (es : List LinkEvent). items_of rules.bounds.framing (heeded rules.bounds es)) same ∙ sym (append-nil (items_in rules.bounds (entries story)));

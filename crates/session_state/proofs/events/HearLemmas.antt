@@ -1,7 +1,7 @@
 -- What a session makes of an event that it heard.
 use Rattle.links.specs.declared.journal.Entry.TheVariants as entry
 use Rattle.links.proofs.Journaled.{events_in-append}
-use Rattle.session_state.proofs.Terms.{List, [], ap, append_assoc, arith, length, subst, sym, true, ℕ, ◌++◌, ◌+◌, ◌<◌, ◌∙◌, ◌∷◌, ◌≡◌, ◌≤◌, ◌⊎◌, Item, Entry, LinkEvent, Phases, Tells, events_in, Seen, Checkpoints, Image, AsksFor, Override, Path, CpuState, IsHeard, Bounds, heeded, items_in, received, KeepsItems, KeepsPhases, Rules, entries_of, opens, ring_more, AreBehind, Brings, KeepsRing, SessionState, keeping_of, AnswersFor, GoesWith, IsTold, IsWaitingFor, KeepsCheckpoints, Since, Story, entries, sends, then_story}
+use Rattle.session_state.proofs.Terms.{List, [], ap, append_assoc, arith, length, subst, sym, true, ℕ, ◌++◌, ◌+◌, ◌<◌, ◌∙◌, ◌∷◌, ◌≡◌, ◌≤◌, ◌⊎◌, Item, Entry, LinkEvent, Phases, Tells, events_in, Seen, Checkpoints, Image, AsksFor, Override, Path, CpuState, events_of-append, IsHeard, Bounds, events_of, heeded, items_in, received, KeepsItems, KeepsPhases, Rules, entries_of, opens, ring_more, AreBehind, Brings, KeepsRing, SessionState, keeping_of, AnswersFor, GoesWith, IsTold, IsWaitingFor, KeepsCheckpoints, Since, Story, entries, sends, then_story}
 use Rattle.session_state.proofs.standing.HeldLemmas.{requests_by, requests_more}
 use Rattle.session_state.proofs.standing.CheckpointLemmas.{in_force_by}
 use Rattle.session_state.proofs.guest.GuestLemmas.{answers_as}
@@ -13,10 +13,10 @@ pub more_entries : (story : Story) (more : List Entry) → entries story ++ more
 more_entries story more = append_assoc (entries_of story.earlier) story.since more
 
 -- who was open to sends before more entries is so behind them
-pub opens_still : (bounds : Bounds) (before : List Entry) {after : List Entry} (more : List Entry) (conn : ℕ) → after ≡ before ++ more → heeded bounds (events_in before) ≡ events_in before → heeded bounds (events_in after) ≡ events_in after
-    → opens conn (heeded bounds (events_in before)) ≡ true → opens conn (heeded bounds (events_in after)) ≡ true
+pub opens_still : (bounds : Bounds) (before : List Entry) {after : List Entry} (more : List Entry) (conn : ℕ) → after ≡ before ++ more → heeded bounds (events_of bounds before) ≡ events_of bounds before → heeded bounds (events_of bounds after) ≡ events_of bounds after
+    → opens conn (heeded bounds (events_of bounds before)) ≡ true → opens conn (heeded bounds (events_of bounds after)) ≡ true
 opens_still bounds before {after = after} more conn is first second open_before =
-    ap (opens conn) (second ∙ (ap events_in is ∙ events_in-append before more)) ∙ opens_more conn (events_in before) (events_in more) (ap (opens conn) (sym first) ∙ open_before)
+    ap (opens conn) (second ∙ (ap (events_of bounds) is ∙ events_of-append bounds before more)) ∙ opens_more conn (events_of bounds before) (events_in more) (ap (opens conn) (sym first) ∙ open_before)
 
 module _ {R : Type 0} where
   -- but for log, replies and the count of events, nothing of a session changed; and the log gave nothing up
@@ -40,7 +40,7 @@ module _ {R : Type 0} where
 
   -- the guest, the items and the phases behind more entries
   pub goes_then : {rules : Rules} {story : Story} {old new : SessionState R} {phases later : Phases} (more : List Entry) → HasSameRun old new → GoesWith rules story old phases → KeepsItems rules.bounds (entries (then_story story more)) new.log
-      → new.events ≡ length (events_in (entries (then_story story more))) → KeepsPhases (entries (then_story story more)) later → GoesWith rules (then_story story more) new later
+      → new.events ≡ length (events_of rules.bounds (entries (then_story story more))) → KeepsPhases rules.bounds (entries (then_story story more)) later → GoesWith rules (then_story story more) new later
   goes_then {rules = rules} {story = story} more same goes items events knows = record {
     lives = goes.lives;
     guest = ap (λ cpu. cpu.slots.live) same.cpu ∙ goes.guest;
@@ -84,8 +84,8 @@ module _ {R : Type 0} where
 
   pub has_heard : {rules : Rules} {image : Image} {began : Since} {before seen : Seen} {event : LinkEvent} {old new : SessionState R} (w : IsWaitingFor rules image began before old)
       → received rules.bounds (entries w.hearing.story) ≤ w.hearing.story.survivor.now.state.machine.taken → HasSameRun old new → Tells before.told seen.told (entry.Took event ∷ [])
-      → IsHeard rules.bounds (entries w.hearing.story) (sends w.hearing.story) event new.log new.replies → KeepsPhases (entries w.hearing.story ++ entry.Took event ∷ []) seen.phases
-      → new.events ≡ length (events_in (entries w.hearing.story ++ entry.Took event ∷ [])) → HasHeard rules image began seen (then_story w.hearing.story (entry.Took event ∷ [])) new
+      → IsHeard rules.bounds (entries w.hearing.story) (sends w.hearing.story) event new.log new.replies → KeepsPhases rules.bounds (entries w.hearing.story ++ entry.Took event ∷ []) seen.phases
+      → new.events ≡ length (events_of rules.bounds (entries w.hearing.story ++ entry.Took event ∷ [])) → HasHeard rules image began seen (then_story w.hearing.story (entry.Took event ∷ [])) new
   has_heard {rules = rules} {seen = seen} {event = event} {new = new} w all same tells heard knows events =
       let story : Story = w.hearing.story in
       let is = more_entries story (entry.Took event ∷ []) in
@@ -97,8 +97,8 @@ module _ {R : Type 0} where
             heard.brings;
         answers = answers_still (entry.Took event ∷ []) same w.hearing.answers;
         goes =
-            goes_then (entry.Took event ∷ []) same w.hearing.goes (subst (λ es. KeepsItems rules.bounds es new.log) is heard.items) (events ∙ ap (λ es. length (events_in es)) is)
-            (subst (λ (es : List Entry). KeepsPhases es seen.phases) is knows);
+            goes_then (entry.Took event ∷ []) same w.hearing.goes (subst (λ es. KeepsItems rules.bounds es new.log) is heard.items) (events ∙ ap (λ es. length (events_of rules.bounds es)) is)
+            (subst (λ (es : List Entry). KeepsPhases rules.bounds es seen.phases) is knows);
         asks = asks;
       }
 
@@ -113,5 +113,5 @@ module _ {R : Type 0} where
         items = ap (items_in rules.bounds) (sym is) ∙ heard.brings;
         opened = λ conn known.
             opens_still rules.bounds (entries story) (entry.Took event ∷ []) conn (sym is) w.hearing.goes.items.all_heeded
-            (subst (λ es. heeded rules.bounds (events_in es) ≡ events_in es) is heard.items.all_heeded) known;
+            (subst (λ es. heeded rules.bounds (events_of rules.bounds es) ≡ events_of rules.bounds es) is heard.items.all_heeded) known;
       }) w.hearing.saved

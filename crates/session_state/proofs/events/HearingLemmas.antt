@@ -2,7 +2,6 @@
 use Rattle.links.specs.declared.journal.Entry.TheVariants as entry
 use Rattle.links.specs.declared.journal.LinkEvent.TheVariants as event
 use Rattle.msg_frame.specs.Messages.{Parts, cut}
-use Rattle.msg_frame.specs.declared.framing.Framing.{Framing}
 use Rattle.item_log.specs.Connections as log_connections
 use Rattle.item_log.specs.Log as logs
 use Rattle.item_log.specs.declared.kinds.TheConstants.{CONNECTIONS}
@@ -17,7 +16,7 @@ use Rattle.link_gate.proofs.Ordering.{heard_some, rests_by, step_heard}
 use Rattle.link_gate.proofs.Phasing.{closes-last, opens-first, opens-last, opens_by}
 use Rattle.session_history.specs.declared.ends.Stop.TheVariants as stop
 use Rattle.session_state.proofs.Lemmas.{still_takes, received_is, IsQuiet, before_given, before_story, goes_given, hearing_items, latest_story, same_run, saved_given, waits_on, IsNoEnd, HasHeard, HasSameRun, answers_still, has_heard, more_entries, saved_heard, all_due, close_ready, settle_done, settle_ready, latest-given}
-use Rattle.session_state.proofs.Terms.{Bool, Err, List, None, Ok, Option, Result, Some, [], ap, arith, false, inl, inr, length, length-append, refl, subst, sym, true, ℕ, ◌++◌, ◌+◌, ◌<◌, ◌∙◌, ◌∷◌, ◌≡◌, ◌≤◌, ◌⊎◌, cases_lt, eq-eqb, eqb-true, get_or-replicate, get_or-set_other, get_or_past, length-replicate, IfOk, is_some, slice_set, unwrap_or, ◌==◌, ◌||◌, rose_later, Send, Entry, LinkEvent, Counts, Tells, events_in, Seen, Heap, from_newest, behind_items, brought, hear, hear_parts, heard_from, Log, Shows, Ledger, connection_of, Image, SessionEnd, Stop, IsLastRefused, IsWaiting, StandsAt, AreGiven, IsClosing, IsReady, IsHeard, IsUnheeded, closing_of, Bounds, Unheeded, heeded, received, KeepsItems, KeepsPhases, KeepsReplies, Rules, closes, opens, Latest, HearFault, IsEvent, events_behind, heard_behind, ComesLast, HearsBy, IsShown, Stays, Takes, TakesBehind, is_far, stands_of, rules_of, SessionState, GivesUpBy, IsHandled, HasPassed, HasPassedDue, IsEnding, IsHearing, IsLatestBefore, IsTold, IsWaitingFor, KeepsCheckpoints, Since, Story, entries, moment, sends, then_story, CanPass, HasSameGuest, HasStopCause, IsStopAt, MayServe, PassesDue, PassesStory, StaysKnown, StopsBy, WaitsBy}
+use Rattle.session_state.proofs.Terms.{Bool, Err, List, None, Ok, Option, Result, Some, [], ap, arith, false, inl, inr, length, length-append, refl, subst, sym, true, ℕ, ◌++◌, ◌+◌, ◌<◌, ◌∙◌, ◌∷◌, ◌≡◌, ◌≤◌, ◌⊎◌, cases_lt, eq-eqb, eqb-true, get_or-replicate, get_or-set_other, get_or_past, length-replicate, IfOk, is_some, slice_set, unwrap_or, ◌==◌, ◌||◌, rose_later, Send, Entry, LinkEvent, Counts, Tells, events_in, Seen, Heap, from_newest, Framing, behind_items, brought, hear, hear_parts, heard_from, Log, Shows, Ledger, connection_of, Image, SessionEnd, Stop, IsLastRefused, IsWaiting, StandsAt, AreGiven, IsClosing, IsReady, IsHeard, IsUnheeded, closing_of, Bounds, Unheeded, events_of, heeded, received, KeepsItems, KeepsPhases, KeepsReplies, Rules, closes, opens, Latest, HearFault, IsEvent, events_behind, heard_behind, ComesLast, HearsBy, IsShown, Stays, Takes, TakesBehind, is_far, stands_of, rules_of, SessionState, GivesUpBy, IsHandled, HasPassed, HasPassedDue, IsEnding, IsHearing, IsLatestBefore, IsTold, IsWaitingFor, KeepsCheckpoints, Since, Story, entries, moment, sends, then_story, CanPass, HasSameGuest, HasStopCause, IsStopAt, MayServe, PassesDue, PassesStory, StaysKnown, StopsBy, WaitsBy}
 use Rattle.session_state.proofs.events.StopLemmas.{ending_refused, ending_ended, ending_stopped, off_read, off_memory}
 
 -- one place of the connections' rests is set: the others are as they were
@@ -85,13 +84,13 @@ opens_shown {framing = framing} {events = events} conn shows open_now =
 
 -- a log heard the close of a connection: its events open it
 pub opens_closed : {bounds : Bounds} {before : List Entry} (conn : ℕ) {old new : Log} → KeepsItems bounds before old → KeepsItems bounds (before ++ entry.Took (event.Closes conn) ∷ []) new
-    → opens conn (heeded bounds (events_in (before ++ entry.Took (event.Closes conn) ∷ []))) ≡ true
+    → opens conn (heeded bounds (events_of bounds (before ++ entry.Took (event.Closes conn) ∷ []))) ≡ true
 opens_closed {bounds = bounds} {before = before} conn {old = old} {new = new} keeps later =
     let e : LinkEvent = event.Closes conn in
-    let is : events_in (before ++ entry.Took e ∷ []) ≡ events_in before ++ e ∷ [] = events_behind before e refl in
+    let is : events_of bounds (before ++ entry.Took e ∷ []) ≡ events_of bounds before ++ e ∷ [] = events_behind bounds before e refl in
     let all : behind_items keeps.shows.items (hear old.framing old.rests e) ≡ Some (record { items = later.shows.items; rests = new.rests }) =
-    sym (heard_behind bounds.framing (events_in before) e old keeps.shows) ∙ (ap (heard_from bounds.framing none_open) (sym is) ∙ later.shows.is_heard) in
-    ap (opens conn) (later.all_heeded ∙ is) ∙ (opens-last conn (events_in before) e ∙ ap (λ (b : Bool). b || false) (opens_shown conn keeps.shows (by (hear old.framing old.rests e) refl all)))
+    sym (heard_behind bounds.framing (events_of bounds before) e old keeps.shows) ∙ (ap (heard_from bounds.framing none_open) (sym is) ∙ later.shows.is_heard) in
+    ap (opens conn) (later.all_heeded ∙ is) ∙ (opens-last conn (events_of bounds before) e ∙ ap (λ (b : Bool). b || false) (opens_shown conn keeps.shows (by (hear old.framing old.rests e) refl all)))
   where
     by : (found : Option Heard) → hear old.framing old.rests (event.Closes conn) ≡ found → behind_items keeps.shows.items found ≡ Some (record { items = later.shows.items; rests = new.rests }) → log_connections.is_open old.rests conn ≡ true
     by None is all = absurd (let never : ⊥ = cc in never)
@@ -99,10 +98,10 @@ opens_closed {bounds = bounds} {before = before} conn {old = old} {new = new} ke
 
 -- a close that a log heard is one that is heeded
 pub closes_closed : {bounds : Bounds} (before : List Entry) (conn : ℕ) {new : Log} → KeepsItems bounds (before ++ entry.Took (event.Closes conn) ∷ []) new
-    → closes conn (heeded bounds (events_in (before ++ entry.Took (event.Closes conn) ∷ []))) ≡ true
-closes_closed before conn later =
+    → closes conn (heeded bounds (events_of bounds (before ++ entry.Took (event.Closes conn) ∷ []))) ≡ true
+closes_closed {bounds = bounds} before conn later =
     let e : LinkEvent = event.Closes conn in
-    ap (closes conn) (later.all_heeded ∙ events_behind before e refl) ∙ (closes-last conn (events_in before) e ∙ (ap (λ (b : Bool). closes conn (events_in before) || b) (eq-eqb conn conn refl) ∙ either (closes conn (events_in before))))
+    ap (closes conn) (later.all_heeded ∙ events_behind bounds before e refl) ∙ (closes-last conn (events_of bounds before) e ∙ (ap (λ (b : Bool). closes conn (events_of bounds before) || b) (eq-eqb conn conn refl) ∙ either (closes conn (events_of bounds before))))
   where
     either : (x : Bool) → (x || true) ≡ true
     either true = refl
@@ -146,8 +145,8 @@ shown_ends event.Ends is so = refl
 pub record HeardEvent (bounds : Bounds) (before : List Entry) (all : List Send) (was seen : Seen) (log : Log) (ledger : Ledger) (events : ℕ) (e : LinkEvent) : Type 0 where
   pub tells : Takes was.told seen.told e
   pub heard : IsHeard bounds before all e log ledger
-  pub phases : KeepsPhases (before ++ entry.Took e ∷ []) seen.phases
-  pub counted : events ≡ length (events_in (before ++ entry.Took e ∷ []))
+  pub phases : KeepsPhases bounds (before ++ entry.Took e ∷ []) seen.phases
+  pub counted : events ≡ length (events_of bounds (before ++ entry.Took e ∷ []))
 
 module _ {bounds : Bounds} {before : List Entry} {all : List Send} {was seen : Seen} {log : Log} {ledger : Ledger} {events : ℕ} (shown : heard_type.Heard) (h : HearsBy bounds before all log ledger events was seen (Ok shown)) where
   event_heard : HeardEvent bounds before all was seen log ledger events h.0
@@ -166,8 +165,8 @@ module _ {bounds : Bounds} {before : List Entry} {all : List Send} {was seen : S
   end_heard is = subst (HeardEvent bounds before all was seen log ledger events) (shown_ends h.0 h.1 is) event_heard
 
 -- one event more was counted
-pub one_counted : (before : List Entry) (e : LinkEvent) (old new : ℕ) → IsEvent e → old ≡ length (events_in before) → new ≡ length (events_in (before ++ entry.Took e ∷ [])) → old < new
-one_counted before e old new one was is = omega (arith, was, is, ap length (events_behind before e one), length-append (events_in before) (e ∷ []))
+pub one_counted : (bounds : Bounds) (before : List Entry) (e : LinkEvent) (old new : ℕ) → IsEvent e → old ≡ length (events_of bounds before) → new ≡ length (events_of bounds (before ++ entry.Took e ∷ [])) → old < new
+one_counted bounds before e old new one was is = omega (arith, was, is, ap length (events_behind bounds before e one), length-append (events_of bounds before) (e ∷ []))
 
 pub quiet_event : (e : LinkEvent) → IsQuiet e → IsEvent e
 quiet_event (event.Opens conn) is = refl
@@ -244,7 +243,7 @@ module _ {R : Type 0} where
       let story : Story = w.hearing.story in
       let es = more_entries story (entry.Took (event.Closes conn) ∷ []) in
       close_ready story (story_heard w none_left first h).told w.hearing.told.serving.carries.taken
-      (subst (λ (all : List Entry). closes conn (heeded rules.bounds (events_in all)) ≡ true) es (closes_closed (entries story) conn h.heard.items))
+      (subst (λ (all : List Entry). closes conn (heeded rules.bounds (events_of rules.bounds all)) ≡ true) es (closes_closed (entries story) conn h.heard.items))
       (subst (λ (all : List Entry). KeepsReplies rules.bounds all (Some conn) (sends story) ledger) es h.heard.replies)
 
   -- a settle owes all that was sent to open connections

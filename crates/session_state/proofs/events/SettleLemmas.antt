@@ -1,7 +1,7 @@
 -- A settle, and the close of a connection: what is made owed, and that it was passed.
 use Rattle.links.specs.declared.journal.Entry.TheVariants as entry
 use Rattle.links.specs.declared.journal.LinkEvent.TheVariants as event
-use Rattle.session_state.proofs.Terms.{List, None, Option, Some, [], ap, arith, false, inr, refl, subst, sym, true, ℕ, ◌++◌, ◌∙◌, ◌∷◌, ◌≡◌, ◌≤◌, ◌&&◌, Send, Told, events_in, Ledger, next_part, rest_part, Image, AreFronts, IsClosing, IsReady, Bounds, heeded, received, KeepsReplies, Rules, is_closed_by, is_closing, closes, is_gone, is_open, IsDueBy, IsMadeDue, IsPassed, Latest, Moment, Stands, journal, latest, place_at, received_before, AreBetween, passed_in, no_rest, nothing_waits, IsLatestDone, IsTold, Since, Story, entries, moment, sends, then_story}
+use Rattle.session_state.proofs.Terms.{List, None, Option, Some, [], ap, arith, false, inr, refl, subst, sym, true, ℕ, ◌++◌, ◌∙◌, ◌∷◌, ◌≡◌, ◌≤◌, ◌&&◌, Send, Told, Ledger, next_part, rest_part, Image, AreFronts, IsClosing, IsReady, Bounds, events_of, heeded, received, KeepsReplies, Rules, is_closed_by, is_closing, closes, is_gone, is_open, IsDueBy, IsMadeDue, IsPassed, Latest, Moment, Stands, journal, latest, place_at, received_before, AreBetween, passed_in, no_rest, nothing_waits, IsLatestDone, IsTold, Since, Story, entries, moment, sends, then_story}
 use Rattle.session_state.proofs.events.ArmLemmas.{latest_story}
 
 -- a send that stands among sends was made with no more items than the last ones
@@ -20,7 +20,7 @@ fronts_of told = told.serving.carries.covers
 -- where no connection closes, what a close makes owed was passed
 none_closes : (bounds : Bounds) (at : Moment) {o : Option Latest} (conn : ℕ) → latest at.since ≡ o → ((c : ℕ) → is_closed_by o c ≡ false) → is_closing bounds at conn ≡ true → ⊥
 none_closes bounds at conn is never closing =
-    let nothing : false ≡ true = sym (ap (λ b. b && closes conn (heeded bounds (events_in (journal at)))) (ap (λ l. is_closed_by l conn) is ∙ never conn)) ∙ closing in
+    let nothing : false ≡ true = sym (ap (λ b. b && closes conn (heeded bounds (events_of bounds (journal at)))) (ap (λ l. is_closed_by l conn) is ∙ never conn)) ∙ closing in
     cc
 
 -- A settle was heard: all that was sent to open connections is owed.
@@ -55,7 +55,7 @@ settle_done rules story {last = last} is settles all send stands due =
 
 -- A close was heard: all that was sent to its connection is owed, unless it is gone.
 pub close_ready : {rules : Rules} {image : Image} {began : Since} {now : Told} (story : Story) {conn : ℕ} {ledger : Ledger} → IsTold rules image began now (then_story story (entry.Took (event.Closes conn) ∷ [])) → story.survivor.now.state.machine.taken ≤ received rules.bounds (entries story)
-    → closes conn (heeded rules.bounds (events_in (entries (then_story story (entry.Took (event.Closes conn) ∷ []))))) ≡ true
+    → closes conn (heeded rules.bounds (events_of rules.bounds (entries (then_story story (entry.Took (event.Closes conn) ∷ []))))) ≡ true
     → KeepsReplies rules.bounds (entries (then_story story (entry.Took (event.Closes conn) ∷ []))) (Some conn) (sends story) ledger → IsClosing rules (sends story) (moment (then_story story (entry.Took (event.Closes conn) ∷ []))) conn ledger
 close_ready {rules = rules} story {conn = conn} told low closed replies =
     let after : Story = then_story story (entry.Took (event.Closes conn) ∷ []) in
@@ -70,7 +70,7 @@ close_ready {rules = rules} story {conn = conn} told low closed replies =
       owed = λ send stands to still.
           let few = made_by told send stands in
           inr (subst (IsDueBy rules.bounds (place_at (moment after)) send.conn send.taken) (sym is)
-          (sym to, subst (λ c. closes c (heeded rules.bounds (events_in (entries after))) ≡ true) (sym to) closed, subst (λ c. is_gone c (entries after) ≡ false) (sym to) still, omega (arith, few, low)));
+          (sym to, subst (λ c. closes c (heeded rules.bounds (events_of rules.bounds (entries after))) ≡ true) (sym to) closed, subst (λ c. is_gone c (entries after) ≡ false) (sym to) still, omega (arith, few, low)));
     }
 
 -- it was passed: the ledger marks the connection closed, and what the close makes owed is done

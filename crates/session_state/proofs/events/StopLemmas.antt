@@ -5,26 +5,25 @@ use Rattle.links.specs.declared.journal.LinkEvent.TheVariants as event
 use Rattle.item_log.specs.Log as logs
 use Rattle.session_history.specs.declared.ends.SessionBreak.TheVariants as session_break
 use Rattle.session_history.specs.declared.ends.SessionEnd.TheVariants as session_end
-use Rattle.session_history.proofs.Heeding.{passed_in-took}
 use Rattle.link_gate.proofs.Knowing.{gone-took}
 use Rattle.session_history.proofs.Causes.{last_taken-append}
 use Rattle.session_state.proofs.Lemmas.{handled_by, held_as, held_by, held_more, held_of, rings_kept, unless_gave_up, waits_handled, owes_nothing, still_takes, answers_as, broken_off, broken_with, none_lost, none_noted, received_is, IsNoEnd, latest-ended, latest-took, told_event, HasSameRun, answers_still, more_entries, run_keeping, tables_here, told_unwatched}
-use Rattle.session_state.proofs.Terms.{Bool, List, None, Some, [], ap, append-nil, arith, false, inl, inr, length, not, refl, subst, sym, true, ℕ, ◌++◌, ◌+◌, ◌∙◌, ◌∷◌, ◌≡◌, ◌≤◌, ◌⊎◌, eqb-true, true≢false, IfSome, ◌&&◌, ◌==◌, Item, Prefix, Send, sent_to, Entry, LinkEvent, tells_then, HasEnded, IsNext, Refuses, Tells, Told, events_in, Seen, items_of, Log, Ledger, Image, AsksFor, CpuState, standing_of, SessionEnd, served_same, IsLastRefused, IsWaiting, StandsAt, WasAsked, IsHeard, IsHeeded, IsUnheeded, closing_of, Bounds, Unheeded, heeded, items_in, received, KeepsReplies, Rules, is_closed_by, is_closing, closes, is_gone, is_open, opens, IsDueBy, Moment, journal, latest, place_at, passed_in, due_by, due_not_gone, IsEvent, events_ended, heeded_without, handled_on, HasHandled, HaveRings, stands_of, SessionState, GivesUpBy, HoldsCheckpoints, IsHandled, keeping_of, AnswersFor, IsAsking, IsBrokenOff, IsEnding, IsLatestDone, IsTold, IsWaitingFor, Since, Story, entries, moment, sends, then_story}
+use Rattle.session_state.proofs.Terms.{Bool, List, None, Some, [], ap, append-nil, arith, false, inl, inr, length, not, refl, subst, sym, true, ℕ, ◌++◌, ◌+◌, ◌∙◌, ◌∷◌, ◌≡◌, ◌≤◌, ◌⊎◌, eqb-true, true≢false, IfSome, ◌&&◌, ◌==◌, Item, Prefix, Send, sent_to, Entry, LinkEvent, tells_then, HasEnded, IsNext, Refuses, Tells, Told, events_in, Seen, items_of, Log, Ledger, Image, AsksFor, CpuState, standing_of, SessionEnd, passed_in-took, served_same, IsLastRefused, IsWaiting, StandsAt, WasAsked, IsHeard, IsHeeded, IsUnheeded, closing_of, Bounds, Unheeded, events_of, heeded, items_in, received, KeepsReplies, Rules, is_closed_by, is_closing, closes, is_gone, is_open, opens, IsDueBy, Moment, journal, latest, place_at, passed_in, due_by, due_not_gone, IsEvent, events_ended, heeded_without, handled_on, HasHandled, HaveRings, stands_of, SessionState, GivesUpBy, HoldsCheckpoints, IsHandled, keeping_of, AnswersFor, IsAsking, IsBrokenOff, IsEnding, IsLatestDone, IsTold, IsWaitingFor, Since, Story, entries, moment, sends, then_story}
 
 -- behind an event that is refused no connection closes
-pub refused_closes : (bounds : Bounds) (story : Story) (e : LinkEvent) → IsNoEnd e → heeded bounds (events_in (entries (then_story story (entry.Took e ∷ [])))) ≡ heeded bounds (events_in (entries story))
-    → ((conn : ℕ) → closing_of e ≡ Some conn → closes conn (heeded bounds (events_in (entries story))) ≡ false) → (conn : ℕ) → is_closing bounds (moment (then_story story (entry.Took e ∷ []))) conn ≡ true → ⊥
+pub refused_closes : (bounds : Bounds) (story : Story) (e : LinkEvent) → IsNoEnd e → heeded bounds (events_of bounds (entries (then_story story (entry.Took e ∷ [])))) ≡ heeded bounds (events_of bounds (entries story))
+    → ((conn : ℕ) → closing_of e ≡ Some conn → closes conn (heeded bounds (events_of bounds (entries story))) ≡ false) → (conn : ℕ) → is_closing bounds (moment (then_story story (entry.Took e ∷ []))) conn ≡ true → ⊥
 refused_closes bounds story e no_end same first conn closing = by e first no_end (sym whole ∙ closing)
   where
-    whole : is_closing bounds (moment (then_story story (entry.Took e ∷ []))) conn ≡ (is_closed_by (Some (record { before = story.since; event = e })) conn && closes conn (heeded bounds (events_in (entries story))))
+    whole : is_closing bounds (moment (then_story story (entry.Took e ∷ []))) conn ≡ (is_closed_by (Some (record { before = story.since; event = e })) conn && closes conn (heeded bounds (events_of bounds (entries story))))
     whole = (λ i. is_closed_by (latest-took story.since no_end i) conn && closes conn (same i))
 
-    by : (e : LinkEvent) → ((conn : ℕ) → closing_of e ≡ Some conn → closes conn (heeded bounds (events_in (entries story))) ≡ false) → IsNoEnd e
-        → (is_closed_by (Some (record { before = story.since; event = e })) conn && closes conn (heeded bounds (events_in (entries story)))) ≡ true → ⊥
+    by : (e : LinkEvent) → ((conn : ℕ) → closing_of e ≡ Some conn → closes conn (heeded bounds (events_of bounds (entries story))) ≡ false) → IsNoEnd e
+        → (is_closed_by (Some (record { before = story.since; event = e })) conn && closes conn (heeded bounds (events_of bounds (entries story)))) ≡ true → ⊥
     by (event.Closes closed) first no_end h = of (closed == conn) refl h
       where
-        of : (b : Bool) → (closed == conn) ≡ b → (b && closes conn (heeded bounds (events_in (entries story)))) ≡ true → ⊥
-        of true is h = let none : closes conn (heeded bounds (events_in (entries story))) ≡ false = first conn (ap Some (eqb-true closed conn is)) in absurd (true≢false (sym h ∙ none))
+        of : (b : Bool) → (closed == conn) ≡ b → (b && closes conn (heeded bounds (events_of bounds (entries story)))) ≡ true → ⊥
+        of true is h = let none : closes conn (heeded bounds (events_of bounds (entries story))) ≡ false = first conn (ap Some (eqb-true closed conn is)) in absurd (true≢false (sym h ∙ none))
         of false is h = cc
     by (event.Opens opened) first no_end h = cc
     by (event.Piece to bytes) first no_end h = cc
@@ -33,8 +32,8 @@ refused_closes bounds story e no_end same first conn closing = by e first no_end
 
 -- the end of the link changes nothing
 module _ (bounds : Bounds) (story : Story) where
-  ended_events : events_in (entries (then_story story (entry.Took event.Ends ∷ []))) ≡ events_in (entries story)
-  ended_events = ap events_in (sym (more_entries story (entry.Took event.Ends ∷ []))) ∙ events_ended (entries story)
+  ended_events : events_of bounds (entries (then_story story (entry.Took event.Ends ∷ []))) ≡ events_of bounds (entries story)
+  ended_events = ap (events_of bounds) (sym (more_entries story (entry.Took event.Ends ∷ []))) ∙ events_ended bounds (entries story)
 
   ended_gone : (conn : ℕ) → is_gone conn (entries (then_story story (entry.Took event.Ends ∷ []))) ≡ is_gone conn (entries story)
   ended_gone conn = ap (is_gone conn) (sym (more_entries story (entry.Took event.Ends ∷ []))) ∙ gone-took conn (entries story) event.Ends
@@ -146,8 +145,8 @@ module _ {R : Type 0} where
       let es = more_entries story (entry.Took e ∷ []) in
       let none : items_in rules.bounds (entries (then_story story (entry.Took e ∷ []))) ≡ items_in rules.bounds (entries story) = ap (items_in rules.bounds) (sym es) ∙ u.brings_none in
       let waits = waits_still w (entry.Took e ∷ []) all u.brings_none in
-      let heeds : heeded rules.bounds (events_in (entries (then_story story (entry.Took e ∷ [])))) ≡ heeded rules.bounds (events_in (entries story)) =
-      ap (λ (all : List Entry). heeded rules.bounds (events_in all)) (sym es) ∙ heeded_without rules.bounds (entries story) e cause (one_event e no_end) w.hearing.goes.items.all_heeded u.refused in
+      let heeds : heeded rules.bounds (events_of rules.bounds (entries (then_story story (entry.Took e ∷ [])))) ≡ heeded rules.bounds (events_of rules.bounds (entries story)) =
+      ap (λ (all : List Entry). heeded rules.bounds (events_of rules.bounds all)) (sym es) ∙ heeded_without rules.bounds (entries story) e cause (one_event e no_end) w.hearing.goes.items.all_heeded u.refused in
       record {
         story = then_story story (entry.Took e ∷ []);
         walk = None;
@@ -177,7 +176,7 @@ module _ {R : Type 0} where
   ending_ended {rules = rules} {image = image} {began = began} {new = new} w handled all tells heard same no_trial last =
       let story : Story = w.hearing.story in
       let es = more_entries story (entry.Took event.Ends ∷ []) in
-      let none : items_in rules.bounds (entries story ++ entry.Took event.Ends ∷ []) ≡ items_in rules.bounds (entries story) = ap (λ (evs : List LinkEvent). items_of rules.bounds.framing (heeded rules.bounds evs)) (events_ended (entries story)) in
+      let none : items_in rules.bounds (entries story ++ entry.Took event.Ends ∷ []) ≡ items_in rules.bounds (entries story) = ap (λ (evs : List LinkEvent). items_of rules.bounds.framing (heeded rules.bounds evs)) (events_ended rules.bounds (entries story)) in
       record {
         story = then_story story (entry.Took event.Ends ∷ []);
         walk = None;

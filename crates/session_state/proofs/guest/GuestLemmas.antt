@@ -5,7 +5,7 @@ use Rattle.item_log.proofs.Shown.{shown_items}
 use Rattle.session_history.specs.declared.ends.SessionBreak.TheVariants as session_break
 use Rattle.session_history.specs.declared.ends.SessionEnd.TheVariants as session_end
 use Rattle.guest_cpu.specs.declared.event.Event.TheVariants as event
-use Rattle.session_state.proofs.Terms.{List, None, Ok, [], ap, append-nil, arith, drop, inl, inr, length, length-append, map, refl, subst, sym, take, true, ℕ, ◌++◌, ◌+◌, ◌<◌, ◌∙◌, ◌∷◌, ◌≡◌, ◌≤◌, drop-append-le, take-append-le, ◌≢◌, Send, Entry, LinkEvent, grew_nothing, Grew, Phases, Tells, Told, events_in, Seen, Choice, items_of, Log, Ledger, Image, Cause, AsksFor, Path, Served, live_of, standing_of, Standing, GoesOn, IsSilent, RunsWriting, Writes, SessionBreak, SessionEnd, serving_account, Session, EndsBy, HandedLast, StandsAt, Bounds, items_in, received, KeepsItems, KeepsReplies, Rules, gone_on, is_open, IsPassed, Stands, Episode, Noted, OneEpisode, failed_with, steps_later, episode_of, HasHandled, HaveRings, Keeping, stands_of, steps_of, TellsMore, SessionState, AllAnswered, AreAllTables, FailsAtChoices, GivesUpBy, HasNoted, IsNoteFault, RanOn, spent, HoldsCheckpoints, IsAtRequest, IsReadFault, keeping_of, AnswersFor, GoesWith, HasMissed, HasNotedMore, HasPassed, HasPassedDue, HasUnanswered, IsBetween, IsBrokenOff, IsEnding, IsFailing, IsGoing, IsLatestBefore, IsLatestDone, IsTold, IsWaitingFor, Since, Story, entries, moment, unwatched, IsCounted}
+use Rattle.session_state.proofs.Terms.{List, None, Ok, [], ap, append-nil, arith, drop, inl, inr, length, length-append, map, refl, subst, sym, take, true, ℕ, ◌++◌, ◌+◌, ◌<◌, ◌∙◌, ◌∷◌, ◌≡◌, ◌≤◌, drop-append-le, take-append-le, ◌≢◌, Send, Entry, LinkEvent, grew_nothing, Grew, Phases, Tells, Told, Seen, Choice, items_of, Log, Ledger, Image, Cause, AsksFor, Path, Served, live_of, standing_of, Standing, GoesOn, IsSilent, RunsWriting, Writes, SessionBreak, SessionEnd, serving_account, Session, EndsBy, HandedLast, StandsAt, Bounds, events_of, items_in, received, KeepsItems, KeepsReplies, Rules, gone_on, is_open, IsPassed, Stands, Episode, Noted, OneEpisode, failed_with, steps_later, episode_of, HasHandled, HaveRings, Keeping, stands_of, steps_of, TellsMore, SessionState, AllAnswered, AreAllTables, FailsAtChoices, GivesUpBy, HasNoted, IsNoteFault, RanOn, spent, HoldsCheckpoints, IsAtRequest, IsReadFault, keeping_of, AnswersFor, GoesWith, HasMissed, HasNotedMore, HasPassed, HasPassedDue, HasUnanswered, IsBetween, IsBrokenOff, IsEnding, IsFailing, IsGoing, IsLatestBefore, IsLatestDone, IsTold, IsWaitingFor, Since, Story, entries, moment, unwatched, IsCounted}
 use Rattle.session_state.proofs.guest.NoteLemmas.{grew_same}
 use Rattle.session_state.proofs.standing.StoryLemmas.{on_story, told_on, account_of, journal_of_story, moves_none}
 use Rattle.session_state.proofs.recovering.TableLemmas.{told_unwatched, tables_here}
@@ -19,7 +19,7 @@ none_lost = let none : steps_of [] ≡ 0 = refl in omega (arith, none)
 
 -- a log received as many items as its journal has
 pub received_is : {bounds : Bounds} {entries : List Entry} {log : Log} → KeepsItems bounds entries log → logs.received log ≡ received bounds entries
-received_is {bounds = bounds} {entries = entries} {log = log} keeps = (shown_items bounds.framing (events_in entries) log keeps.shows).0 ∙ ap (λ (events : List LinkEvent). length (items_of bounds.framing events)) (sym keeps.all_heeded)
+received_is {bounds = bounds} {entries = entries} {log = log} keeps = (shown_items bounds.framing (events_of bounds entries) log keeps.shows).0 ∙ ap (λ (events : List LinkEvent). length (items_of bounds.framing events)) (sym keeps.all_heeded)
 
 -- what is recorded of a run's answers of the allocator stays recorded where it uses more
 module _ {X : Type 0} where

@@ -2,7 +2,7 @@
 use Rattle.links.specs.declared.journal.LinkEvent.TheVariants as event
 use Rattle.run_history.proofs.Connections.{OpenWithin, within_after}
 use Rattle.guest_cpu.specs.declared.event.Event.TheVariants as step
-use Rattle.session_state.proofs.Terms.{List, None, Ok, Option, Some, [], ap, arith, length, length-append, refl, subst, sym, true, ℕ, ◌++◌, ◌<◌, ◌∙◌, ◌∷◌, ◌≡◌, ◌≤◌, slice_get, Item, Send, LinkEvent, Phases, events_in, Seen, IsOpened, Ledger, with_send, Image, may_send, Path, live_of, live_with_item, received_range, taken_standing, standing_of, Live, Standing, with_range, takes_write, TakesOn, RunsWriting, Writes, Bounds, heeded, items_in, received, IsSendable, KeepsItems, KeepsReplies, Rules, opens, IsDueBy, IsMadeDue, IsPassed, Latest, Moment, journal, latest, place_at, received_before, sent_keeps, SessionState, IsHandled, GoesWith, HasPassed, IsBetween, IsGoing, IsLatestBefore, IsLatestDone, IsWaitingFor, Since, Story, entries, moment, sends, IsCounted}
+use Rattle.session_state.proofs.Terms.{List, None, Ok, Option, Some, [], ap, arith, length, length-append, refl, subst, sym, true, ℕ, ◌++◌, ◌<◌, ◌∙◌, ◌∷◌, ◌≡◌, ◌≤◌, slice_get, Item, Send, LinkEvent, Phases, Seen, IsOpened, Ledger, with_send, Image, may_send, Path, live_of, live_with_item, received_range, taken_standing, standing_of, Live, Standing, with_range, takes_write, TakesOn, RunsWriting, Writes, Bounds, events_of, heeded, items_in, received, IsSendable, KeepsItems, KeepsReplies, Rules, opens, IsDueBy, IsMadeDue, IsPassed, Latest, Moment, journal, latest, place_at, received_before, sent_keeps, SessionState, IsHandled, GoesWith, HasPassed, IsBetween, IsGoing, IsLatestBefore, IsLatestDone, IsWaitingFor, Since, Story, entries, moment, sends, IsCounted}
 use Rattle.session_state.proofs.standing.HeldLemmas.{requests_on, requests_taken, waits_handled}
 use Rattle.session_state.proofs.standing.StoryLemmas.{on_story, moves_sent, moves_took, told_on}
 use Rattle.session_state.proofs.standing.CheckpointLemmas.{HasSameSide, saved_on}
@@ -85,7 +85,7 @@ module _ {R : Type 0} where
   pub takes_going : {rules : Rules} {image : Image} {began : Since} {seen : Seen} {item : Item} {old new : SessionState R} (w : IsWaitingFor rules image began seen old) → HasSameParts old new → new.choices ≡ old.choices → IsCounted new
       → live_of new.cpu ≡ live_with_item old.cpu.base item (live_of old.cpu) → slice_get (items_in rules.bounds (entries w.hearing.story)) w.hearing.story.survivor.now.state.machine.taken ≡ Some item
       → w.hearing.story.survivor.now.state.machine.taken < received rules.bounds (entries w.hearing.story) → received rules.bounds (entries w.hearing.story) ≤ rules.bounds.max_items
-      → (item.kind ≡ 1 → opens item.conn (heeded rules.bounds (events_in (entries w.hearing.story))) ≡ true) → IsHandled old → IsGoing rules image began seen new
+      → (item.kind ≡ 1 → opens item.conn (heeded rules.bounds (events_of rules.bounds (entries w.hearing.story))) ≡ true) → IsHandled old → IsGoing rules image began seen new
   takes_going {rules = rules} {seen = seen} {item = item} {old = old} {new = new} w same chosen counted becomes is_item low few opened handled =
       let story : Story = w.hearing.story in
       let path : Path = story.survivor.now in
@@ -100,10 +100,10 @@ module _ {R : Type 0} where
       let to : Path = t.now in
       let goes : GoesWith rules story old seen.phases = w.hearing.goes in
       let stands : new.cpu.slots.live ≡ standing_of to = live ∙ (ap (taken_standing item) goes.guest ∙ sym t.stands) in
-      let within : OpenWithin (λ conn. opens conn (heeded rules.bounds (events_in (entries story))) ≡ true) story.survivor.now.state.machine.connections = record { each = goes.within } in
-      let after : OpenWithin (λ conn. opens conn (heeded rules.bounds (events_in (entries story))) ≡ true) to.state.machine.connections =
-      subst (OpenWithin (λ conn. opens conn (heeded rules.bounds (events_in (entries story))) ≡ true)) (sym t.connections)
-      (within_after (λ conn. opens conn (heeded rules.bounds (events_in (entries story))) ≡ true) item story.survivor.now.state.machine.connections within opened) in
+      let within : OpenWithin (λ conn. opens conn (heeded rules.bounds (events_of rules.bounds (entries story))) ≡ true) story.survivor.now.state.machine.connections = record { each = goes.within } in
+      let after : OpenWithin (λ conn. opens conn (heeded rules.bounds (events_of rules.bounds (entries story))) ≡ true) to.state.machine.connections =
+      subst (OpenWithin (λ conn. opens conn (heeded rules.bounds (events_of rules.bounds (entries story))) ≡ true)) (sym t.connections)
+      (within_after (λ conn. opens conn (heeded rules.bounds (events_of rules.bounds (entries story))) ≡ true) item story.survivor.now.state.machine.connections within opened) in
       record {
         story = on_story story to;
         told = told_on w.hearing.told w.due w.hearing.passed.done t.served (moves_took path to t.taken t.silent.sends) (subst (λ n. n ≤ received rules.bounds (entries story)) (sym t.taken) (omega (arith, low)));

@@ -3,7 +3,7 @@ use Rattle.item_log.specs.Log as logs
 use Rattle.link_gate.proofs.ItemLemmas.{item_fits, item_is, opened_items}
 use Rattle.recovery.proofs.Few.{few_items}
 use Rattle.session_state.proofs.Lemmas.{received_is, takes_going}
-use Rattle.session_state.proofs.Terms.{None, Some, ap, arith, length, refl, subst, sym, ◌<◌, ◌^◌, ◌∙◌, ◌≡◌, ◌≤◌, slice_get, Item, events_in, Seen, IsItemOf, Image, Wants, does, CpuState, live_of, with_live, live_with_item, Standing, asks_wants, heeded, items_in, received, Rules, SessionState, IsHandled, IsGoing, IsWaitingFor, Since, entries}
+use Rattle.session_state.proofs.Terms.{None, Some, ap, arith, length, refl, subst, sym, ◌<◌, ◌^◌, ◌∙◌, ◌≡◌, ◌≤◌, slice_get, Item, Seen, IsItemOf, Image, Wants, does, CpuState, live_of, with_live, live_with_item, Standing, asks_wants, events_of, heeded, items_in, received, Rules, SessionState, IsHandled, IsGoing, IsWaitingFor, Since, entries}
 
 module _ {R : Type 0} where
   -- its instruction is a recv whose buffer may be written
@@ -17,7 +17,7 @@ module _ {R : Type 0} where
   pub waits_short : {rules : Rules} {image : Image} {began : Since} {seen : Seen} {session : SessionState R} {item : Item} → IsWaitingFor rules image began seen session → IsItemOf session.log session.taken item → length item.bytes < 2 ^ 32
   waits_short {rules = rules} {session = session} {item = item} w is =
       let h = w.hearing in
-      item_fits rules.bounds.framing (heeded rules.bounds (events_in (entries h.story))) session.taken item (item_is rules.bounds (entries h.story) session.log session.taken item h.goes.items is)
+      item_fits rules.bounds.framing (heeded rules.bounds (events_of rules.bounds (entries h.story))) session.taken item (item_is rules.bounds (entries h.story) session.log session.taken item h.goes.items is)
 
   -- it takes the item, and its counts are those of the guest
   pub taken_going : {rules : Rules} {image : Image} {began : Since} {seen : Seen} {item : Item} {old inside after : SessionState R} {cpu : CpuState R} → IsWaitingFor rules image began seen old → IsHandled old → inside ≡ old → IsItemOf inside.log inside.taken item

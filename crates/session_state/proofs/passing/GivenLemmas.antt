@@ -1,6 +1,6 @@
 -- What stays of a story behind pieces that were given.
 use Rattle.links.specs.declared.journal.Entry.TheVariants as entry
-use Rattle.session_state.proofs.Terms.{Bool, List, [], ap, append-nil, append_assoc, false, refl, subst, sym, ℕ, ◌++◌, ◌∙◌, ◌∷◌, ◌≡◌, Send, Entry, events_in, Log, events_in-given, AreGiven, then_entries, Bounds, heeded, KeepsItems, Rules, entries_of, then_entry, closes, is_gone, is_open, IsDueBy, Moment, journal, latest, place_at, closes-gave, due_by, due_not_gone, is_closing-gave, is_open-same, journal-then, latest-gave, not_gone, passed_then, IsCloseDone, IsLatestDone, Story, entries, then_story}
+use Rattle.session_state.proofs.Terms.{Bool, List, [], ap, append-nil, append_assoc, false, refl, subst, sym, ℕ, ◌++◌, ◌∙◌, ◌∷◌, ◌≡◌, Send, Entry, LinkEvent, events_in, Log, events_in-given, AreGiven, then_entries, Bounds, events_of, heeded, KeepsItems, Rules, entries_of, then_entry, closes, is_gone, is_open, IsDueBy, Moment, journal, latest, place_at, closes-gave, due_by, due_not_gone, is_closing-gave, is_open-same, journal-then, latest-gave, not_gone, passed_then, IsCloseDone, IsLatestDone, Story, entries, then_story}
 
 -- what the latest event makes owed behind a piece, it made owed before it
 due_before : (bounds : Bounds) (at : Moment) (conn : ℕ) (bytes : List ℕ) (gone : Bool) (to taken : ℕ) → IsDueBy bounds (place_at (then_entry at (entry.Gave conn bytes gone))) to taken (latest (then_entry at (entry.Gave conn bytes gone)).since)
@@ -11,7 +11,7 @@ due_before bounds at conn bytes gone to taken due =
     let here : is_gone to (journal at ++ e ∷ []) ≡ false = sym (ap (is_gone to) same) ∙ (due_not_gone bounds (then_entry at e) to taken (latest (then_entry at e).since) due) in
     subst (IsDueBy bounds (place_at at) to taken) (latest-gave at.since conn bytes gone)
     (due_by bounds (then_entry at e) at to taken (latest (then_entry at e).since) refl (sym (ap (λ (es : List Entry). is_open bounds es to) same ∙ is_open-same bounds (journal at) conn bytes gone to here))
-    (sym (ap (λ (es : List Entry). closes to (heeded bounds (events_in es))) same ∙ closes-gave bounds (journal at) conn bytes gone to)) (not_gone (journal at) conn bytes gone to here) due)
+    (sym (ap (λ (es : List Entry). closes to (heeded bounds (events_of bounds es))) same ∙ closes-gave bounds (journal at) conn bytes gone to)) (not_gone (journal at) conn bytes gone to here) due)
 
 -- behind one piece
 done_piece : (rules : Rules) {all : List Send} (at : Moment) (conn : ℕ) (bytes : List ℕ) (gone : Bool) → IsLatestDone rules at all → IsLatestDone rules (then_entry at (entry.Gave conn bytes gone)) all
@@ -48,7 +48,7 @@ latest-given since (entry.Gave conn bytes gone ∷ more) given =
 latest-given since (entry.Took event ∷ more) given = absurd given
 
 -- items and phases are told by the events
-pub items_by : {bounds : Bounds} {before after : List Entry} {log : Log} → events_in after ≡ events_in before → KeepsItems bounds before log → KeepsItems bounds after log
+pub items_by : {bounds : Bounds} {before after : List Entry} {log : Log} → events_of bounds after ≡ events_of bounds before → KeepsItems bounds before log → KeepsItems bounds after log
 items_by {bounds = bounds} {log = log} same keeps = record {
   all_heeded = ap (heeded bounds) same ∙ (keeps.all_heeded ∙ sym same);
   shows = subst (λ events. Rattle.item_log.specs.Log.Shows bounds.framing events log) (sym same) keeps.shows;
@@ -56,5 +56,6 @@ items_by {bounds = bounds} {log = log} same keeps = record {
 }
 
 -- the events of a story with pieces behind it
-pub events_in-story : (story : Story) (more : List Entry) → AreGiven more → events_in (entries (then_story story more)) ≡ events_in (entries story)
-events_in-story story more given = ap events_in (sym (append_assoc (entries_of story.earlier) story.since more)) ∙ events_in-given (entries story) more given
+pub events_of-story : (bounds : Bounds) (story : Story) (more : List Entry) → AreGiven more → events_of bounds (entries (then_story story more)) ≡ events_of bounds (entries story)
+events_of-story bounds story more given =
+    ap (events_of bounds) (sym (append_assoc (entries_of story.earlier) story.since more)) ∙ ap (λ (es : List LinkEvent). bounds.before.events ++ es) (events_in-given (entries story) more given)

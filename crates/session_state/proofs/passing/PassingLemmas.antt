@@ -4,7 +4,7 @@ use Rattle.links.specs.declared.journal.Entry.TheVariants as entry
 use Rattle.item_log.specs.Log as logs
 use Rattle.reply_ledger.proofs.ConnectionLemmas.{is_open-marked, closed-falls}
 use Rattle.link_gate.specs.declared.pass_fault.PassFault.TheVariants as pass_fault
-use Rattle.session_state.proofs.Lemmas.{notes_end, close_done, fronts_of, made_by, closed_given, done_given, events_in-story, latest-given, are_given, end_of, ended_account, ended_telling, served_broken, served_end, note_ends, note_handed}
+use Rattle.session_state.proofs.Lemmas.{notes_end, close_done, fronts_of, made_by, closed_given, done_given, events_of-story, latest-given, are_given, end_of, ended_account, ended_telling, served_broken, served_end, note_ends, note_handed}
 use Rattle.session_state.proofs.Terms.{Bool, Err, List, None, Ok, Result, Some, [], ap, append-nil, append_assoc, arith, false, inl, inr, length, refl, subst, sym, true, ℕ, ◌++◌, ◌+◌, ◌<◌, ◌∙◌, ◌∷◌, ◌≡◌, ◌≤◌, and_parts, true≢false, IsErrOf, rose_later, Rose, Send, Entry, LinkEvent, Grew, Tells, Told, Seen, but_given, items_of, Ledger, closed_connection, with_change, next_part, rest_part, Image, SessionBreak, SessionEnd, Stop, EndsBy, HandedLast, AreDuePieces, AreGiven, IsClosing, IsReady, Passes, PassesRest, then_entries, Bounds, heeded, received, KeepsReplies, Chapter, Rules, entries_of, is_closed_by, is_closing, closes, is_gone, is_open, IsDueBy, IsOwed, IsPassed, Moment, OwesNothing, journal, latest, place_at, ending_at, moment_of, PassFault, due_by, due_not_gone, open_not_closed, owed_open, closed_keeps, fronts_stay, nothing_waits, CanGive, Noted, SessionState, FailsAtChoices, HasWatched, IsNoteFault, Telling, keeping_of, HasPassed, HasPassedDue, IsCloseDone, IsEnding, IsTold, Since, Story, entries, moment, sends, then_story, CanPass, IsAnswerTo, IsFinishing, LinkPasses, PassesDue, PassesStory, StandsClosing, outcome_of}
 use Rattle.session_state.proofs.passing.PassLemmas.{rest_ok}
 
@@ -86,14 +86,14 @@ given_join (entry.Took event ∷ xs) ys first second = absurd first
 
 -- they bring no item
 pub received_given : (bounds : Bounds) (story : Story) (more : List Entry) → AreGiven more → received bounds (entries (then_story story more)) ≡ received bounds (entries story)
-received_given bounds story more given = ap (λ (es : List LinkEvent). length (items_of bounds.framing (heeded bounds es))) (events_in-story story more given)
+received_given bounds story more given = ap (λ (es : List LinkEvent). length (items_of bounds.framing (heeded bounds es))) (events_of-story bounds story more given)
 
 -- behind the pieces of a close the ledger may mark its connection closed
 pub rest_keeps : {rules : Rules} (story : Story) (more : List Entry) {conn : ℕ} {before ledger : Ledger} → IsClosing rules (sends story) (moment story) conn before → AreGiven more → KeepsReplies rules.bounds (entries (then_story story more)) (Some conn) (sends story) ledger
     → KeepsReplies rules.bounds (entries (then_story story more)) None (sends story) (with_change ledger conn closed_connection)
 rest_keeps {rules = rules} story more {conn = conn} {ledger = ledger} closing given replies =
     closed_keeps rules.bounds (entries (then_story story more)) (sends story) ledger conn replies
-    (subst (λ (es : List LinkEvent). closes conn (heeded rules.bounds es) ≡ true) (sym (events_in-story story more given)) closing.closed)
+    (subst (λ (es : List LinkEvent). closes conn (heeded rules.bounds es) ≡ true) (sym (events_of-story rules.bounds story more given)) closing.closed)
 
 -- and what the close makes owed was passed
 pub rest_passed : {rules : Rules} {image : Image} {began : Since} {now : Told} {story : Story} (more : List Entry) {conn : ℕ} {before ledger : Ledger} → IsClosing rules (sends story) (moment story) conn before → ledger.trial ≡ None → AreGiven more

@@ -7,7 +7,7 @@ use Rattle.session_history.specs.declared.ends.SessionEnd.TheVariants as session
 use Rattle.trials.specs.EpisodeLaws.{GoesOnAs}
 use Rattle.trials.proofs.Recovered.{recovery_adopts}
 use Rattle.recovery.specs.Walking.{HasSameBytes, HasBegun}
-use Rattle.session_state.proofs.Terms.{List, None, Option, Some, [], ap, append-nil, arith, drop, inl, inr, length, map, refl, subst, suc, sym, take, zero, ℕ, ◌++◌, ◌+◌, ◌-◌, ◌<◌, ◌^◌, ◌∙◌, ◌∷◌, ◌≡◌, ◌≤◌, ◌⊎◌, map-append, none-some, option_map, sum, Entry, grew_more, Grew, Tells, Told, events_in, Seen, Choice, Env, Checkpoints, Ledger, Image, Cause, Fails, Wants, AsksFor, FailsBy, Limits, Override, Path, CpuState, Standing, SessionBreak, served_same, entries_of-then, serving_account, serving_adopts, heeded, items_in, received, KeepsItems, KeepsPhases, KeepsReplies, LeavesNothing, Rules, Survivor, entries_of, opens, first_survivor, Episode, Try, Noted, noted, asks_under_all, steps_later, recovered_then, AreChained, AreRecovered, IsRecovery, Recovery, adopted_by, episode_of, Trial, survivor_in, table, Recovered, Adopted, handled_adopts, has_ring, stands_up_to, ring_fails, HasHandled, Keeping, keeping_by, stands_of, HasAdoptedRun, HasRecovery, HasToRecover, KeepsSlots, LeavesRun, recovery_of, AreBehind, IsInForce, KeepsRing, Failure, steps_of, TellsMore, TellsTable, SessionState, AllAnswered, AreTables, HasGivenUp, IsNoteFault, TriedOn, Walk, spent, walk_behind, HoldsCheckpoints, keeping_of, AnswersFor, HasMissed, HasNotedMore, HasUnanswered, IsBrokenOff, IsEnding, IsFailing, IsGoing, IsTold, Since, Story, entries, sends, unwatched, Adopting, AdoptsTo, end_of}
+use Rattle.session_state.proofs.Terms.{List, None, Option, Some, [], ap, append-nil, arith, drop, inl, inr, length, map, refl, subst, suc, sym, take, zero, ℕ, ◌++◌, ◌+◌, ◌-◌, ◌<◌, ◌^◌, ◌∙◌, ◌∷◌, ◌≡◌, ◌≤◌, ◌⊎◌, map-append, none-some, option_map, sum, Entry, grew_more, Grew, Tells, Told, events_in, Seen, Choice, Env, Checkpoints, Ledger, Image, Cause, Fails, Wants, AsksFor, FailsBy, Limits, Override, Path, CpuState, Standing, SessionBreak, served_same, entries_of-then, serving_account, serving_adopts, events_of, heeded, items_in, received, KeepsItems, KeepsPhases, KeepsReplies, LeavesNothing, Rules, Survivor, entries_of, opens, first_survivor, Episode, Try, Noted, noted, asks_under_all, steps_later, recovered_then, AreChained, AreRecovered, IsRecovery, Recovery, adopted_by, episode_of, Trial, survivor_in, table, Recovered, Adopted, handled_adopts, has_ring, stands_up_to, ring_fails, HasHandled, Keeping, keeping_by, stands_of, HasAdoptedRun, HasRecovery, HasToRecover, KeepsSlots, LeavesRun, recovery_of, AreBehind, IsInForce, KeepsRing, Failure, steps_of, TellsMore, TellsTable, SessionState, AllAnswered, AreTables, HasGivenUp, IsNoteFault, TriedOn, Walk, spent, walk_behind, HoldsCheckpoints, keeping_of, AnswersFor, HasMissed, HasNotedMore, HasUnanswered, IsBrokenOff, IsEnding, IsFailing, IsGoing, IsTold, Since, Story, entries, sends, unwatched, Adopting, AdoptsTo, end_of}
 use Rattle.session_state.proofs.standing.HeldLemmas.{held_by, held_of, rings_held, rings_of, note_at_none}
 use Rattle.session_state.proofs.recovering.TableLemmas.{TellsOne, told_unwatched, tables_here, tables_memory, tables_given_up, tables_then}
 use Rattle.session_state.proofs.guest.GuestLemmas.{none_lost, none_noted, answers_as, notes_here, notes_missed, received_is, broken_counting, broken_noting}
@@ -48,8 +48,8 @@ told_adopted {rules = rules} {image = image} {began = began} {now = now} {story 
     let early : trial.path.state.machine.taken ≤ story.survivor.now.state.machine.taken = subst (λ (s : Survivor). trial.path.state.machine.taken ≤ s.now.state.machine.taken) is g.early in
     let more : spent (story.recoveries ++ recovery ∷ []) ≡ spent story.recoveries + ((story.survivor.now.steps - story.survivor.begun.steps) + steps_of recovery.trials) =
     spent_more story.recoveries recovery ∙ ap (λ (s : Survivor). spent story.recoveries + ((s.now.steps - s.begun.steps) + steps_of recovery.trials)) is in
-    let first = recovered_then rules image [] (first_survivor image) story.earlier story.recoveries recovery story.since trial
-    (subst (λ (s : Survivor). AreRecovered rules image [] (first_survivor image) story.earlier story.recoveries s) (sym is) told.recovered) was found in
+    let first = recovered_then rules image [] (first_survivor rules image) story.earlier story.recoveries recovery story.since trial
+    (subst (λ (s : Survivor). AreRecovered rules image [] (first_survivor rules image) story.earlier story.recoveries s) (sym is) told.recovered) was found in
     record {
       serving =
           serving_adopts rules image story.earlier story.survivor story.since (adopted_by recovery trial).plan trial.path told.serving leaves g.ran (omega (arith, early, told.serving.carries.taken)) g.covers g.feasible;
@@ -58,7 +58,7 @@ told_adopted {rules = rules} {image = image} {began = began} {now = now} {story 
       counted = omega (arith, more, steps_later rules.limits (items_in rules.bounds (entries story)) story.survivor.plan story.survivor.begun story.survivor.now told.way, told.counted, counts);
       recovered =
           subst
-          (λ (s : Survivor). AreRecovered rules image [] (first_survivor image) (story.earlier ++ record { survivor = s; entries = story.since } ∷ []) (story.recoveries ++ recovery ∷ []) (adopted_by recovery trial)) is first;
+          (λ (s : Survivor). AreRecovered rules image [] (first_survivor rules image) (story.earlier ++ record { survivor = s; entries = story.since } ∷ []) (story.recoveries ++ recovery ∷ []) (adopted_by recovery trial)) is first;
       episodes =
           subst (Grew began.noted_before.episodes noted.episodes) (sym (map-append episode_of story.recoveries (recovery ∷ [])))
           (grew_more began.noted_before.episodes began.noted.episodes noted.episodes (map episode_of story.recoveries) (episode_of recovery ∷ []) told.episodes grew);
@@ -262,10 +262,10 @@ module _ {R : Type 0} where
           guest = run.stands;
           bounded = run.goes.bounded lives;
           few = omega (arith, taken, few);
-          within = λ conn may. ap (λ es. opens conn (heeded rules.bounds (events_in es))) same ∙ run.goes.within conn may;
+          within = λ conn may. ap (λ es. opens conn (heeded rules.bounds (events_of rules.bounds es))) same ∙ run.goes.within conn may;
           items = subst (λ es. KeepsItems rules.bounds es old.log) (sym same) g.goes.items;
-          events = g.goes.events ∙ ap (λ es. length (events_in es)) (sym same);
-          phases_are = subst (λ (es : List Entry). KeepsPhases es seen.phases) (sym same) g.goes.phases_are;
+          events = g.goes.events ∙ ap (λ es. length (events_of rules.bounds es)) (sym same);
+          phases_are = subst (λ (es : List Entry). KeepsPhases rules.bounds es seen.phases) (sym same) g.goes.phases_are;
         };
         saved = record {
           paths = drop adopted.index g.saved.paths;

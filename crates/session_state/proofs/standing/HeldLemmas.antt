@@ -3,7 +3,7 @@ use Rattle.session_history.specs.declared.ends.SessionBreak.TheVariants as sessi
 use Rattle.session_history.specs.declared.ends.SessionEnd.TheVariants as session_end
 use Rattle.circular_buffer.proofs.Places.{slice_get-take}
 use Rattle.session_state.proofs.Terms.{List, None, Option, Some, [], ap, append-nil, arith, false, inl, inr, length, refl, subst, sym, ℕ, ◌++◌, ◌+◌, ◌-◌, ◌∙◌, ◌≡◌, ◌≤◌, IfSome, option_map, slice_get, Item, Entry, LinkEvent, Seen, Checkpoints, from_newest, Saved, count_true, items_of, Log, Ledger, Image, AsksFor, Path, Served, CpuState, Standing, SessionBreak, SessionEnd, served_same, AreGiven, heeded, items_in, Chapter, Rules, Survivor, gone_on, asks_under_all, past_request, AreChained, Recovery, Adopted, chained_with, handled_near, handled_on, handled_save, near_handles, HasHandled, HaveRings, Keeping, Stand, handle, is_far, stands_of, KeepsSlots, KeepsRing, SessionState, IsNoteFault, HandlesRequests, HoldsCheckpoints, IsHandled, IsReadFault, IsTrimmed, KeepsOldest, UnlessGaveUp, keeping_of, IsWaitingFor, KeepsCheckpoints, Since, Story, entries, then_story, HasSameGuest}
-use Rattle.session_state.proofs.passing.GivenLemmas.{events_in-story}
+use Rattle.session_state.proofs.passing.GivenLemmas.{events_of-story}
 
 -- what holds anyhow, holds unless a session gave up
 pub unless_gave_up : (end : SessionEnd) (P : Type 0) → P → UnlessGaveUp end P
@@ -172,7 +172,7 @@ module _ {R : Type 0} where
       → HoldsCheckpoints rules image story.earlier (entries story) story.recoveries story.survivor session → HoldsCheckpoints rules image story.earlier (entries (then_story story more)) story.recoveries story.survivor session
   held_given {rules = rules} story more given h =
       held_as
-      (ap (λ (es : List LinkEvent). items_of rules.bounds.framing (heeded rules.bounds es)) (events_in-story story more given)) h
+      (ap (λ (es : List LinkEvent). items_of rules.bounds.framing (heeded rules.bounds es)) (events_of-story rules.bounds story more given)) h
 
   -- where the oldest checkpoint stands and nothing more was given up, all is given up still
   pub trimmed_still : {old new : SessionState R} → KeepsOldest old new → IsTrimmed old → IsTrimmed new

@@ -47,7 +47,7 @@ told_on {rules = rules} {image = image} {story = story} {to = to} told due done 
       (prompt_one rules (items_in rules.bounds (entries story)) story.survivor to (place_of story.earlier story.since false) on few (owes_nothing rules story due done)) taken;
   way = served_on rules.limits (items_in rules.bounds (entries story)) story.survivor.plan story.survivor.begun story.survivor.now to told.way on;
   tells = told.tells;
-  recovered = recovered_on rules image [] (first_survivor image) story.earlier story.recoveries story.survivor to told.recovered;
+  recovered = recovered_on rules image [] (first_survivor rules image) story.earlier story.recoveries story.survivor to told.recovered;
   counted = told.counted;
   episodes = told.episodes;
   tables = told.tables;

@@ -1,4 +1,4 @@
-use Rattle.link_gate.proofs.Terms.{rules, sym, ◌∙◌, events_in}
+use Rattle.link_gate.proofs.Terms.{rules, sym, ◌∙◌, events_of}
 use Rattle.link_gate.proofs.Ordering.{in_order_shown}
 use Rattle.link_gate.proofs.Answering.{stood_of, event_is_new, hears_taken}
 use Rattle.link_gate.proofs.Connecting.{stays_of, fault_stays, stood_below, counted_most, same_replies, open_phase, connected_behind}
@@ -8,7 +8,7 @@ use Rattle.link_gate.proofs.hearing.hear.Goals as goal
 pub take_or_end-requires-clause-in_order : goal.take_or_end-requires-clause-in_order
 take_or_end-requires-clause-in_order g c =
     let k = c.requires in
-    in_order_shown k.bounds.framing (events_in k.entries) c.args.log.now (g.K.Link.seen c.args.link.now).phases c.in-Ok.event k.items.shows k.is_at c.in-Ok.ensures.shows.order.0
+    in_order_shown k.bounds.framing (events_of k.bounds k.entries) c.args.log.now (g.K.Link.seen c.args.link.now).phases c.in-Ok.event k.items.shows k.is_at c.in-Ok.ensures.shows.order.0
 
 pub take_or_end-requires-clause-unknown : goal.take_or_end-requires-clause-unknown
 take_or_end-requires-clause-unknown g c =

@@ -1,5 +1,5 @@
 use Rattle.session_history.specs.Answering.{HasAnswerCause}
-use Rattle.over_trunk.proofs.Terms.{rules, subst, sym, ◌+◌, ◌-◌, ◌∙◌, told_nothing, intake_of, output_of, seen_of, Image, Answer, keeping_for, outcome_of, rules_by, IsBegun, WatchesTrunk, trunk_counts}
+use Rattle.over_trunk.proofs.Terms.{refl, rules, subst, sym, ◌+◌, ◌-◌, ◌∙◌, told_nothing, intake_of, output_of, seen_of, Image, Answer, keeping_for, outcome_of, rules_by, IsBegun, WatchesTrunk, trunk_counts}
 use Rattle.over_trunk.proofs.ServeLemmas.{watches, watches_at, left_recorded}
 use Rattle.over_trunk.proofs.serving.serve_trunk.Goals as goal
 
@@ -15,6 +15,7 @@ returns-clause-served g c =
     watches (rules_by g.R.AccessRule.rule c.args.session.now) (keeping_for c.args.session.now.options) image {old = intake_of (λ s. g.S.Source.told s.now) c.make-link.result} {new = intake_of (λ s. g.S.Source.told s.now) c.serve_watched_told.new.link}
     {out = output_of (λ s. g.K.Sink.told s.now) c.make-link.result} {later = output_of (λ s. g.K.Sink.told s.now) c.serve_watched_told.new.link}
     (seen_of (λ s. g.S.Source.told s.now) (λ s. g.S.Source.faults s.now) (λ s. g.K.Sink.told s.now) (λ s. g.K.Sink.faults s.now) c.make-link.result) (seen_of (λ s. g.S.Source.told s.now) (λ s. g.S.Source.faults s.now) (λ s. g.K.Sink.told s.now) (λ s. g.K.Sink.faults s.now) c.serve_watched_told.new.link)
+    refl
     (record {
       phases = made.shows.phases;
       took = made.fresh.took;

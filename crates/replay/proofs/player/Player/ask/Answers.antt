@@ -1,4 +1,4 @@
-use Rattle.replay.proofs.Terms.{ap, subst, sym, ℕ, ◌≡◌, Err, IsItemOf, Wants, CpuState, Marks, Live, HasFound, IsInputEnd, WouldDo}
+use Rattle.replay.proofs.Terms.{ap, subst, sym, ℕ, Err, IsItemOf, Wants, Marks, CpuState, Live, HasFound, IsInputEnd, WouldDo}
 use Rattle.replay.proofs.DifferLemmas.{differs_weaker, input_found}
 use Rattle.replay.proofs.TakeLemmas.{item_short, takes_item}
 use Rattle.replay.proofs.player.Player.ask.Goals as goal

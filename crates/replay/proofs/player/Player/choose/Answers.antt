@@ -1,5 +1,5 @@
 use Rattle.run_history.specs.declared.answer.Answer.TheVariants.{Memory, Mismatch}
-use Rattle.replay.proofs.Terms.{List, None, Option, Some, ap, arith, subst, sym, vec_len, ℕ, ◌<◌, ◌∙◌, ◌≡◌, Err, slice_get, Choice, Answer, Marks, CpuState, chosen_standing, Live, Standing, Line, DiffersBy, HasFound, IsUnusable, IsBetween, IsWholeEnd, stage_of}
+use Rattle.replay.proofs.Terms.{List, None, Option, Some, ap, arith, subst, sym, vec_len, ℕ, ◌<◌, ◌∙◌, ◌≡◌, Err, slice_get, Choice, Answer, Marks, CpuState, chosen_standing, Live, Standing, Line, IsUnusable, DiffersBy, HasFound, IsBetween, IsWholeEnd, stage_of}
 use Rattle.replay.specs.declared.difference.Difference.TheVariants as difference
 use Rattle.replay.proofs.DifferLemmas.{unusable_differs}
 use Rattle.replay.proofs.ChooseLemmas.{dropped, no_choice, no_room, with_choice, unusable}

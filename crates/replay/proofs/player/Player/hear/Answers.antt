@@ -1,4 +1,4 @@
-use Rattle.replay.proofs.Terms.{rules, subst, sym, ◌∙◌, Err, events_in, Answer, in_order_shown, DiffersBy, IsInputEnd, LeavesLink, IsWholeEnd, stage_of}
+use Rattle.replay.proofs.Terms.{rules, subst, sym, ◌∙◌, Err, events_in, Answer, in_order_shown, LeavesLink, DiffersBy, IsInputEnd, IsWholeEnd, stage_of}
 use Rattle.replay.proofs.HearLemmas.{heeds_event, takes_none}
 use Rattle.replay.proofs.DifferLemmas.{fault_never}
 use Rattle.replay.proofs.LeavingLemmas.{heeds_none, leaves_both, leaves_untaken, taken_known}

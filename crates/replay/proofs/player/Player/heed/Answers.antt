@@ -1,6 +1,5 @@
-use Rattle.run_history.specs.declared.answer.Answer.{Answer}
+use Rattle.replay.proofs.Terms.{Some, refl, subst, sym, Err, Answer, DiffersBy, IsInputEnd}
 use Rattle.replay.specs.declared.difference.Difference.TheVariants as difference
-use Rattle.replay.proofs.Terms.{Some, refl, subst, sym, Err, DiffersBy, IsInputEnd}
 use Rattle.replay.proofs.DifferLemmas.{differs_never}
 use Rattle.replay.proofs.player.Player.heed.Goals as goal
 

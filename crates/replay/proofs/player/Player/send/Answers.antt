@@ -1,6 +1,6 @@
 use Rattle.links.specs.declared.journal.Given.{Given}
 use Rattle.links.specs.declared.journal.Given.TheVariants.{All, Gone}
-use Rattle.replay.proofs.Terms.{Bool, List, ap, subst, sym, true, ℕ, ◌∙◌, Err, Ok, slice_set, Send, Gives, Seen, Answer, DiffersBy, Never, IsLastSend, IsBetween, IsEnd, has, stage_of}
+use Rattle.replay.proofs.Terms.{Bool, List, ap, subst, sym, true, ℕ, ◌∙◌, Err, Ok, slice_set, Send, Gives, Seen, Answer, IsLastSend, DiffersBy, Never, IsBetween, IsEnd, has, stage_of}
 use Rattle.replay.proofs.DifferLemmas.{fault_never}
 use Rattle.replay.proofs.GivingLemmas.{sends_none, sends_whole, sends_cut, sends_broken}
 use Rattle.replay.proofs.player.Player.send.Goals as goal

@@ -1,7 +1,6 @@
 use Rattle.guest_cpu.specs.declared.event.Question.TheVariants as question
-use Rattle.replay.proofs.Terms.{Option, Some, ap, arith, subst, sym, ◌+◌, ◌<◌, ◌∙◌, ◌≡◌, Err, Answer, CpuState, live_of, Difference, DiffersBy, HasFound, IsLastSend, IsWholeEnd, stage_of}
+use Rattle.replay.proofs.Terms.{Option, Some, ap, arith, subst, sym, ◌+◌, ◌<◌, ◌∙◌, ◌≡◌, Err, Answer, CpuState, live_of, Difference, IsLastSend, DiffersBy, HasFound, IsWholeEnd, stage_of, judged}
 use Rattle.replay.specs.declared.difference.Difference.TheVariants as difference
-use Rattle.replay.specs.Judging.{judged}
 use Rattle.replay.proofs.DifferLemmas.{differs_never, ended_differs, judge_differs, left_differs}
 use Rattle.replay.proofs.RunLemmas.{same_sends, ComesTo, comes_by}
 use Rattle.replay.proofs.QuestionLemmas.{reached_end, exits_end, failed_end, memory_end, comes_at_end, few_used, asks_waiting, wants_wanting, emits_sending, comes_to, rises_behind, ok_always, whole_end, whole_goes}

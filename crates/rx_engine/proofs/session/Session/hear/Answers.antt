@@ -38,7 +38,7 @@ returns-in-Ok-Items-clause-counts g c =
     let limit = ap (λ (s : SessionState _). s.options.max_events) (sym c.self.view_is) in
     let h = c.in-Ok-Items.ensures.hears the_rules.bounds (entries w.hearing.story) (sends w.hearing.story) limit w.hearing.goes.events w.hearing.goes.items w.hearing.passed.replies w.hearing.goes.phases_are in
     let e = items_heard {was = g.K.Link.seen c.args.link.now} {seen = g.K.Link.seen c.hear.new.link} _ h c.in-Ok-Items.field-0-is in
-    record { most = search rules; later = if_ok _ c.pass_due.result (one_counted (entries w.hearing.story) e.0 _ _ (quiet_event e.0 e.1) (ap (λ (s : SessionState _). s.events) (sym c.self.view_is) ∙ w.hearing.goes.events) (ap (λ (s : SessionState _). s.events) c.pass_due.ensures.keeps.only.same ∙ e.2.counted)) }
+    record { most = search rules; later = if_ok _ c.pass_due.result (one_counted the_rules.bounds (entries w.hearing.story) e.0 _ _ (quiet_event e.0 e.1) (ap (λ (s : SessionState _). s.events) (sym c.self.view_is) ∙ w.hearing.goes.events) (ap (λ (s : SessionState _). s.events) c.pass_due.ensures.keeps.only.same ∙ e.2.counted)) }
 
 pub close-requires : goal.close-requires
 close-requires g c =
@@ -86,7 +86,7 @@ returns-in-Ok-Closes-clause-counts g c =
     let limit = ap (λ (s : SessionState _). s.options.max_events) (sym c.self.view_is) in
     let h = c.in-Ok-Closes.ensures.hears the_rules.bounds (entries w.hearing.story) (sends w.hearing.story) limit w.hearing.goes.events w.hearing.goes.items w.hearing.passed.replies w.hearing.goes.phases_are in
     let e = close_heard {was = g.K.Link.seen c.args.link.now} {seen = g.K.Link.seen c.hear.new.link} _ h c.in-Ok-Closes.field-0-is in
-    record { most = search rules; later = if_ok _ c.close.result (one_counted (entries w.hearing.story) (event.Closes c.in-Ok-Closes.conn) _ _ refl (ap (λ (s : SessionState _). s.events) (sym c.self.view_is) ∙ w.hearing.goes.events) (ap (λ (s : SessionState _). s.events) c.close.ensures.keeps.only.same ∙ e.counted)) }
+    record { most = search rules; later = if_ok _ c.close.result (one_counted the_rules.bounds (entries w.hearing.story) (event.Closes c.in-Ok-Closes.conn) _ _ refl (ap (λ (s : SessionState _). s.events) (sym c.self.view_is) ∙ w.hearing.goes.events) (ap (λ (s : SessionState _). s.events) c.close.ensures.keeps.only.same ∙ e.counted)) }
 
 pub pass-requires : goal.pass-requires
 pass-requires g c =
@@ -124,7 +124,7 @@ returns-in-Ok-Settles-clause-counts g c =
     let limit = ap (λ (s : SessionState _). s.options.max_events) (sym c.self.view_is) in
     let h = c.in-Ok-Settles.ensures.hears the_rules.bounds (entries w.hearing.story) (sends w.hearing.story) limit w.hearing.goes.events w.hearing.goes.items w.hearing.passed.replies w.hearing.goes.phases_are in
     let e = settle_heard {was = g.K.Link.seen c.args.link.now} {seen = g.K.Link.seen c.hear.new.link} _ h c.in-Ok-Settles.field-0-is in
-    record { most = search rules; later = if_ok _ c.pass.result (one_counted (entries w.hearing.story) event.Settles _ _ refl (ap (λ (s : SessionState _). s.events) (sym c.self.view_is) ∙ w.hearing.goes.events) (ap (λ (s : SessionState _). s.events) c.pass.ensures.keeps.only.same ∙ e.counted)) }
+    record { most = search rules; later = if_ok _ c.pass.result (one_counted the_rules.bounds (entries w.hearing.story) event.Settles _ _ refl (ap (λ (s : SessionState _). s.events) (sym c.self.view_is) ∙ w.hearing.goes.events) (ap (λ (s : SessionState _). s.events) c.pass.ensures.keeps.only.same ∙ e.counted)) }
 
 pub returns-in-Ok-Ends-clause-hears : goal.returns-in-Ok-Ends-clause-hears
 returns-in-Ok-Ends-clause-hears g c image began waits =
