@@ -5,5 +5,6 @@ pub mod LineLemmas
 pub mod Refusing
 pub mod Finished
 pub mod Same
+pub mod Cut
 pub mod Whole
 pub mod Told

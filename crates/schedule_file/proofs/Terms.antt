@@ -4,8 +4,8 @@ pub use Rattle.std.proofs.lemmas.Bool.Decides.{nat_tests}
 pub use Rattle.std.proofs.lemmas.List.{append-nil}
 pub use Rattle.std.proofs.lemmas.List.Concat.{flat_map-append}
 pub use Rattle.std.proofs.lemmas.List.Elements.{All-cons, All-head, All-nil, All-push, All-tail}
-pub use Rattle.std.specs.Prelude.{All, bytes_eq, if◌then◌else◌, is_some, map, nat_le, nat_lt, slice_index, ◌==◌, ◌≢◌}
-pub use Rattle.text_lines.proofs.Lines.{AreLines, are_lines, first-behind, is_line-decimal, is_line-torn, joined, lines_is, lines_of-line, lines_of-torn, no_bytes, torn-first, torn_lines}
+pub use Rattle.std.specs.Prelude.{All, bytes_eq, if◌then◌else◌, is_some, map, nat_le, nat_lt, slice_index, ◌==◌, ◌≢◌, ◌⊎◌}
+pub use Rattle.text_lines.proofs.Lines.{AreLines, HasLine, are_lines, first-behind, is_line-decimal, is_line-torn, joined, line-cut, lines_is, lines_of-line, lines_of-torn, no_bytes, torn-first, torn_lines}
 pub use Rattle.text_lines.proofs.Written.{by_option, by_same, not_in_range, written_complete, written_sound}
 pub use Rattle.schedule_file.specs.Terms.{Ask, Calloc, Choice, Finish, Framing, Head, IsTorn, Line, MAX_TAKEN, MAX_WINDOW, Malloc, Memory, Realloc, RecordRefusal, Recorded, Refused, Unfinished, VERSION, behind_digits, behind_line, clipped, decimal, first_line, first_number, is_line, lines_of, number_from, second_number}
 pub use Rattle.schedule_file.specs.Answers.{ReadsRecord, ReadsUnfinished}
@@ -16,4 +16,4 @@ pub use Rattle.schedule_file.specs.Refusals.{judged_from, judged_lines, judged_u
 pub use Rattle.schedule_file.specs.Steps.{AreAllLines, IsBehind, unfinished_with}
 pub use Rattle.schedule_file.specs.Telling.{ask_told, asked_told, end_told, frame_told, head_told, hex_at, hex_from, hex_value, is_answer, is_ask, is_ask_of, is_end, is_head, is_marked, line_told, was_calloc, window_part, written_end, written_head}
 unfoldable pub use Rattle.schedule_file.specs.Telling.{answer_of, end_of, head_of}
-pub use Rattle.schedule_file.specs.Unfinished.{IsFinish, IsTornBehind, IsUnfinished, IsUnfinishedReading, finish_text, text_before, unfinished_of}
+pub use Rattle.schedule_file.specs.Unfinished.{IsCutOf, IsFinish, IsTornBehind, IsUnfinished, IsUnfinishedReading, finish_of, finish_text, text_before, unfinished_of}

@@ -1,11 +1,11 @@
 -- What holds of every record and its text.
-use Rattle.std.specs.Prelude.{◌≡◌, ℕ, ◌^◌, ◌<◌, ◌≤◌, true, None, Some, List, ◌++◌, All}
+use Rattle.std.specs.Prelude.{◌≡◌, ℕ, ◌^◌, ◌<◌, ◌≤◌, true, None, Some, List, ◌++◌, All, length}
 use Rattle.schedule_file.specs.Terms.{Choice, Framing, Finish, Head, Line, Recorded, MAX_TAKEN, MAX_WINDOW, VERSION, Unfinished}
 use Rattle.schedule_file.specs.Lines.{head_line, line_text, end_line, choice_lines}
 use Rattle.schedule_file.specs.Records.{IsAnswer, IsChoice, IsRecord, IsReading, text_of, record_of}
 use Rattle.schedule_file.specs.Telling.{is_head, head_of, answer_of, is_end, end_of}
 use Rattle.schedule_file.specs.Refusals.{is_line, refused_line, unfinished_line}
-use Rattle.schedule_file.specs.Unfinished.{IsUnfinishedReading, unfinished_of}
+use Rattle.schedule_file.specs.Unfinished.{IsCutOf, IsUnfinishedReading, unfinished_of}
 
 -- two records with the same text are the same
 abbrev pub OneReading : Type 0
@@ -69,3 +69,10 @@ FinishedIsRecord =
 -- at which line a text is refused that may lack its last line, there it is refused as a record's too
 abbrev pub RefusedAsRecord : Type 0
 RefusedAsRecord = (text : List ℕ) (line : ℕ) → unfinished_line text ≡ Some line → refused_line text ≡ Some line
+
+-- a record's text that is cut off behind its first line is read, and by OneUnfinished as nothing else
+abbrev pub CutIsRead : Type 0
+CutIsRead =
+    (value : Recorded) (front rest : List ℕ) →
+    IsRecord value → front ++ rest ≡ text_of value → length (head_line value.version value.window value.frame) ≤ length front →
+    (read : Unfinished) × (IsUnfinishedReading front read × IsCutOf value rest read)

@@ -1,6 +1,6 @@
 -- The text that a session leaves which is killed: its last line may be missing, and behind the others may stand a torn line.
 use Rattle.std.specs.Prelude.{◌≡◌, ◌^◌, ◌<◌, ◌≤◌, List, ℕ, [], ◌++◌, All, Option, None, Some, IfSome}
-use Rattle.schedule_file.specs.Terms.{IsTorn, Finish, Recorded, MAX_TAKEN, MAX_WINDOW, VERSION, Unfinished}
+use Rattle.schedule_file.specs.Terms.{IsTorn, Finish, Line, Recorded, MAX_TAKEN, MAX_WINDOW, VERSION, Unfinished}
 use Rattle.schedule_file.specs.Lines.{head_line, lines_text, end_line}
 use Rattle.schedule_file.specs.Records.{IsAnswer}
 
@@ -39,6 +39,17 @@ pub record IsUnfinishedReading (text : List ℕ) (value : Unfinished) : Type 0 w
   pub text_is : text_before value torn ≡ text
 
 -- a record, as one whose last line is there
+abbrev pub finish_of : Recorded → Finish
+finish_of value = record { steps = value.steps; taken = value.taken }
+
 abbrev pub unfinished_of : Recorded → Unfinished
-unfinished_of value =
-    record { version = value.version; window = value.window; frame = value.frame; lines = value.lines; finish = Some (record { steps = value.steps; taken = value.taken }) }
+unfinished_of value = record { version = value.version; window = value.window; frame = value.frame; lines = value.lines; finish = Some (finish_of value) }
+
+-- what is read of a record's text of which these bytes were cut off: the answers in front, and the last line only where none were
+pub record IsCutOf (value : Recorded) (rest : List ℕ) (read : Unfinished) : Type 0 where
+  pub version : read.version ≡ value.version
+  pub window : read.window ≡ value.window
+  pub frame : read.frame ≡ value.frame
+  pub more : List Line
+  pub lines : read.lines ++ more ≡ value.lines
+  pub ended : IfSome read.finish (λ found. (found ≡ finish_of value) × (rest ≡ []))

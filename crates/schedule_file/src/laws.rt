@@ -1,5 +1,5 @@
 //! Laws of records and their texts, each as the contract of a function that does nothing.
-ghost use Rattle.schedule_file.specs.Laws.{OneReading, ReadUnlessRefused, WrittenInPieces, WrittenIsRead, LinesAreLines, ReadAsWritten, OneUnfinished, UnfinishedUnlessRefused, FinishedIsRecord, RefusedAsRecord};
+ghost use Rattle.schedule_file.specs.Laws.{OneReading, ReadUnlessRefused, WrittenInPieces, WrittenIsRead, LinesAreLines, ReadAsWritten, OneUnfinished, UnfinishedUnlessRefused, FinishedIsRecord, RefusedAsRecord, CutIsRead};
 
 /// Two records with the same text are the same.
 pub fn one_reading()
@@ -49,4 +49,9 @@ pub fn finished_is_record()
 /// A line that is refused though the last line may be missing is refused where it may not.
 pub fn refused_as_record()
     ensures { RefusedAsRecord }
+{}
+
+/// A record's text that is cut off behind its first line is read with the answers whose lines are whole.
+pub fn cut_is_read()
+    ensures { CutIsRead }
 {}

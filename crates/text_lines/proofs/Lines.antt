@@ -130,3 +130,34 @@ are_step byte bytes false e are = onto_are byte (lines_of bytes) e are
 pub are_lines : (text : List ℕ) → AreLines (lines_of text)
 are_lines [] = tt
 are_lines (byte ∷ bytes) = are_step byte bytes (byte == 10) refl (are_lines bytes)
+
+-- ---- a text that is cut short
+
+-- a text that has a line in front, cut behind that: what stands behind the line, in front of the cut
+pub record HasLine (line front rest behind : List ℕ) : Type 0 where
+  pub tail : List ℕ
+  pub front_is : line ++ tail ≡ front
+  pub rest_is : tail ++ rest ≡ behind
+
+line_more : (byte a : ℕ) (line front rest behind : List ℕ) → byte ≡ a → HasLine line front rest behind → HasLine (a ∷ line) (byte ∷ front) rest behind
+line_more byte a line front rest behind e has = record { tail = has.tail; front_is = ap (λ (first : ℕ). first ∷ (line ++ has.tail)) (sym e) ∙ ap (λ bytes. byte ∷ bytes) has.front_is; rest_is = has.rest_is }
+
+line_cut_step : (byte a : ℕ) (line front rest behind : List ℕ) (test : Bool) → (byte == 10) ≡ test → cond test (is_empty line) (is_line line) ≡ true → byte ≡ a → front ++ rest ≡ line ++ behind →
+    (is_line line ≡ true → (IsTorn front × (length front < length line)) ⊎ HasLine line front rest behind) → (IsTorn (byte ∷ front) × (length (byte ∷ front) < length (a ∷ line))) ⊎ HasLine (a ∷ line) (byte ∷ front) rest behind
+line_cut_step byte a [] front rest behind true e h same more k = inr (line_more byte a [] front rest behind same (record { tail = front; front_is = refl; rest_is = more }))
+line_cut_step byte a (next ∷ line) front rest behind true e h same more k = absurd (cc)
+line_cut_step byte a line front rest behind false e h same more k = by (k h)
+  where
+    by : (IsTorn front × (length front < length line)) ⊎ HasLine line front rest behind → (IsTorn (byte ∷ front) × (length (byte ∷ front) < length (a ∷ line))) ⊎ HasLine (a ∷ line) (byte ∷ front) rest behind
+    by (inl torn) = let few : length front < length line = torn.1 in inl (torn_cons byte front e torn.0, omega arith)
+    by (inr has) = inr (line_more byte a line front rest behind same has)
+
+-- a text that is cut within its first line is torn; else that line stands in front of the cut
+pub line-cut : (line front rest behind : List ℕ) → is_line line ≡ true → front ++ rest ≡ line ++ behind → (IsTorn front × (length front < length line)) ⊎ HasLine line front rest behind
+line-cut [] front rest behind h e = absurd (cc)
+line-cut (a ∷ line) [] rest behind h e = inl (All-nil OtherThanFeed, omega arith)
+line-cut (a ∷ line) (byte ∷ front) rest behind h e =
+    let first : byte ≡ a = cc in
+    let more : front ++ rest ≡ line ++ behind = cc in
+    let whole : cond (byte == 10) (is_empty line) (is_line line) ≡ true = rw first h in
+    line_cut_step byte a line front rest behind (byte == 10) refl whole first more (λ is. line-cut line front rest behind is more)
