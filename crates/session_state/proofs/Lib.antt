@@ -5,4 +5,5 @@ pub mod events
 pub mod passing
 pub mod recovering
 pub mod ending
+pub mod Lacking
 pub mod Lemmas

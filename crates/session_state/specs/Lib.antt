@@ -6,3 +6,4 @@ pub mod Leaving
 pub mod Standing
 pub mod Serving
 pub mod Recording
+pub mod Noted

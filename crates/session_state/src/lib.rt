@@ -7,6 +7,7 @@
 //! No recovery can change these. At an end all are recorded; where it is broken off, no others than those.
 #![tactic(auto)]
 
+pub mod laws;
 mod options;
 mod recording;
 

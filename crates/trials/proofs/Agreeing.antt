@@ -1,7 +1,6 @@
 -- Fronts of what a run emits agree with what was passed, and a byte that differs stays.
 use Rattle.std.proofs.lemmas.List.Elements.{filter-append}
-use Rattle.run_history.proofs.Outputs.{prefix_sent}
-use Rattle.trials.proofs.Terms.{Bool, List, [], ap, append-nil, arith, eqb, false, refl, subst, sym, true, ℕ, ◌&&◌, ◌++◌, ◌<◌, ◌∙◌, ◌∷◌, ◌≡◌, eq-eqb, Prefix, Send, sent_to, agree, State, output, served_grows, Grows, none_until, until, CheckpointUnharmed}
+use Rattle.trials.proofs.Terms.{Bool, List, [], ap, append-nil, arith, eqb, false, refl, subst, sym, true, ℕ, ◌&&◌, ◌++◌, ◌<◌, ◌∙◌, ◌∷◌, ◌≡◌, eq-eqb, Prefix, Send, sent_to, agree, prefix_sent, State, output, served_grows, Grows, none_until, until, CheckpointUnharmed}
 
 -- two fronts of one list agree
 fronts_agree : (xs ys r s : List ℕ) → xs ++ r ≡ ys ++ s → agree xs ys ≡ true

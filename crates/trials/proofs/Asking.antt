@@ -1,8 +1,7 @@
 -- A run that stands at its request for an item asks nothing of the allocator there, so that no environment matters.
 use Rattle.run_history.proofs.Blocks.{frees}
 use Rattle.run_history.proofs.Wanting.{never_allocates}
-use Rattle.run_history.specs.Call.{freed}
-use Rattle.trials.proofs.Terms.{List, None, Option, Some, ap, cond, leb, refl, sym, ℕ, ◌∙◌, ◌≡◌, is_some, option_map, slice_get, Item, Choice, Env, BadAccess, Hang, allocates, Effect, Fails, Goes, Wants, register, after, does, AsksFor, Free, Grant, Guest, Limits, Allocate, Nothing, Override, Path, Request, does_with, env_at, grant, granted, guest_of, is_refused, longer, planned_next, request_of, served_next, serves, instruction_at, touched, waits_of, AsksUnderAll}
+use Rattle.trials.proofs.Terms.{List, None, Option, Some, ap, cond, leb, refl, sym, ℕ, ◌∙◌, ◌≡◌, is_some, option_map, slice_get, Item, Choice, Env, BadAccess, Hang, allocates, freed, Effect, Fails, Goes, Wants, register, after, does, Allocate, AsksFor, Free, Grant, Guest, Limits, Nothing, Override, Path, Request, does_with, env_at, grant, granted, guest_of, is_refused, longer, planned_next, request_of, served_next, serves, instruction_at, touched, waits_of, AsksUnderAll}
 
 -- the request of the guest's instruction
 abbrev request_at : Guest → Request

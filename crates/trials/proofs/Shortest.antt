@@ -3,9 +3,8 @@ use Rattle.links.specs.declared.journal.Entry.TheVariants as entry
 use Rattle.session_history.specs.Heeding as heeding
 use Rattle.session_history.proofs.Due.{behind_all}
 use Rattle.session_history.proofs.Owing.{owed_later, latest_stands, due_at}
-use Rattle.session_history.proofs.Sessions.{piece_due}
 use Rattle.session_history.proofs.Endings.{fronts_same, given_broken, received_at_end}
-use Rattle.trials.proofs.Terms.{Bool, List, None, Option, Some, [], ap, append-nil, append_assoc, arith, false, inl, inr, length, refl, subst, sym, ℕ, ◌++◌, ◌<◌, ◌∙◌, ◌∷◌, ◌≡◌, ◌≢◌, ◌≤◌, slice_get_within, MatchOption, is_some, slice_get, Item, Prefix, Send, sent_to, Entry, Choice, Image, Cause, repeated_keeps, allocated_keeps, received_keeps, serves_to, State, register, start, start_machine, after, does, AsksFor, FailsBy, Limits, Override, Path, Served, env_at, origin, planned_next, later_of, served_grows, ByChoice, ByEnd, ByItem, ByItself, BySend, Moved, moved, after_ending, journal_of, AreGiven, items_in, AreDue, AreLawful, Chapter, IsDue, IsDueEvent, IsDuePiece, LeavesNothing, Rules, Survivor, entries_of, Latest, Place, Stands, latest, moment_at, passed_in, first_survivor, Trial, survivor_in, AreRecovered, IsRecovery, Recovery, adopted_by}
+use Rattle.trials.proofs.Terms.{Bool, List, None, Option, Some, [], ap, append-nil, append_assoc, arith, false, inl, inr, length, refl, subst, sym, ℕ, ◌++◌, ◌<◌, ◌∙◌, ◌∷◌, ◌≡◌, ◌≢◌, ◌≤◌, slice_get_within, MatchOption, is_some, slice_get, Item, Prefix, Send, sent_to, Entry, Choice, Image, Cause, repeated_keeps, allocated_keeps, received_keeps, serves_to, State, start, start_machine, after, does, AsksFor, FailsBy, Limits, Override, Path, Served, env_at, origin, planned_next, later_of, served_grows, ByChoice, ByEnd, ByItem, ByItself, BySend, Moved, moved, piece_due, after_ending, journal_of, AreGiven, items_in, AreDue, AreLawful, Chapter, IsDue, IsDueEvent, IsDuePiece, LeavesNothing, Rules, Survivor, entries_of, Latest, Place, Stands, latest, moment_at, passed_in, first_survivor, Trial, survivor_in, AreRecovered, IsRecovery, Recovery, adopted_by}
 use Rattle.trials.specs.Shortest.{IsShortest, RecoveriesAreShortest, FailureIsShortest}
 use Rattle.trials.proofs.Chained.{chained_from}
 use Rattle.trials.proofs.Results.{asks_on, apart_asks_fails}
@@ -95,7 +94,7 @@ of_trial None P Q so holds = absurd holds
 of_trial (Some trial) P Q so holds = so trial holds
 
 -- a survivor that was recovered took no more than it received
-recovered_within : (rules : Rules) (image : Image) (entries : List Entry) (recovery : Recovery) → IsRecovery rules image entries recovery → recovery.survivor.now.state.machine.taken ≤ heeding.received rules.bounds entries
+pub recovered_within : (rules : Rules) (image : Image) (entries : List Entry) (recovery : Recovery) → IsRecovery rules image entries recovery → recovery.survivor.now.state.machine.taken ≤ heeding.received rules.bounds entries
 unfolding start start_machine
 recovered_within rules image entries recovery was =
     let items : List Item = items_in rules.bounds entries in

@@ -6,3 +6,4 @@ pub mod Laws
 pub mod Episodes
 pub mod EpisodeLaws
 pub mod Shortest
+pub mod Failing

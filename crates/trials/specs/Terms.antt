@@ -10,19 +10,21 @@ unfoldable pub use Rattle.reply_ledger.specs.Trials.{agree}
 pub use Rattle.elf_image.specs.declared.image.Image.{Image}
 pub use Rattle.run_history.specs.declared.answer.Cause.{Cause}
 pub use Rattle.run_history.specs.declared.answer.Cause.TheVariants.{BadAccess, Hang}
-pub use Rattle.run_history.specs.Machine.{Effect, Fails, Goes, State, Wants, register}
+pub use Rattle.run_history.specs.Call.{takes}
+unfoldable pub use Rattle.run_history.specs.Call.{freed}
+pub use Rattle.run_history.specs.Machine.{Effect, Fails, Goes, Machine, State, Wants, register}
 unfoldable pub use Rattle.run_history.specs.Machine.{start, start_machine}
 pub use Rattle.run_history.specs.Run.{after, output}
 unfoldable pub use Rattle.run_history.specs.Run.{does}
-pub use Rattle.run_history.specs.Served.{AsksFor, FailsBy, Allocate, Free, Grant, Guest, Limits, Nothing, Override, Path, Request, Served, does_with, env_at, granted, guest_of, is_refused, longer, origin, planned_next, request_of, serve}
+pub use Rattle.run_history.specs.Served.{Allocate, AsksFor, FailsBy, Free, Grant, Guest, Limits, Nothing, Override, Path, Request, Served, does_with, env_at, granted, guest_of, is_refused, longer, origin, planned_next, request_of, serve}
 unfoldable pub use Rattle.run_history.specs.Served.{grant, served_next, serves}
 unfoldable pub use Rattle.run_history.specs.Touching.{instruction_at, touched}
 pub use Rattle.session_history.specs.Account.{IsAccount, Session, after_ending, journal_of}
 pub use Rattle.session_history.specs.Giving.{AreGiven}
-pub use Rattle.session_history.specs.Heeding.{items_in, received}
-pub use Rattle.session_history.specs.Lawful.{AreDue, AreLawful, Chapter, IsDue, IsDueEvent, IsDuePiece, LeavesNothing, Rules, Survivor, entries_of, gone_on}
+pub use Rattle.session_history.specs.Heeding.{Bounds, items_in, received}
+pub use Rattle.session_history.specs.Lawful.{AreDue, AreLawful, Chapter, IsDue, IsDueAt, IsDueEvent, IsDuePiece, IsPrompt, LeavesNothing, Rules, Survivor, entries_of, from_there, gone_on, place_of}
 pub use Rattle.session_history.specs.Owing.{Latest, Place, Stands, latest, moment_at}
 pub use Rattle.session_history.specs.Passing.{Agrees, AreBetween, Covers, CoversBefore, IsFeasible, passed_in, until}
-pub use Rattle.session_history.specs.Serving.{first_survivor}
+pub use Rattle.session_history.specs.Serving.{IsSoundBefore, Serving, first_survivor, moment_of}
 pub use Rattle.session_notes.specs.declared.episode.Tried.{Tried}
 pub use Rattle.session_notes.specs.Survival.{survives}

@@ -2,6 +2,7 @@
 ghost use Rattle.trials.specs.Laws.{AsksUnderAll, TrialServes, TrialComes, CheckpointUnharmed, ChainedAt, ChainedDrop, ChainedAdopt, OneResult, NoneSurvives, OneWalk, WalkAdopts, WalkGivesUp};
 ghost use Rattle.trials.specs.EpisodeLaws.{OneRecovery, RecoveryAdopts, RecoveryGivesUp, PointsRise, RecoveredFirst, RecoveredOn, RecoveredThen};
 ghost use Rattle.trials.specs.Shortest.{RecoveriesAreShortest, FailureIsShortest};
+ghost use Rattle.trials.specs.Failing.{FailuresHaveAccounts};
 
 /// Whether a run asks for an item depends on no plan.
 pub fn asks_under_all()
@@ -106,4 +107,9 @@ pub fn recoveries_are_shortest()
 /// So it is where the last survivor failed.
 pub fn failure_is_shortest()
     ensures { FailureIsShortest }
+{}
+
+/// At each recovery of a session there was an account of the journal then, by the survivor that failed.
+pub fn failures_have_accounts()
+    ensures { FailuresHaveAccounts }
 {}
