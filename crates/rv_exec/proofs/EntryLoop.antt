@@ -79,6 +79,7 @@ module _ (rule : Heap → ℕ → ℕ → Bool) (heap : Heap) (start count numbe
   entered Stops so place got zero_is same among does = record {
     zero = ap (λ l. slice_index l 0) does.0 ∙ zero_is;
     place = place_in number place same place.within;
+    word = tt;
     done = (ap (λ l. regs_of (counter start number) (seen l)) does.0, does.1);
   }
   entered Behind so place got zero_is same among does =
@@ -86,6 +87,7 @@ module _ (rule : Heap → ℕ → ℕ → Bool) (heap : Heap) (start count numbe
       record {
         zero = (does (word_of space number) (says less)).zero;
         place = place_in (number + 1) place same (omega (arith, less));
+        word = less;
         done = stepped so place got Behind less does;
       }
     where
@@ -98,6 +100,7 @@ module _ (rule : Heap → ℕ → ℕ → Bool) (heap : Heap) (start count numbe
       record {
         zero = (does (word_of space number) (says less)).zero;
         place = place_in other place same (omega (arith, inside));
+        word = less;
         done = stepped so place got (To other) less does;
       }
     where
@@ -130,3 +133,23 @@ module _ (rule : Heap → ℕ → ℕ → Bool) (heap : Heap) (start count done 
   ran_to next other is ran one =
       let here = subst (λ n. Entered rule heap start count number x space n new_x new_space) is one in
       record { ran = ran_more rule heap done regs _ _ first space new_space ran here.done; zero = here.zero; place = here.place }
+
+  -- who goes to another entry was at one of a word
+  pub less_before : (next : Next) (other : ℕ) → next ≡ To other → Entered rule heap start count number x space next new_x new_space → number < count
+  less_before next other is one = let here = subst (λ n. Entered rule heap start count number x space n new_x new_space) is one in here.word
+
+  -- what stops leaves all as it was
+  pub ran_still : (next : Next) → next ≡ Stops → Ran rule heap done regs first (regs_of (counter start number) (seen x)) space → Entered rule heap start count number x space next new_x new_space
+      → Ran rule heap done regs first (regs_of (counter start number) (seen new_x)) new_space
+  ran_still next is ran one =
+      let here = subst (λ n. Entered rule heap start count number x space n new_x new_space) is one in
+      subst (λ s. Ran rule heap done regs first (regs_of (counter start number) (seen new_x)) s) (sym here.done.1)
+      (subst (λ r. Ran rule heap done regs first r space) (sym here.done.0) ran)
+
+-- the same run, by what else its numbers and registers are known as
+pub ran_as : (rule : Heap → ℕ → ℕ → Bool) (heap : Heap) (done other_done : ℕ) (regs : Regs) (first : GuestPages) (start number other pc : ℕ) (x r : List ℕ) (space : GuestPages)
+    → done ≡ other_done → other ≡ number → pc ≡ counter start other → r ≡ seen x → Ran rule heap done regs first (regs_of (counter start number) (seen x)) space → Ran rule heap other_done regs first (regs_of pc r) space
+ran_as rule heap done other_done regs first start number other pc x r space same place is all ran =
+    subst (λ n. Ran rule heap n regs first (regs_of pc r) space) same
+    (subst (λ l. Ran rule heap done regs first (regs_of pc l) space) (sym all)
+    (subst (λ p. Ran rule heap done regs first (regs_of p (seen x)) space) (sym (is ∙ ap (counter start) place)) ran))

@@ -52,8 +52,14 @@ abbrev pub StepsOrStays : (Heap → ℕ → ℕ → Bool) → Heap → Regs → 
 StepsOrStays rule heap regs space Stops new_regs new_space = (new_regs ≡ regs) × (new_space ≡ space)
 StepsOrStays rule heap regs space next new_regs new_space = IsStep rule heap regs space new_regs new_space
 
+-- what was done is an entry of a word, of so many
+abbrev pub IsOfWord : ℕ → ℕ → Next → Type 0
+IsOfWord count number Stops = Unit
+IsOfWord count number next = number < count
+
 -- the entry of a number was done, or nothing changed
 pub record Entered (rule : Heap → ℕ → ℕ → Bool) (heap : Heap) (start count number : ℕ) (x : List ℕ) (space : GuestPages) (next : Next) (new_x : List ℕ) (new_space : GuestPages) : Type 0 where
   pub zero : slice_index new_x 0 ≡ 0
   pub place : IsAt start count (number_of number next) new_space
+  pub word : IsOfWord count number next
   pub done : StepsOrStays rule heap (regs_of (counter start number) (seen x)) space next (regs_of (counter start (number_of number next)) (seen new_x)) new_space

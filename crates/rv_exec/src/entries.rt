@@ -12,13 +12,10 @@ ghost use Rattle.rv_exec.specs.Entries.{counter, number_of, seen, IsWritten, Ent
 use block_book::Book;
 use code_table::{Entry, EntryOp};
 use guest_space::{AccessRule, GuestSpace, Windows};
-use run_history::Regs;
 use rv_isa::{
     BranchOp, ImmOp, LoadOp, RegOp, StoreOp, alu, alu_imm, bytes_loaded, bytes_stored, compare,
     displace, extend, target_of_jalr, upper_word,
 };
-use rx_io::Steps;
-use std::sync::ledger::Ledger;
 
 /// What comes after an entry: the one behind it, or another one by its number; or it wasn't done, and nothing changed.
 #[derive(Clone, Copy, Debug)]
@@ -35,6 +32,16 @@ pub fn counter_of(start: u32, number: usize) -> u32
     ensures { result ≡ counter start number }
 {
     start.wrapping_add((number as u32).wrapping_mul(4))
+}
+
+/// The program counter behind a word, by the word's number. Inlined, it would be one more count that a loop over entries
+/// carries along.
+#[inline(never)]
+fn counter_behind(start: u32, number: usize) -> u32
+    requires { address start number ≤ 2 ^ 32 }
+    ensures { result ≡ counter start (number + 1) }
+{
+    counter_of(start, number).wrapping_add(4)
 }
 
 /// The number of the word at an address, where that is one of so many words from a start on.
@@ -76,7 +83,7 @@ fn enter_jal(x: &mut [u32; 33], e: &Entry, start: u32, number: usize) -> Next
     ensures done { (rule : Heap → ℕ → ℕ → Bool) (heap : Heap) (space : GuestPages) → EntryDone rule heap start number e.now x.old space result x.new space }
     ensures among { (count : ℕ) → IsLinked count e.now → IsAmong count result }
 {
-    x[e.rd as usize] = counter_of(start, number).wrapping_add(4);
+    x[e.rd as usize] = counter_behind(start, number);
     Next::To(upper_word(e.imm) as usize)
 }
 
@@ -95,7 +102,7 @@ fn enter_jalr(x: &mut [u32; 33], e: &Entry, start: u32, count: usize, number: us
     let Some(other) = number_at(start, count, target) else {
         return Next::Stops;
     };
-    x[e.rd as usize] = counter_of(start, number).wrapping_add(4);
+    x[e.rd as usize] = counter_behind(start, number);
     Next::To(other)
 }
 
@@ -211,7 +218,7 @@ fn entry_of(entries: &[Entry], number: usize) -> &Entry
 
 /// Does the entry of a number.
 #[inline(always)]
-fn enter<R: AccessRule>(
+pub fn enter<R: AccessRule>(
     x: &mut [u32; 33],
     entries: &[Entry],
     start: u32,
@@ -292,7 +299,7 @@ fn enter<R: AccessRule>(
 
 /// The registers with one more, which takes what is written to register 0.
 #[inline(always)]
-fn with_last(x: &[u32; 32]) -> [u32; 33]
+pub fn with_last(x: &[u32; 32]) -> [u32; 33]
     ensures { seen result ≡ x.now }
 {
     let mut all = [0; 33];
@@ -303,60 +310,11 @@ fn with_last(x: &[u32; 32]) -> [u32; 33]
 
 /// The registers without the last one.
 #[inline(always)]
-fn without_last(all: &[u32; 33]) -> [u32; 32]
+pub fn without_last(all: &[u32; 33]) -> [u32; 32]
     ensures { result ≡ seen all.now }
 {
     let mut x = [0; 32];
     let (front, _) = all.split_at(32);
     x.copy_from_slice(front);
     x
-}
-
-/// Does instructions that are no calls one after another by their entries, from the one of a number on, and counts a step for
-/// each. The answer is how many were done, at most so many as are given. It may stop before any instruction.
-#[inline(never)]
-pub fn run_entries<R: AccessRule, L: Ledger>(
-    regs: &mut Regs,
-    first: usize,
-    space: &mut GuestSpace,
-    book: &Book,
-    rule: &R,
-    most: u64,
-    steps: &mut Steps<L>,
-    windows: &mut Windows,
-) -> u64
-    requires place { IsAt space.old.code.start (word_count space.old.code) first space.old }
-    requires counter { regs.old.pc ≡ counter space.old.code.start first }
-    requires zero { slice_index regs.old.x 0 ≡ 0 }
-    requires holds { AreWindows space.old windows.old }
-    ensures holds { AreWindows space.new windows.new }
-    ensures ran { Ran (R.rule rule.now) book.now result regs.old space.old regs.new space.new }
-    ensures within { result ≤ most }
-    ensures counted { steps.new ≡ steps.old + result }
-{
-    space.sound();
-    let start = space.code_start();
-    let count = space.code_len() - 1;
-    let code = match space.code() {
-        Ok(code) => code,
-        Err(_) => return 0,
-    };
-    let entries = code.entries();
-    let mut x = with_last(&regs.x);
-    let mut number = first;
-    let mut left = most;
-    'run: while left > 0 {
-        match enter(
-            &mut x, entries, start, count, number, space, book, rule, windows,
-        ) {
-            Next::Behind => number += 1,
-            Next::To(other) => number = other,
-            Next::Stops => break 'run,
-        }
-        steps.tick();
-        left -= 1;
-    }
-    regs.x = without_last(&x);
-    regs.pc = counter_of(start, number);
-    most - left
 }
