@@ -1,13 +1,13 @@
 -- What is kept of connections: one of them read or changed, or all of them.
 use Rattle.indexmap.specs.IndexMap.{set_value_at}
+use Rattle.indexmap.proofs.CallerLemmas.{insert_entry-new}
 use Rattle.std.specs.Cmp.{nat_eq_equiv}
-use Rattle.std.proofs.lemmas.Map.{keys-set_value, lookup-set_value}
-use Rattle.std.specs.Option.{IfSome}
+use Rattle.std.proofs.lemmas.Map.Made.{is_some-lookup, lookup-map_values}
+use Rattle.std.proofs.lemmas.Map.Views.{IfSome-lookup_from_All, All-values_from_lookup}
+use Rattle.std.proofs.lemmas.Map.{keys-set_value, lookup-insert, lookup-set_value, none_passes_from_lookup}
 use Rattle.std.proofs.lemmas.Map.Steps.{set_value_same}
-use Rattle.std.proofs.lemmas.Map.Views.{All-values_from_lookup}
-use Rattle.std.proofs.lemmas.List.Sums.{list_all-from_AllPass}
-use Rattle.reply_ledger.proofs.Terms.{Bool, List, None, Option, Some, [], add-one, ap, arith, cond, drop, false, if◌then◌else◌, is_some, length, length-append, refl, subst, suc, sym, take, true, zero, ℕ, ◌++◌, ◌+◌, ◌<◌, ◌∙◌, ◌∷◌, ◌≡◌, and_parts, eq-eqb, eqb-true, true≢false, length-map, map-append, take-append-drop, IsDistinct, list_all, keys_of, lookup, nat_eq, set_value, slice_get, unwrap_or, values_of, ◌==◌, ◌||◌, Kept, account_at, no_account, restarted, is_known}
-use Rattle.reply_ledger.proofs.PositionLemmas.{tested}
+use Rattle.reply_ledger.proofs.Terms.{Bool, List, None, Option, Some, [], add-one, ap, arith, cond, drop, false, if◌then◌else◌, is_some, length, length-append, refl, subst, suc, sym, take, true, zero, ℕ, ◌++◌, ◌+◌, ◌<◌, ◌∙◌, ◌∷◌, ◌≡◌, eq-eqb, eqb-true, true≢false, drop_all, length-map, map-append, take-append-drop, take_all, AllPass-from_list_all, list_all-from_AllPass, IsDistinct, list_all, keys_of, lookup, set_value, values_of, IfSome, option_map, All, nat_eq, slice_get, unwrap_or, ◌==◌, Kept, account_at, no_account, restarted, is_known}
+use Rattle.reply_ledger.proofs.PositionLemmas.{tested, not-empty}
 
 pub account_at-some : (T : List (ℕ × Kept)) (conn : ℕ) (v : Kept) → Some v ≡ lookup (nat_eq conn) T → account_at T conn ≡ v
 unfolding account_at
@@ -17,7 +17,7 @@ pub account_at-none : (T : List (ℕ × Kept)) (conn : ℕ) → None ≡ lookup 
 unfolding account_at
 account_at-none T conn h = ap (λ (o : Option Kept). unwrap_or o no_account) (sym h)
 
-set_value-none : (conn : ℕ) (T : List (ℕ × Kept)) (w : Kept) → None ≡ lookup (nat_eq conn) T → set_value (nat_eq conn) T w ≡ T
+pub set_value-none : (conn : ℕ) (T : List (ℕ × Kept)) (w : Kept) → None ≡ lookup (nat_eq conn) T → set_value (nat_eq conn) T w ≡ T
 set_value-none conn [] w h = refl
 set_value-none conn (e ∷ T) w h = by (nat_eq conn e.0) h (λ k. set_value-none conn T w k)
   where
@@ -25,63 +25,43 @@ set_value-none conn (e ∷ T) w h = by (nat_eq conn e.0) h (λ k. set_value-none
     by true k rest = absurd (let no : ⊥ = cc in no)
     by false k rest = ap (λ (l : List (ℕ × Kept)). e ∷ l) (rest k)
 
--- what a write through `get_mut` makes of the accounts
-pub rewritten : (T : List (ℕ × Kept)) (conn : ℕ) {new : List (ℕ × Kept)} {v w : Kept} (change : Kept → Kept) → Some v ≡ lookup (nat_eq conn) T → new ≡ set_value (nat_eq conn) T w → w ≡ change v → new ≡ set_value (nat_eq conn) T (change (account_at T conn))
-rewritten T conn {v = v} change h n e = n ∙ ap (set_value (nat_eq conn) T) (e ∙ ap change (sym (account_at-some T conn v h)))
-
-pub rewritten-same : (T : List (ℕ × Kept)) (conn : ℕ) {new : List (ℕ × Kept)} {v w : Kept} → Some v ≡ lookup (nat_eq conn) T → new ≡ set_value (nat_eq conn) T w → w ≡ v → new ≡ T
-rewritten-same T conn {v = v} h n e = n ∙ ap (set_value (nat_eq conn) T) e ∙ set_value_same (nat_eq conn) T v (sym h)
-
-pub unwritten : (T : List (ℕ × Kept)) (conn : ℕ) {new : List (ℕ × Kept)} (k : Kept) → None ≡ lookup (nat_eq conn) T → new ≡ T → new ≡ set_value (nat_eq conn) T k
-unwritten T conn k h e = e ∙ sym (set_value-none conn T k h)
-
 -- accounts by number, one of them changed
 abbrev pub put : (ℕ → Kept) → ℕ → Kept → ℕ → Kept
 put A conn k q = if conn == q then k else A q
 
+-- what holds of the changed account, and of the others where they stand
+pub at-put : (P : ℕ → Kept → Type 0) (A : ℕ → Kept) (conn : ℕ) (k : Kept) → P conn k → ((q : ℕ) → conn == q ≡ false → P q (A q)) → (q : ℕ) → P q (put A conn k q)
+at-put P A conn k here others q = tested (conn == q)
+    (λ t. subst (λ (b : Bool). P q (if b then k else A q)) (sym t) (subst (λ (c : ℕ). P c k) (eqb-true conn q t) here))
+    (λ f. subst (λ (b : Bool). P q (if b then k else A q)) (sym f) (others q f))
+
 pub put-same : {X : Type 0} (f : Kept → X) (A : ℕ → Kept) (conn : ℕ) (k : Kept) → f k ≡ f (A conn) → (q : ℕ) → f (put A conn k q) ≡ f (A q)
-put-same f A conn k e q = by (conn == q) refl
-  where
-    by : (b : Bool) → conn == q ≡ b → f (if b then k else A q) ≡ f (A q)
-    by true p = e ∙ ap (λ (n : ℕ). f (A n)) (eqb-true conn q p)
-    by false p = refl
+put-same f A conn k e = at-put (λ q x. f x ≡ f (A q)) A conn k e (λ q none. refl)
 
 pub put-here : (A : ℕ → Kept) (conn : ℕ) (k : Kept) → put A conn k conn ≡ k
 put-here A conn k = ap (λ (b : Bool). if b then k else A conn) (eq-eqb conn conn refl)
 
-known-is : (T : List (ℕ × Kept)) (conn : ℕ) → is_some (lookup (nat_eq conn) T) ≡ is_known (keys_of T) conn
-known-is [] conn = refl
-known-is (e ∷ T) conn = by (nat_eq conn e.0) (known-is T conn)
-  where
-    by : (b : Bool) → is_some (lookup (nat_eq conn) T) ≡ is_known (keys_of T) conn → is_some (cond b (Some e.1) (lookup (nat_eq conn) T)) ≡ (b || is_known (keys_of T) conn)
-    by true ih = refl
-    by false ih = ih
-
 -- nothing is kept of a connection that isn't known
-pub none_kept : (T : List (ℕ × Kept)) (q : ℕ) → is_known (keys_of T) q ≡ false → account_at T q ≡ no_account
-none_kept T q h = by (lookup (nat_eq q) T) refl
-  where
-    by : (o : Option Kept) → lookup (nat_eq q) T ≡ o → account_at T q ≡ no_account
-    by None k = account_at-none T q (sym k)
-    by (Some v) k = absurd (true≢false (sym (ap is_some k) ∙ known-is T q ∙ h))
-
 pub lookup-unknown : (T : List (ℕ × Kept)) (q : ℕ) → is_known (keys_of T) q ≡ false → lookup (nat_eq q) T ≡ None
-lookup-unknown T q h = by (lookup (nat_eq q) T) refl
+lookup-unknown T q h = by (lookup (nat_eq q) T) (is_some-lookup (nat_eq q) T ∙ h)
   where
-    by : (o : Option Kept) → lookup (nat_eq q) T ≡ o → o ≡ None
+    by : (o : Option Kept) → is_some o ≡ false → o ≡ None
     by None k = refl
-    by (Some v) k = absurd (true≢false (sym (ap is_some k) ∙ known-is T q ∙ h))
+    by (Some v) k = absurd (true≢false k)
+
+pub none_kept : (T : List (ℕ × Kept)) (q : ℕ) → is_known (keys_of T) q ≡ false → account_at T q ≡ no_account
+none_kept T q h = account_at-none T q (sym (lookup-unknown T q h))
+
+found_or : (b : Bool) (k : Kept) (o : Option Kept) → unwrap_or (cond b (Some k) o) no_account ≡ cond b k (unwrap_or o no_account)
+found_or true k o = refl
+found_or false k o = refl
 
 account_at-set : (T : List (ℕ × Kept)) (conn : ℕ) (k : Kept) → is_known (keys_of T) conn ≡ true → (q : ℕ) → account_at (set_value (nat_eq conn) T k) q ≡ put (account_at T) conn k q
 unfolding account_at
-account_at-set T conn k known q = ap (λ (o : Option Kept). unwrap_or o no_account) (lookup-set_value nat_eq_equiv (nat_eq conn) one q k T (known-is T conn ∙ known)) ∙ by (nat_eq conn q)
+account_at-set T conn k known q = ap (λ (o : Option Kept). unwrap_or o no_account) (lookup-set_value nat_eq_equiv (nat_eq conn) one q k T (is_some-lookup (nat_eq conn) T ∙ known)) ∙ found_or (nat_eq conn q) k (lookup (nat_eq q) T)
   where
     one : (x y : ℕ) → nat_eq conn x ≡ true → nat_eq conn y ≡ nat_eq x y
     one x y h = ap (λ (n : ℕ). nat_eq n y) (eqb-true conn x h)
-
-    by : (b : Bool) → unwrap_or (cond b (Some k) (lookup (nat_eq q) T)) no_account ≡ cond b k (unwrap_or (lookup (nat_eq q) T) no_account)
-    by true = refl
-    by false = refl
 
 -- what holds of the accounts by number holds of those that were written
 pub of_written : (P : (ℕ → Kept) → List ℕ → Type 0) (T : List (ℕ × Kept)) (conn : ℕ) (k : Kept) {new : List (ℕ × Kept)} → new ≡ set_value (nat_eq conn) T k → is_known (keys_of T) conn ≡ true → P (put (account_at T) conn k) (keys_of T) → P (account_at new) (keys_of new)
@@ -93,17 +73,9 @@ of_written P T conn k is known h =
 -- a connection opens
 account_at-push : (T : List (ℕ × Kept)) (conn : ℕ) (k : Kept) → is_known (keys_of T) conn ≡ false → (q : ℕ) → account_at (T ++ (conn, k) ∷ []) q ≡ put (account_at T) conn k q
 unfolding account_at
-account_at-push [] conn k none q = tested (conn == q)
-    (λ t. ap (λ (b : Bool). unwrap_or (cond b (Some k) None) no_account) (eq-eqb q conn (sym (eqb-true conn q t))) ∙ sym (ap (λ (b : Bool). if b then k else no_account) t))
-    (λ f. ap (λ (b : Bool). unwrap_or (cond b (Some k) None) no_account) (tested (nat_eq q conn) (λ t. absurd (true≢false (sym (eq-eqb conn q (sym (eqb-true q conn t))) ∙ f))) (λ g. g)) ∙ sym (ap (λ (b : Bool). if b then k else no_account) f))
-account_at-push (e ∷ T) conn k none q = by (nat_eq conn e.0) refl none (nat_eq q e.0) refl (λ h. account_at-push T conn k h q)
-  where
-    by : (a : Bool) → nat_eq conn e.0 ≡ a → (a || is_known (keys_of T) conn) ≡ false → (b : Bool) → nat_eq q e.0 ≡ b
-        → (is_known (keys_of T) conn ≡ false → unwrap_or (lookup (nat_eq q) (T ++ (conn, k) ∷ [])) no_account ≡ (if conn == q then k else unwrap_or (lookup (nat_eq q) T) no_account))
-        → unwrap_or (cond b (Some e.1) (lookup (nat_eq q) (T ++ (conn, k) ∷ []))) no_account ≡ (if conn == q then k else unwrap_or (cond b (Some e.1) (lookup (nat_eq q) T)) no_account)
-    by true pa h b pb ih = absurd (true≢false h)
-    by false pa h true pb ih = sym (ap (λ (b : Bool). if b then k else e.1) (tested (conn == q) (λ t. absurd (true≢false (sym (eq-eqb conn e.0 (eqb-true conn q t ∙ eqb-true q e.0 pb)) ∙ pa))) (λ f. f)))
-    by false pa h false pb ih = ih h
+account_at-push T conn k none q =
+    (λ i. unwrap_or (lookup (nat_eq q) (sym (take_all (length T) T (omega arith)) i ++ (conn, k) ∷ sym (drop_all (length T) T (omega arith)) i)) no_account)
+    ∙ ap (λ (o : Option Kept). unwrap_or o no_account) (lookup-insert nat_eq_equiv conn k q T (length T) (none_passes_from_lookup (nat_eq conn) T (lookup-unknown T conn none))) ∙ found_or (nat_eq conn q) k (lookup (nat_eq q) T)
 
 pub keys-push : (T : List (ℕ × Kept)) (conn : ℕ) (k : Kept) → keys_of (T ++ (conn, k) ∷ []) ≡ keys_of T ++ conn ∷ []
 keys-push T conn k = map-append (λ (e : ℕ × Kept). e.0) T ((conn, k) ∷ [])
@@ -116,13 +88,11 @@ of_opened P T conn k is none h =
 -- all accounts start anew
 pub account_at-restarted : (T : List (ℕ × Kept)) (q : ℕ) → account_at (restarted T) q ≡ record (account_at T q) { end = (account_at T q).earlier }
 unfolding account_at restarted
-account_at-restarted [] q = refl
-account_at-restarted (e ∷ T) q = by (nat_eq q e.0) (account_at-restarted T q)
+account_at-restarted T q = ap (λ (o : Option Kept). unwrap_or o no_account) (lookup-map_values (λ (k : Kept). record k { end = k.earlier }) (nat_eq q) T) ∙ by (lookup (nat_eq q) T)
   where
-    by : (b : Bool) → unwrap_or (lookup (nat_eq q) (restarted T)) no_account ≡ record (unwrap_or (lookup (nat_eq q) T) no_account) { end = (unwrap_or (lookup (nat_eq q) T) no_account).earlier }
-        → unwrap_or (cond b (Some (record e.1 { end = e.1.earlier })) (lookup (nat_eq q) (restarted T))) no_account ≡ record (unwrap_or (cond b (Some e.1) (lookup (nat_eq q) T)) no_account) { end = (unwrap_or (cond b (Some e.1) (lookup (nat_eq q) T)) no_account).earlier }
-    by true ih = refl
-    by false ih = ih
+    by : (o : Option Kept) → unwrap_or (option_map (λ (k : Kept). record k { end = k.earlier }) o) no_account ≡ record (unwrap_or o no_account) { end = (unwrap_or o no_account).earlier }
+    by None = refl
+    by (Some k) = refl
 
 pub keys-restarted : (T : List (ℕ × Kept)) → keys_of (restarted T) ≡ keys_of T
 unfolding restarted
@@ -154,17 +124,27 @@ length-restarted T now i at =
 -- a test of all accounts
 pub all_pass : (p : Kept → Bool) (T : List (ℕ × Kept)) → p no_account ≡ true → list_all p (values_of T) ≡ true → (q : ℕ) → p (account_at T q) ≡ true
 unfolding account_at
-all_pass p [] none h q = none
-all_pass p (e ∷ T) none h q = let parts = and_parts (p e.1) (list_all p (values_of T)) h in by (nat_eq q e.0) parts.0 (all_pass p T none parts.1 q)
+all_pass p T none h q = by (lookup (nat_eq q) T) (IfSome-lookup_from_All (λ (v : Kept). p v ≡ true) (nat_eq q) T (AllPass-from_list_all p (values_of T) h))
   where
-    by : (b : Bool) → p e.1 ≡ true → p (unwrap_or (lookup (nat_eq q) T) no_account) ≡ true → p (unwrap_or (cond b (Some e.1) (lookup (nat_eq q) T)) no_account) ≡ true
-    by true here rest = here
-    by false here rest = rest
+    by : (o : Option Kept) → IfSome o (λ (v : Kept). p v ≡ true) → p (unwrap_or o no_account) ≡ true
+    by None k = none
+    by (Some v) k = k
+
+-- what holds of each account holds of those in the map
+pub all-kept : (P : Kept → Type 0) (T : List (ℕ × Kept)) → IsDistinct nat_eq (keys_of T) → ((q : ℕ) → P (account_at T q)) → All P (values_of T)
+all-kept P T distinct h = All-values_from_lookup nat_eq_equiv P T distinct (λ q. by q (lookup (nat_eq q) T) refl)
+  where
+    by : (q : ℕ) (o : Option Kept) → lookup (nat_eq q) T ≡ o → IfSome o P
+    by q None k = tt
+    by q (Some v) k = subst P (account_at-some T q v (sym k)) (h q)
 
 pub pass_all : (p : Kept → Bool) (T : List (ℕ × Kept)) → IsDistinct nat_eq (keys_of T) → ((q : ℕ) → p (account_at T q) ≡ true) → list_all p (values_of T) ≡ true
-unfolding account_at
-pass_all p T distinct h = list_all-from_AllPass p (values_of T) (All-values_from_lookup nat_eq_equiv (λ (v : Kept). p v ≡ true) T distinct (λ q. by q (lookup (nat_eq q) T) (h q)))
-  where
-    by : (q : ℕ) (o : Option Kept) → p (unwrap_or o no_account) ≡ true → IfSome o (λ (v : Kept). p v ≡ true)
-    by q None k = tt
-    by q (Some v) k = k
+pass_all p T distinct h = list_all-from_AllPass p (values_of T) (all-kept (λ (v : Kept). p v ≡ true) T distinct h)
+
+pub ruleset accounts = (account_at-some, account_at-none, not-empty)
+
+pub ruleset opening = (insert_entry-new)
+
+pub ruleset writing = (account_at-some, set_value-none, set_value_same)
+
+pub ruleset restarting = (restarted-none, length-restarted)

@@ -1,6 +1,7 @@
 -- Bytes that agree.
 use Rattle.std.proofs.Common.{◌==◌}
-use Rattle.reply_ledger.proofs.Terms.{Bool, List, [], add-one, ap, drop, drop-cons, false, get_or, length, refl, suc, sym, true, ℕ, ◌&&◌, ◌+◌, ◌<◌, ◌∙◌, ◌∷◌, ◌≡◌, ◌≤◌, eq-eqb, ne_eqb, drop_all, arith, drop-take, take, zero, sent_to, Entry, sends_of, if◌then◌else◌, ◌++◌, ◌-◌, agree}
+use Rattle.std.specs.Cmp.Lexicographic.{pointwise}
+use Rattle.reply_ledger.proofs.Terms.{Bool, List, [], add-one, ap, arith, drop, drop-cons, false, get_or, if◌then◌else◌, length, length-drop, length-take, refl, suc, sym, take, true, zero, ℕ, ◌&&◌, ◌++◌, ◌+◌, ◌-◌, ◌<◌, ◌∙◌, ◌∷◌, ◌≡◌, ◌≤◌, eq-eqb, ne_eqb, drop-take, drop_all, nat_eq, sent_to, Entry, agree, sends_of}
 
 pub agree-past : (xs ys : List ℕ) (n : ℕ) → length ys ≤ n → agree xs (drop n ys) ≡ true
 unfolding agree
@@ -10,26 +11,18 @@ agree-past xs ys n le = ap (agree xs) (drop_all n ys le) ∙ by xs
     by [] = refl
     by (x ∷ xs) = refl
 
-pub agree-done : (xs ys : List ℕ) (n : ℕ) → length xs ≤ n → agree (drop n xs) ys ≡ true
+pub agree-none : (xs ys : List ℕ) → length xs ≡ 0 → agree xs ys ≡ true
 unfolding agree
-agree-done xs ys n le = ap (λ l. agree l ys) (drop_all n xs le)
+agree-none [] ys none = refl
+agree-none (x ∷ xs) ys none = absurd (omega (arith, none))
 
--- one place
-pub agree-at : (xs ys : List ℕ) (i j y : ℕ) → i < length xs → j < length ys → y ≡ get_or ys j y
-    → agree (drop i xs) (drop j ys) ≡ ((get_or xs i 0 == y) && agree (drop (i + 1) xs) (drop (j + 1) ys))
+-- as far as there are bytes of both, they are the same
+pub agree_fronts : (xs ys : List ℕ) → agree xs ys ≡ pointwise nat_eq (take (length ys) xs) (take (length xs) ys)
 unfolding agree
-agree-at xs ys i j y lt lu ey =
-    let fx : drop i xs ≡ get_or xs i 0 ∷ drop (i + 1) xs = drop-cons xs i 0 lt ∙ ap (λ (n : ℕ). get_or xs i 0 ∷ drop n xs) (sym (add-one i)) in
-    let fy : drop j ys ≡ y ∷ drop (j + 1) ys = drop-cons ys j y lu ∙ ap (λ (z : ℕ). z ∷ drop (suc j) ys) (sym ey) ∙ ap (λ (n : ℕ). y ∷ drop n ys) (sym (add-one j)) in
-    ap (λ (l : List ℕ). agree l (drop j ys)) fx ∙ ap (λ (l : List ℕ). agree (get_or xs i 0 ∷ drop (i + 1) xs) l) fy
-
-pub agree-same : (xs ys : List ℕ) (i j y : ℕ) → i < length xs → j < length ys → y ≡ get_or ys j y → y ≡ get_or xs i 0
-    → agree (drop i xs) (drop j ys) ≡ agree (drop (i + 1) xs) (drop (j + 1) ys)
-agree-same xs ys i j y lt lu ey e = agree-at xs ys i j y lt lu ey ∙ ap (λ (b : Bool). b && agree (drop (i + 1) xs) (drop (j + 1) ys)) (eq-eqb (get_or xs i 0) y (sym e))
-
-pub agree-apart : (xs ys : List ℕ) (i j y : ℕ) → i < length xs → j < length ys → y ≡ get_or ys j y → (y ≡ get_or xs i 0 → ⊥)
-    → agree (drop i xs) (drop j ys) ≡ false
-agree-apart xs ys i j y lt lu ey e = agree-at xs ys i j y lt lu ey ∙ ap (λ (b : Bool). b && agree (drop (i + 1) xs) (drop (j + 1) ys)) (ne_eqb (get_or xs i 0) y (λ h. e (sym h)))
+agree_fronts [] [] = refl
+agree_fronts [] (y ∷ ys) = refl
+agree_fronts (x ∷ xs) [] = refl
+agree_fronts (x ∷ xs) (y ∷ ys) = ap (λ (b : Bool). (x == y) && b) (agree_fronts xs ys)
 
 drop-append : {X : Type 0} (n : ℕ) (xs ys : List X) → drop n (xs ++ ys) ≡ drop n xs ++ drop (n - length xs) ys
 drop-append zero [] ys = refl
@@ -46,16 +39,16 @@ agree-take (suc n) [] ys = refl
 agree-take (suc n) (x ∷ xs) [] = refl
 agree-take (suc n) (x ∷ xs) (y ∷ ys) = ap (λ (b : Bool). (x == y) && b) (agree-take n xs ys)
 
+pub and_assoc : (a b c : Bool) → (a && (b && c)) ≡ ((a && b) && c)
+and_assoc true b c = refl
+and_assoc false b c = refl
+
 -- bytes beside two rows of others
-agree-split : (xs ys zs : List ℕ) → agree xs (ys ++ zs) ≡ (agree xs ys && agree (drop (length ys) xs) zs)
+pub agree-split : (xs ys zs : List ℕ) → agree xs (ys ++ zs) ≡ (agree xs ys && agree (drop (length ys) xs) zs)
 unfolding agree
-agree-split [] ys zs = sym (agree-done [] zs (length ys) (omega arith))
+agree-split [] ys zs = sym (ap (λ (l : List ℕ). agree l zs) (drop_all (length ys) [] (omega arith)))
 agree-split (x ∷ xs) [] zs = refl
-agree-split (x ∷ xs) (y ∷ ys) zs = ap (λ (b : Bool). (x == y) && b) (agree-split xs ys zs) ∙ assoc (x == y) (agree xs ys) (agree (drop (length ys) xs) zs)
-  where
-    assoc : (a b c : Bool) → (a && (b && c)) ≡ ((a && b) && c)
-    assoc true b c = refl
-    assoc false b c = refl
+agree-split (x ∷ xs) (y ∷ ys) zs = ap (λ (b : Bool). (x == y) && b) (agree-split xs ys zs) ∙ and_assoc (x == y) (agree xs ys) (agree (drop (length ys) xs) zs)
 
 -- a send to the connection, and one to another
 sent-here : (conn i : ℕ) (E : List Entry) (e : Entry) → i < length E → e ≡ get_or E i e → sent_to conn (sends_of (drop i E)) ≡ (if e.conn == conn then e.bytes else []) ++ sent_to conn (sends_of (drop (i + 1) E))
@@ -83,3 +76,7 @@ agree-end conn i skip E rest le = ap (λ (l : List Entry). agree rest (drop skip
 -- what a trial's next bytes are compared with
 pub agree-placed : (bytes stream : List ℕ) (m at left : ℕ) → at + left ≡ m → agree (take left bytes) (drop at stream) ≡ agree bytes (drop at (take m stream))
 agree-placed bytes stream m at left sum = agree-take left bytes (drop at stream) ∙ ap (agree bytes) (sym (drop-take at left stream) ∙ ap (λ (n : ℕ). drop at (take n stream)) sum)
+
+pub ruleset agreeing = (agree-none, agree-end, agree-other, agree-turn)
+
+pub ruleset comparing = (agree-past, length-take)

@@ -1,5 +1,6 @@
 -- Connections as contracts see them, beside what is kept of them.
-use Rattle.reply_ledger.proofs.Terms.{Bool, List, None, Option, Some, [], ap, arith, cond, drop, false, if◌then◌else◌, is_some, length, map, not, refl, sym, true, ℕ, ◌&&◌, ◌++◌, ◌+◌, ◌∙◌, ◌∷◌, ◌≡◌, eq-eqb, eqb-true, true≢false, drop_all, option_map, option_map_or, IsSome, nat_eq, ◌==◌, ◌||◌, Send, sent_to, Connection, Passed, changed, closed_connection, connection_of, is_open, new_connection, passed_connection, stamped_to, trimmed_connection, trimmed_connections, Kept, is_open_account, new_account, no_account, passed_of, connections_of, earlier_at, is_known, seen, subst, IsOpened, Ledger, account_at, keys_of}
+use Rattle.reply_ledger.proofs.Terms.{Bool, List, None, Option, Some, [], ap, arith, cond, drop, false, if◌then◌else◌, is_some, length, map, not, refl, subst, sym, true, ℕ, ◌&&◌, ◌++◌, ◌+◌, ◌∙◌, ◌∷◌, ◌≡◌, eq-eqb, eqb-true, true≢false, drop_all, find-append, none-some, keys_of, option_map, option_map_or, option_or, IsSome, find, nat_eq, ◌==◌, ◌||◌, Send, sent_to, Connection, IsOpened, Ledger, Passed, changed, closed_connection, connection_of, is_open, new_connection, passed_connection, stamped_to, trimmed_connection, trimmed_connections, Kept, account_at, is_open_account, new_account, no_account, passed_of, connections_of, earlier_at, is_known, seen}
+use Rattle.reply_ledger.proofs.PositionLemmas.{find-map, tested}
 use Rattle.reply_ledger.proofs.AccountLemmas.{put, put-here}
 
 -- a connection of the ledger is the account of that number
@@ -15,11 +16,9 @@ connection-of S A q (k ∷ K) = by (nat_eq q k) refl (connection-of S A q K)
 
 -- so a reading of the one is a reading of the other
 reading-of : {X : Type 0} (f : Connection → X) (d : X) (S : List Send) (A : ℕ → Kept) (K : List ℕ) (q : ℕ) → (is_known K q ≡ false → f (seen S q (A q)) ≡ d) → option_map_or f (connection_of (connections_of S A K) q) d ≡ f (seen S q (A q))
-reading-of f d S A K q none = ap (λ (o : Option Connection). option_map_or f o d) (connection-of S A q K) ∙ by (is_known K q) refl
-  where
-    by : (b : Bool) → is_known K q ≡ b → option_map_or f (if b then Some (seen S q (A q)) else None) d ≡ f (seen S q (A q))
-    by true p = refl
-    by false p = sym (none p)
+reading-of f d S A K q none = ap (λ (o : Option Connection). option_map_or f o d) (connection-of S A q K) ∙ tested (is_known K q)
+    (λ p. ap (λ (b : Bool). option_map_or f (if b then Some (seen S q (A q)) else None) d) p)
+    (λ p. ap (λ (b : Bool). option_map_or f (if b then Some (seen S q (A q)) else None) d) p ∙ sym (none p))
 
 pub is_open-of : (S : List Send) (A : ℕ → Kept) (K : List ℕ) (q : ℕ) → (is_known K q ≡ false → A q ≡ no_account) → is_open (connections_of S A K) q ≡ is_open_account (A q)
 unfolding is_open
@@ -29,24 +28,20 @@ pub stamped_to-of : (S : List Send) (A : ℕ → Kept) (K : List ℕ) (q : ℕ) 
 unfolding stamped_to passed_of
 stamped_to-of S A K q none = reading-of (λ (c : Connection). c.passed) [] S A K q (λ f. ap (λ (k : Kept). passed_of (sent_to q S) k.stamps) (none f))
 
-pub known-of : (S : List Send) (A : ℕ → Kept) (K : List ℕ) (q : ℕ) → IsSome (connection_of (connections_of S A K) q) → is_known K q ≡ true
-known-of S A K q h = by (is_known K q) (sym (ap is_some (connection-of S A q K)) ∙ h)
-  where
-    by : (b : Bool) → is_some (if b then Some (seen S q (A q)) else None) ≡ true → b ≡ true
-    by true k = refl
-    by false k = absurd (true≢false (sym k))
+is_some-if : {X : Type 0} (b : Bool) (x : X) → is_some (if b then Some x else None) ≡ b
+is_some-if true x = refl
+is_some-if false x = refl
+
+pub known-is : (S : List Send) (A : ℕ → Kept) (K : List ℕ) (q : ℕ) → is_known K q ≡ is_some (connection_of (connections_of S A K) q)
+known-is S A K q = sym (ap is_some (connection-of S A q K) ∙ is_some-if (is_known K q) (seen S q (A q)))
 
 -- a connection that a ledger shows opened is known
 pub opened-known : {shown ledger : Ledger} (S : List Send) (T : List (ℕ × Kept)) (conn : ℕ) → shown ≡ ledger → shown.connections ≡ connections_of S (account_at T) (keys_of T) → IsOpened ledger conn → is_known (keys_of T) conn ≡ true
 opened-known S T conn is same opened =
-    known-of S (account_at T) (keys_of T) conn (subst (λ (l : List Connection). IsSome (connection_of l conn)) same (subst (λ (l : Ledger). IsOpened l conn) (sym is) opened))
+    known-is S (account_at T) (keys_of T) conn ∙ (subst (λ (l : List Connection). IsSome (connection_of l conn)) same (subst (λ (l : Ledger). IsOpened l conn) (sym is) opened))
 
 pub unknown-of : (S : List Send) (A : ℕ → Kept) (K : List ℕ) (q : ℕ) → connection_of (connections_of S A K) q ≡ None → is_known K q ≡ false
-unknown-of S A K q h = by (is_known K q) (sym (ap is_some (connection-of S A q K)) ∙ ap is_some h)
-  where
-    by : (b : Bool) → is_some (if b then Some (seen S q (A q)) else None) ≡ false → b ≡ false
-    by true k = absurd (true≢false k)
-    by false k = refl
+unknown-of S A K q h = known-is S A K q ∙ ap is_some h
 
 -- accounts that show the same, or of which each shows a change
 pub connections-same : (S S' : List Send) (A A' : ℕ → Kept) (K : List ℕ) → ((q : ℕ) → seen S' q (A' q) ≡ seen S q (A q)) → connections_of S' A' K ≡ connections_of S A K
@@ -165,25 +160,20 @@ stamped_to-passed conn more connections q known =
 pub connection_of-push : (connections : List Connection) (new : Connection) (q : ℕ) → connection_of connections new.conn ≡ None
     → connection_of (connections ++ new ∷ []) q ≡ (if q == new.conn then Some new else connection_of connections q)
 unfolding connection_of
-connection_of-push [] new q none = refl
-connection_of-push (c ∷ connections) new q none = by (q == c.conn) refl (new.conn == c.conn) refl none (λ h. connection_of-push connections new q h) (q == new.conn) refl
+connection_of-push connections new q none = find-append (λ (c : Connection). q == c.conn) connections (new ∷ []) ∙ by (find (λ (c : Connection). q == c.conn) connections) refl (q == new.conn) refl
   where
-    by : (a : Bool) → q == c.conn ≡ a → (b : Bool) → new.conn == c.conn ≡ b → cond b (Some c) (connection_of connections new.conn) ≡ None
-        → (connection_of connections new.conn ≡ None → connection_of (connections ++ new ∷ []) q ≡ (if q == new.conn then Some new else connection_of connections q))
-        → (r : Bool) → q == new.conn ≡ r → cond a (Some c) (connection_of (connections ++ new ∷ []) q) ≡ (if r then Some new else cond a (Some c) (connection_of connections q))
-    by a pa true pb n ih r pr = absurd (let no : ⊥ = cc in no)
-    by true pa false pb n ih true pr = absurd (true≢false (sym (eq-eqb new.conn c.conn (sym (eqb-true q new.conn pr) ∙ eqb-true q c.conn pa)) ∙ pb))
-    by true pa false pb n ih false pr = refl
-    by false pa false pb n ih r pr = ih n ∙ ap (λ (x : Bool). if x then Some new else connection_of connections q) pr
+    by : (o : Option Connection) → connection_of connections q ≡ o → (r : Bool) → q == new.conn ≡ r → option_or o (cond r (Some new) None) ≡ (if r then Some new else o)
+    by None is true p = refl
+    by (Some c) is true p = absurd (none-some c (sym none ∙ ap (connection_of connections) (sym (eqb-true q new.conn p)) ∙ is))
+    by None is false p = refl
+    by (Some c) is false p = refl
 
 reading-push : {X : Type 0} (f : Connection → X) (d : X) (connections : List Connection) (new : Connection) (q : ℕ) → connection_of connections new.conn ≡ None → f new ≡ d
     → option_map_or f (connection_of (connections ++ new ∷ []) q) d ≡ option_map_or f (connection_of connections q) d
 reading-push f d connections new q none same =
-    ap (λ (o : Option Connection). option_map_or f o d) (connection_of-push connections new q none) ∙ by (q == new.conn) refl
-  where
-    by : (b : Bool) → q == new.conn ≡ b → option_map_or f (if b then Some new else connection_of connections q) d ≡ option_map_or f (connection_of connections q) d
-    by true p = same ∙ sym (ap (λ (o : Option Connection). option_map_or f o d) (ap (connection_of connections) (eqb-true q new.conn p) ∙ none))
-    by false p = refl
+    ap (λ (o : Option Connection). option_map_or f o d) (connection_of-push connections new q none) ∙ tested (q == new.conn)
+    (λ p. ap (λ (b : Bool). option_map_or f (if b then Some new else connection_of connections q) d) p ∙ same ∙ sym (ap (λ (o : Option Connection). option_map_or f o d) (ap (connection_of connections) (eqb-true q new.conn p) ∙ none)))
+    (λ p. ap (λ (b : Bool). option_map_or f (if b then Some new else connection_of connections q) d) p)
 
 pub stamped_to-push : (connections : List Connection) (conn q : ℕ) → connection_of connections conn ≡ None → stamped_to (connections ++ new_connection conn ∷ []) q ≡ stamped_to connections q
 unfolding stamped_to
@@ -202,13 +192,7 @@ is_open-push connections conn q none apart =
 -- connections without what was passed of sends
 pub connection_of-trimmed : (sends : List Send) (connections : List Connection) (q : ℕ) → connection_of (trimmed_connections sends connections) q ≡ option_map (trimmed_connection sends) (connection_of connections q)
 unfolding connection_of trimmed_connections
-connection_of-trimmed sends [] q = refl
-connection_of-trimmed sends (c ∷ connections) q = by (q == c.conn) (connection_of-trimmed sends connections q)
-  where
-    by : (b : Bool) → connection_of (trimmed_connections sends connections) q ≡ option_map (trimmed_connection sends) (connection_of connections q)
-        → cond b (Some (trimmed_connection sends c)) (connection_of (trimmed_connections sends connections) q) ≡ option_map (trimmed_connection sends) (cond b (Some c) (connection_of connections q))
-    by true ih = refl
-    by false ih = ih
+connection_of-trimmed sends connections q = find-map (λ (c : Connection). q == c.conn) (trimmed_connection sends) connections
 
 pub connection_of-conn : (connections : List Connection) (q : ℕ) (c : Connection) → connection_of connections q ≡ Some c → c.conn ≡ q
 unfolding connection_of

@@ -1,6 +1,6 @@
 -- Sends that lie in their connections' streams.
-use Rattle.reply_ledger.proofs.Terms.{Bool, List, [], add-one, ap, append-nil, append_assoc, arith, drop, false, get_or, if◌then◌else◌, inl, inr, length, length-append, map, refl, subst, suc, sym, take, true, zero, ℕ, ◌++◌, ◌+◌, ◌-◌, ◌<◌, ◌∙◌, ◌∷◌, ◌≡◌, ◌≤◌, drop-append_seam, drop-drop, get_or-append, get_or-append_seam, take-add, take-suc, cases_lt, eq-eqb, eqb-true, get_or-drop, length-take-le, map-append, take-append-drop, take-append-le, take_all, flat_map-append, AllByRecursion, ◌==◌, ◌⊎◌, Send, sent_to, Entry, Connection, IsInOrder, NotBefore, bytes_of, stamped_to, times_of, parts_behind, unpassed, Kept, passed_end, rest_of, send_of, sends_of, start_of, Laid, Writes, ending, given_up, is_known}
-use Rattle.reply_ledger.proofs.AccountLemmas.{put, put-same}
+use Rattle.reply_ledger.proofs.Terms.{Bool, List, [], add-one, ap, append-nil, append_assoc, arith, drop, false, get_or, if◌then◌else◌, inl, inr, length, length-append, map, refl, replicate, subst, suc, sym, take, true, zero, ℕ, ◌++◌, ◌+◌, ◌-◌, ◌<◌, ◌∙◌, ◌∷◌, ◌≡◌, ◌≤◌, get_or-append, drop-append_seam, get_or-append_seam, take-add, take-suc, cases_lt, eq-eqb, drop-drop, drop-map, get_or-drop, length-map, length-take-le, map-append, take-append-drop, take-append-le, take-map, take_all, flat_map-append, AllByRecursion, ◌==◌, ◌⊎◌, Send, sent_to, Entry, Connection, IsInOrder, NotBefore, bytes_of, stamped_to, times_of, parts_behind, unpassed, Kept, passed_end, rest_of, send_of, sends_of, start_of, Laid, Writes, ending, given_up, is_known}
+use Rattle.reply_ledger.proofs.AccountLemmas.{at-put, put, put-same}
 use Rattle.reply_ledger.proofs.RunLemmas.{length-bytes_of}
 
 pub sends_of-append : (xs ys : List Entry) → sends_of (xs ++ ys) ≡ sends_of xs ++ sends_of ys
@@ -9,20 +9,15 @@ sends_of-append xs ys = map-append send_of xs ys
 
 pub sends_of-take : (n : ℕ) (xs : List Entry) → sends_of (take n xs) ≡ take n (sends_of xs)
 unfolding sends_of
-sends_of-take zero xs = refl
-sends_of-take (suc n) [] = refl
-sends_of-take (suc n) (x ∷ xs) = ap (λ (l : List Send). send_of x ∷ l) (sends_of-take n xs)
+sends_of-take n xs = sym (take-map send_of n xs)
 
 pub sends_of-drop : (n : ℕ) (xs : List Entry) → sends_of (drop n xs) ≡ drop n (sends_of xs)
 unfolding sends_of
-sends_of-drop zero xs = refl
-sends_of-drop (suc n) [] = refl
-sends_of-drop (suc n) (x ∷ xs) = sends_of-drop n xs
+sends_of-drop n xs = sym (drop-map send_of n xs)
 
 pub length-sends_of : (xs : List Entry) → length (sends_of xs) ≡ length xs
 unfolding sends_of
-length-sends_of [] = refl
-length-sends_of (x ∷ xs) = ap suc (length-sends_of xs)
+length-sends_of xs = length-map xs send_of
 
 pub sent_to-append : (conn : ℕ) (xs ys : List Send) → sent_to conn (xs ++ ys) ≡ sent_to conn xs ++ sent_to conn ys
 sent_to-append conn xs ys = flat_map-append (λ (send : Send). if send.conn == conn then send.bytes else []) xs ys
@@ -49,6 +44,9 @@ length_one conn e = ap length (of_one conn e) ∙ by (e.conn == conn)
     by true = refl
     by false = refl
 
+pub length_here : (e : Entry) → length (sent_to e.conn (sends_of (e ∷ []))) ≡ length e.bytes
+length_here e = length_one e.conn e ∙ ap (λ (b : Bool). if b then length e.bytes else 0) (eq-eqb e.conn e.conn refl)
+
 -- order
 pub order-front : (xs ys : List ℕ) → IsInOrder (xs ++ ys) → IsInOrder xs
 order-front [] ys h = tt
@@ -62,13 +60,17 @@ pub order-behind : (xs ys : List ℕ) → IsInOrder (xs ++ ys) → IsInOrder ys
 order-behind [] ys h = h
 order-behind (x ∷ xs) ys h = order-behind xs ys h.1
 
+pub all-both : {X : Type 0} (P : X → Type 0) (xs ys : List X) → AllByRecursion P xs → AllByRecursion P ys → AllByRecursion P (xs ++ ys)
+all-both P [] ys h k = k
+all-both P (x ∷ xs) ys h k = (h.0, all-both P xs ys h.1 k)
+
+pub all-replicate : (P : ℕ → Type 0) (n s : ℕ) → P s → AllByRecursion P (replicate n s)
+all-replicate P zero s h = tt
+all-replicate P (suc n) s h = (h, all-replicate P n s h)
+
 pub order-push : (xs : List ℕ) (y : ℕ) → IsInOrder xs → NotBefore y xs → IsInOrder (xs ++ y ∷ [])
 order-push [] y h n = (tt, tt)
-order-push (x ∷ xs) y h n = (all-push (λ z. x ≤ z) xs y h.0 n.0, order-push xs y h.1 n.1)
-  where
-    all-push : (P : ℕ → Type 0) (xs : List ℕ) (y : ℕ) → AllByRecursion P xs → P y → AllByRecursion P (xs ++ y ∷ [])
-    all-push P [] y h p = (p, tt)
-    all-push P (x ∷ xs) y h p = (h.0, all-push P xs y h.1 p)
+order-push (x ∷ xs) y h n = (all-both (λ z. x ≤ z) xs (y ∷ []) h.0 (n.0, tt), order-push xs y h.1 n.1)
 
 pub times_of-append : (xs ys : List Send) → times_of (xs ++ ys) ≡ times_of xs ++ times_of ys
 unfolding times_of
@@ -118,7 +120,7 @@ laid-push {A = A} {K = K} {E = E} e h known s n = record {
   where
     last : e.end ≡ (A e.conn).earlier + length (sent_to e.conn (sends_of (E ++ e ∷ [])))
     last =
-        let one : length (sent_to e.conn (sends_of (e ∷ []))) ≡ length e.bytes = length_one e.conn e ∙ ap (λ (b : Bool). if b then length e.bytes else 0) (eq-eqb e.conn e.conn refl) in
+        let one : length (sent_to e.conn (sends_of (e ∷ []))) ≡ length e.bytes = length_here e in
         omega (arith, s, one, length_parts e.conn E (e ∷ []))
 
     place : (P : Entry → List Entry → Type 0) (k : ℕ) (d : Entry) → (k < length E) ⊎ (length E ≤ k) → k < length (E ++ e ∷ [])
@@ -193,17 +195,10 @@ pub writes-push : {A : ℕ → Kept} {K : List ℕ} {W : List Entry} (e : Entry)
     → Writes (put A e.conn (record (A e.conn) { end = e.end })) K (W ++ e ∷ [])
 writes-push {A = A} {K = K} {W = W} e h known s n = record {
   laid = laid-same (put-same (λ (k : Kept). k.earlier) A e.conn (record (A e.conn) { end = e.end }) refl) (λ q x. x) (laid-push e h.laid known (omega (arith, s, h.ends e.conn)) n);
-  ends = λ q. ends q (e.conn == q) refl;
+  ends = at-put (λ q x. x.end ≡ x.earlier + length (sent_to q (sends_of (W ++ e ∷ [])))) A e.conn (record (A e.conn) { end = e.end })
+      (omega (arith, s, h.ends e.conn, length_parts e.conn W (e ∷ []), length_here e))
+      (λ q none. omega (arith, h.ends q, length_parts q W (e ∷ []), length_one q e, ap (λ (b : Bool). if b then length e.bytes else 0) none));
 }
-  where
-    ends : (q : ℕ) (b : Bool) → e.conn == q ≡ b → (if b then record (A e.conn) { end = e.end } else A q).end ≡ (if b then record (A e.conn) { end = e.end } else A q).earlier + length (sent_to q (sends_of (W ++ e ∷ [])))
-    ends q true p =
-        let one : length (sent_to e.conn (sends_of (e ∷ []))) ≡ length e.bytes = length_one e.conn e ∙ ap (λ (b : Bool). if b then length e.bytes else 0) (eq-eqb e.conn e.conn refl) in
-        let all : e.end ≡ (A e.conn).earlier + length (sent_to e.conn (sends_of (W ++ e ∷ []))) = omega (arith, s, one, h.ends e.conn, length_parts e.conn W (e ∷ [])) in
-        all ∙ ap (λ (c : ℕ). (A e.conn).earlier + length (sent_to c (sends_of (W ++ e ∷ [])))) (eqb-true e.conn q p)
-    ends q false p =
-        let one : length (sent_to q (sends_of (e ∷ []))) ≡ 0 = length_one q e ∙ ap (λ (b : Bool). if b then length e.bytes else 0) p in
-        omega (arith, one, h.ends q, length_parts q W (e ∷ []))
 
 -- the unpassed parts of sends
 pub parts-laid : (C : List Connection) (A : ℕ → Kept) → ((q : ℕ) → length (stamped_to C q) ≡ length (A q).stamps) → (front E : List Entry)
@@ -212,7 +207,7 @@ pub parts-laid : (C : List Connection) (A : ℕ → Kept) → ((q : ℕ) → len
 unfolding parts_behind unpassed sends_of
 parts-laid C A long front [] h = refl
 parts-laid C A long front (e ∷ E) h =
-    let one : length (sent_to e.conn (sends_of (e ∷ []))) ≡ length e.bytes = length_one e.conn e ∙ ap (λ (b : Bool). if b then length e.bytes else 0) (eq-eqb e.conn e.conn refl) in
+    let one : length (sent_to e.conn (sends_of (e ∷ []))) ≡ length e.bytes = length_here e in
     let place : length (bytes_of (stamped_to C e.conn)) - length (sent_to e.conn (sends_of front)) ≡ passed_end (A e.conn) - start_of e =
     omega (arith, h 0 e (omega arith), one, length_parts e.conn front (e ∷ []), length-bytes_of (stamped_to C e.conn), long e.conn) in
     let rest : (k : ℕ) (d : Entry) → k < length E → (get_or E k d).end ≡ (A (get_or E k d).conn).earlier + length (sent_to (get_or E k d).conn (sends_of ((front ++ e ∷ []) ++ take (suc k) E))) =
@@ -225,20 +220,15 @@ unfolding sends_of
 ending-none A E q = let e : (A q).earlier + 0 ≡ (A q).earlier = omega arith in ap (λ (n : ℕ). record (A q) { end = n }) e
 
 pub ending-more : {A : ℕ → Kept} {K : List ℕ} {E : List Entry} (B : ℕ → Kept) (n : ℕ) (e : Entry) → Laid A K E → n < length E → e ≡ get_or E n e → ((q : ℕ) → B q ≡ ending A (take n E) q) → (q : ℕ) → put B e.conn (record (B e.conn) { end = e.end }) q ≡ ending A (take (suc n) E) q
-ending-more {A = A} {E = E} B n e h lt is at q = by (e.conn == q) refl
+ending-more {A = A} {E = E} B n e h lt is at = at-put (λ q x. x ≡ ending A (take (suc n) E) q) B e.conn (record (B e.conn) { end = e.end })
+    (ap (λ (k : Kept). record k { end = e.end }) (at e.conn) ∙ ap (λ (m : ℕ). record (A e.conn) { end = m }) place)
+    (λ q none.
+    let same : (A q).earlier + length (sent_to q (sends_of (take n E))) ≡ (A q).earlier + length (sent_to q (sends_of (take (suc n) E))) =
+    omega (arith, one_more q n e E lt, ap (λ (x : Entry). if x.conn == q then length x.bytes else 0) (sym is), ap (λ (b : Bool). if b then length e.bytes else 0) none) in
+    at q ∙ ap (λ (m : ℕ). record (A q) { end = m }) same)
   where
     place : e.end ≡ (A e.conn).earlier + length (sent_to e.conn (sends_of (take (suc n) E)))
     place = subst (λ (x : Entry). x.end ≡ (A x.conn).earlier + length (sent_to x.conn (sends_of (take (suc n) E)))) (sym is) (h.places n e lt)
-
-    by : (b : Bool) → e.conn == q ≡ b → (if b then record (B e.conn) { end = e.end } else B q) ≡ ending A (take (suc n) E) q
-    by true p =
-        ap (λ (k : Kept). record k { end = e.end }) (at e.conn) ∙ ap (λ (m : ℕ). record (A e.conn) { end = m }) place
-        ∙ ap (λ (c : ℕ). ending A (take (suc n) E) c) (eqb-true e.conn q p)
-    by false p =
-        let one = one_more q n e E lt in
-        let none : (if (get_or E n e).conn == q then length (get_or E n e).bytes else 0) ≡ 0 = ap (λ (x : Entry). if x.conn == q then length x.bytes else 0) (sym is) ∙ ap (λ (b : Bool). if b then length e.bytes else 0) p in
-        let same : (A q).earlier + length (sent_to q (sends_of (take n E))) ≡ (A q).earlier + length (sent_to q (sends_of (take (suc n) E))) = omega (arith, one, none) in
-        at q ∙ ap (λ (m : ℕ). record (A q) { end = m }) same
 
 -- accounts without what was passed of the first so many sends
 pub given-none : (A : ℕ → Kept) (E : List Entry) (q : ℕ) → given_up A (take 0 E) q ≡ A q
@@ -258,7 +248,7 @@ given-known {K = K} {E = E} {rest = rest} n e h first =
 
 pub given-fits : {A : ℕ → Kept} {K : List ℕ} {E rest : List Entry} (B : ℕ → Kept) (n : ℕ) (e : Entry) → Writes A K E → drop n E ≡ e ∷ rest → ((q : ℕ) → B q ≡ given_up A (take n E) q) → (B e.conn).earlier + length e.bytes ≤ (B e.conn).end
 given-fits {E = E} {rest = rest} B n e h first at =
-    let one : length (sent_to e.conn (sends_of (e ∷ []))) ≡ length e.bytes = length_one e.conn e ∙ ap (λ (b : Bool). if b then length e.bytes else 0) (eq-eqb e.conn e.conn refl) in
+    let one : length (sent_to e.conn (sends_of (e ∷ []))) ≡ length e.bytes = length_here e in
     omega (
       arith,
       ap (λ (k : Kept). k.earlier) (at e.conn),
@@ -272,22 +262,19 @@ given-fits {E = E} {rest = rest} B n e h first at =
 
 pub given-more : (A : ℕ → Kept) (E : List Entry) {rest : List Entry} (B : ℕ → Kept) (n m : ℕ) (e : Entry) → drop n E ≡ e ∷ rest → m ≡ length e.bytes → ((q : ℕ) → B q ≡ given_up A (take n E) q)
     → (q : ℕ) → put B e.conn (record (B e.conn) { earlier = (B e.conn).earlier + m; stamps = drop m (B e.conn).stamps }) q ≡ given_up A (take (n + 1) E) q
-given-more A E {rest = rest} B n m e first long at q = by (e.conn == q) refl
+given-more A E {rest = rest} B n m e first long at = at-put (λ q x. x ≡ given_up A (take (n + 1) E) q) B e.conn (record (B e.conn) { earlier = (B e.conn).earlier + m; stamps = drop m (B e.conn).stamps })
+    (ap (λ (k : Kept). record k { earlier = k.earlier + m; stamps = drop m k.stamps }) (at e.conn) ∙ moved e.conn m (omega (arith, more e.conn, long, ap (λ (b : Bool). if b then length e.bytes else 0) (eq-eqb e.conn e.conn refl))))
+    (λ q none. let same : length (sent_to q (sends_of (take (n + 1) E))) ≡ length (sent_to q (sends_of (take n E))) = omega (arith, more q, ap (λ (b : Bool). if b then length e.bytes else 0) none) in
+    at q ∙ (λ i. record (A q) { earlier = (A q).earlier + sym same i; stamps = drop (sym same i) (A q).stamps }))
   where
     there : (n < length E) × (e ≡ get_or E n e)
     there = at_front n E rest e first
 
-    more : length (sent_to q (sends_of (take (n + 1) E))) ≡ length (sent_to q (sends_of (take n E))) + (if e.conn == q then length e.bytes else 0)
-    more = ap (λ (k : ℕ). length (sent_to q (sends_of (take k E)))) (add-one n) ∙ one_more q n e E there.0 ∙ ap (λ (x : Entry). length (sent_to q (sends_of (take n E))) + (if x.conn == q then length x.bytes else 0)) (sym there.1)
+    more : (q : ℕ) → length (sent_to q (sends_of (take (n + 1) E))) ≡ length (sent_to q (sends_of (take n E))) + (if e.conn == q then length e.bytes else 0)
+    more q = ap (λ (k : ℕ). length (sent_to q (sends_of (take k E)))) (add-one n) ∙ one_more q n e E there.0 ∙ ap (λ (x : Entry). length (sent_to q (sends_of (take n E))) + (if x.conn == q then length x.bytes else 0)) (sym there.1)
 
-    by : (b : Bool) → e.conn == q ≡ b → (if b then record (B e.conn) { earlier = (B e.conn).earlier + m; stamps = drop m (B e.conn).stamps } else B q) ≡ given_up A (take (n + 1) E) q
-    by true p =
-        let count : length (sent_to q (sends_of (take (n + 1) E))) ≡ length (sent_to q (sends_of (take n E))) + m = more ∙ ap (λ (b : Bool). length (sent_to q (sends_of (take n E))) + (if b then length e.bytes else 0)) p ∙ ap (λ (k : ℕ). length (sent_to q (sends_of (take n E))) + k) (sym long) in
-        let place : (A q).earlier + length (sent_to q (sends_of (take n E))) + m ≡ (A q).earlier + length (sent_to q (sends_of (take (n + 1) E))) = omega (arith, count) in
-        let left : drop m (drop (length (sent_to q (sends_of (take n E)))) (A q).stamps) ≡ drop (length (sent_to q (sends_of (take (n + 1) E)))) (A q).stamps =
-        drop-drop m (length (sent_to q (sends_of (take n E)))) (A q).stamps ∙ ap (λ (k : ℕ). drop k (A q).stamps) (sym count) in
-        ap (λ (c : ℕ). record (B c) { earlier = (B c).earlier + m; stamps = drop m (B c).stamps }) (eqb-true e.conn q p) ∙ ap (λ (k : Kept). record k { earlier = k.earlier + m; stamps = drop m k.stamps }) (at q)
-        ∙ (λ i. record (A q) { earlier = place i; stamps = left i })
-    by false p =
-        let count : length (sent_to q (sends_of (take (n + 1) E))) ≡ length (sent_to q (sends_of (take n E))) = more ∙ ap (λ (b : Bool). length (sent_to q (sends_of (take n E))) + (if b then length e.bytes else 0)) p ∙ (let z : length (sent_to q (sends_of (take n E))) + 0 ≡ length (sent_to q (sends_of (take n E))) = omega arith in z) in
-        at q ∙ (λ i. record (A q) { earlier = (A q).earlier + sym count i; stamps = drop (sym count i) (A q).stamps })
+    moved : (q m : ℕ) → length (sent_to q (sends_of (take n E))) + m ≡ length (sent_to q (sends_of (take (n + 1) E)))
+        → record (given_up A (take n E) q) { earlier = (given_up A (take n E) q).earlier + m; stamps = drop m (given_up A (take n E) q).stamps } ≡ given_up A (take (n + 1) E) q
+    moved q m sum =
+        let place : (A q).earlier + length (sent_to q (sends_of (take n E))) + m ≡ (A q).earlier + length (sent_to q (sends_of (take (n + 1) E))) = omega (arith, sum) in
+        (λ i. record (A q) { earlier = place i; stamps = (drop-drop m (length (sent_to q (sends_of (take n E)))) (A q).stamps ∙ ap (λ (k : ℕ). drop k (A q).stamps) sum) i })

@@ -1,9 +1,10 @@
 -- Which part of the survivor's sends is found first, what of each connection was passed before it, and what is left when it was.
 use Rattle.std.specs.Prelude.{is_some}
-use Rattle.reply_ledger.proofs.Terms.{Bool, List, None, Option, Some, [], ap, append-nil, append_assoc, arith, cond, drop, eqb, false, if◌then◌else◌, length, length-append, length-drop, not, refl, subst, sym, take, true, ℕ, ◌&&◌, ◌++◌, ◌+◌, ◌-◌, ◌<◌, ◌∙◌, ◌∷◌, ◌≡◌, ◌≤◌, drop-append-add, and_from, and_parts, eq-eqb, eqb-true, le-leb, leb-true, ltb-false, ltb-true, true≢false, drop-append-le, take-append-le, none-some, same_Some, AllByRecursion, option_map, option_map_or, IsSome, find, nat_le, Send, sent_to, Connection, IsInOrder, Ledger, Passed, bytes_of, changed, connection_of, gone_connection, is_open, passed_connection, stamped_to, times_of, is_left, next_part, parts_behind, rest_part, unpassed, waits}
+use Rattle.reply_ledger.proofs.Terms.{Bool, List, None, Option, Some, [], ap, append-nil, append_assoc, arith, cond, drop, eqb, false, if◌then◌else◌, length, length-append, length-drop, not, refl, subst, sym, take, true, ℕ, ◌&&◌, ◌++◌, ◌+◌, ◌-◌, ◌<◌, ◌∙◌, ◌∷◌, ◌≡◌, ◌≤◌, drop-append-add, and_from, and_parts, and_right, eq-eqb, eqb-true, le-leb, leb-true, ltb-false, ltb-true, true≢false, drop-append-le, take-append-le, none-some, same_Some, AllByRecursion, option_map, option_map_or, IsSome, find, nat_le, Send, sent_to, Connection, IsInOrder, Ledger, Passed, bytes_of, changed, connection_of, gone_connection, is_open, passed_connection, stamped_to, times_of, is_left, next_part, parts_behind, rest_part, unpassed, waits}
 use Rattle.reply_ledger.proofs.ConnectionLemmas.{connection_of-changed, connection_of-conn}
 use Rattle.reply_ledger.proofs.RunLemmas.{length-bytes_of}
 use Rattle.reply_ledger.proofs.EntryLemmas.{sent_to-append}
+use Rattle.reply_ledger.proofs.PositionLemmas.{tested}
 
 -- how many bytes of a connection were passed
 abbrev pub come : List Connection → ℕ → ℕ
@@ -16,63 +17,37 @@ pub record Found (p : Send → Bool) (connections : List Connection) (front send
   pub later : List Send
   pub split : sends ≡ before ++ send ∷ later
   pub is : part ≡ unpassed connections (front ++ before) send
-  pub holds : p part ≡ true
-  pub none : (x : List Send) (y : Send) (z : List Send) → before ≡ x ++ y ∷ z → p (unpassed connections (front ++ x) y) ≡ false
+  pub none : find p (parts_behind connections front before) ≡ None
 
-found_here : (p : Send → Bool) (C : List Connection) (front sends : List Send) (send part : Send) → p (unpassed C front send) ≡ true → Some (unpassed C front send) ≡ Some part → Found p C front (send ∷ sends) part
-found_here p C front sends send part test is = record {
-  before = [];
-  send = send;
-  later = sends;
-  split = refl;
-  is = sym (same_Some (unpassed C front send) part is) ∙ ap (λ (f : List Send). unpassed C f send) (sym (append-nil front));
-  holds = ap p (sym (same_Some (unpassed C front send) part is)) ∙ test;
-  none = (λ x y z e. absurd (omega (arith, ap length e, length-append x (y ∷ z))));
-}
-
-found_later : (p : Send → Bool) (C : List Connection) (front sends : List Send) (send part : Send) → p (unpassed C front send) ≡ false → Found p C (front ++ send ∷ []) sends part → Found p C front (send ∷ sends) part
-found_later p C front sends send part test found = record {
-  before = send ∷ found.before;
-  send = found.send;
-  later = found.later;
-  split = ap (λ (l : List Send). send ∷ l) found.split;
-  is = found.is ∙ ap (λ (f : List Send). unpassed C f found.send) (append_assoc front (send ∷ []) found.before);
-  holds = found.holds;
-  none = none;
-}
-  where
-    none : (x : List Send) (y : Send) (z : List Send) → send ∷ found.before ≡ x ++ y ∷ z → p (unpassed C (front ++ x) y) ≡ false
-    none [] y z e = let same : send ≡ y = (cc (e)) in (λ i. p (unpassed C (append-nil front i) (sym same i))) ∙ test
-    none (first ∷ x) y z e =
-        let same : send ≡ first = (cc (e)) in
-        let rest : found.before ≡ x ++ y ∷ z = (cc (e)) in
-        ap (λ (f : List Send). p (unpassed C f y)) (ap (λ (s : Send). front ++ s ∷ x) (sym same) ∙ sym (append_assoc front (send ∷ []) x)) ∙ found.none x y z rest
-
-pub parts_found : (p : Send → Bool) (C : List Connection) (front sends : List Send) (part : Send) → find p (parts_behind C front sends) ≡ Some part → Found p C front sends part
+pub parts_found : (p : Send → Bool) (C : List Connection) (front sends : List Send) (part : Send) → find p (parts_behind C front sends) ≡ Some part → Found p C front sends part × (p part ≡ true)
 unfolding parts_behind
 parts_found p C front [] part h = absurd (none-some part h)
-parts_found p C front (send ∷ sends) part h = by (p (unpassed C front send)) refl h (parts_found p C (front ++ send ∷ []) sends part)
-  where
-    by : (b : Bool) → p (unpassed C front send) ≡ b → cond b (Some (unpassed C front send)) (find p (parts_behind C (front ++ send ∷ []) sends)) ≡ Some part
-        → (find p (parts_behind C (front ++ send ∷ []) sends) ≡ Some part → Found p C (front ++ send ∷ []) sends part) → Found p C front (send ∷ sends) part
-    by true test is ih = found_here p C front sends send part test is
-    by false test is ih = found_later p C front sends send part test (ih is)
+parts_found p C front (send ∷ sends) part h =
+    tested (p (unpassed C front send))
+    (λ t. let same : part ≡ unpassed C front send = sym (same_Some (unpassed C front send) part (subst (λ (b : Bool). cond b (Some (unpassed C front send)) (find p (parts_behind C (front ++ send ∷ []) sends)) ≡ Some part) t h)) in
+    (record { before = []; send = send; later = sends; split = refl; is = same ∙ ap (λ (f : List Send). unpassed C f send) (sym (append-nil front)); none = refl }, ap p same ∙ t))
+    (λ f. let rest = parts_found p C (front ++ send ∷ []) sends part (subst (λ (b : Bool). cond b (Some (unpassed C front send)) (find p (parts_behind C (front ++ send ∷ []) sends)) ≡ Some part) f h) in (
+      record {
+        before = send ∷ (rest.0).before;
+        send = (rest.0).send;
+        later = (rest.0).later;
+        split = ap (λ (l : List Send). send ∷ l) (rest.0).split;
+        is = (rest.0).is ∙ ap (λ (f : List Send). unpassed C f (rest.0).send) (append_assoc front (send ∷ []) (rest.0).before);
+        none = ap (λ (b : Bool). cond b (Some (unpassed C front send)) (find p (parts_behind C (front ++ send ∷ []) (rest.0).before))) f ∙ (rest.0).none;
+      },
+      rest.1,
+    ))
 
 -- where none is found, none passes the test
-pub parts_none : (p : Send → Bool) (C : List Connection) (front sends : List Send) → find p (parts_behind C front sends) ≡ None → (x : List Send) (y : Send) (z : List Send) → sends ≡ x ++ y ∷ z → p (unpassed C (front ++ x) y) ≡ false
+passed_over : (b : Bool) (part : Send) (rest : Option Send) → cond b (Some part) rest ≡ None → (b ≡ false) × (rest ≡ None)
+passed_over true part rest h = absurd (none-some part (sym h))
+passed_over false part rest h = (refl, h)
+
+pub parts_none : (p : Send → Bool) (C : List Connection) (front x : List Send) (y : Send) (z : List Send) → find p (parts_behind C front (x ++ y ∷ z)) ≡ None → p (unpassed C (front ++ x) y) ≡ false
 unfolding parts_behind
-parts_none p C front [] h x y z e = absurd (omega (arith, ap length e, length-append x (y ∷ z)))
-parts_none p C front (send ∷ sends) h x y z e = by (p (unpassed C front send)) refl h (λ is x rest. parts_none p C (front ++ send ∷ []) sends is x y z rest) x e
-  where
-    by : (b : Bool) → p (unpassed C front send) ≡ b → cond b (Some (unpassed C front send)) (find p (parts_behind C (front ++ send ∷ []) sends)) ≡ None
-        → (find p (parts_behind C (front ++ send ∷ []) sends) ≡ None → (x : List Send) → sends ≡ x ++ y ∷ z → p (unpassed C ((front ++ send ∷ []) ++ x) y) ≡ false)
-        → (x : List Send) → send ∷ sends ≡ x ++ y ∷ z → p (unpassed C (front ++ x) y) ≡ false
-    by true test is ih x e = absurd (none-some (unpassed C front send) (sym is))
-    by false test is ih [] e = let same : send ≡ y = (cc (e)) in (λ i. p (unpassed C (append-nil front i) (sym same i))) ∙ test
-    by false test is ih (first ∷ x) e =
-        let same : send ≡ first = (cc (e)) in
-        let rest : sends ≡ x ++ y ∷ z = (cc (e)) in
-        ap (λ (f : List Send). p (unpassed C f y)) (ap (λ (s : Send). front ++ s ∷ x) (sym same) ∙ sym (append_assoc front (send ∷ []) x)) ∙ ih is x rest
+parts_none p C front [] y z h = ap (λ (f : List Send). p (unpassed C f y)) (append-nil front) ∙ (passed_over (p (unpassed C front y)) _ _ h).0
+parts_none p C front (first ∷ x) y z h =
+    ap (λ (f : List Send). p (unpassed C f y)) (sym (append_assoc front (first ∷ []) x)) ∙ parts_none p C (front ++ first ∷ []) x y z (passed_over (p (unpassed C front first)) _ _ h).1
 
 -- nothing is left of a send: its connection was passed all of it, unless it is empty
 pub not_left : (C : List Connection) (before : List Send) (send : Send) → is_left (unpassed C before send) ≡ false → length send.bytes ≤ come C send.conn - length (sent_to send.conn before)
@@ -139,21 +114,16 @@ next_bytes C conn kept before later send count split is past within few =
     ∙ take-append-le count (drop n send.bytes) (sent_to conn later) room ∙ ap (take count) (sym same)
 
 -- an open connection, as it stands
-pub record StandsOpen (C : List Connection) (conn : ℕ) : Type 0 where
-  pub one : Connection
-  pub is : connection_of C conn ≡ Some one
-  pub opened : (not one.closed && not one.gone) ≡ true
-
-pub stands_open : (C : List Connection) (conn : ℕ) → is_open C conn ≡ true → StandsOpen C conn
+stands_open : (C : List Connection) (conn : ℕ) → is_open C conn ≡ true → (one : Connection) × (connection_of C conn ≡ Some one) × ((not one.closed && not one.gone) ≡ true)
 unfolding is_open
 stands_open C conn h = by (connection_of C conn) refl h
   where
-    by : (o : Option Connection) → connection_of C conn ≡ o → option_map_or (λ (c : Connection). not c.closed && not c.gone) o false ≡ true → StandsOpen C conn
+    by : (o : Option Connection) → connection_of C conn ≡ o → option_map_or (λ (c : Connection). not c.closed && not c.gone) o false ≡ true → (one : Connection) × (connection_of C conn ≡ Some one) × ((not one.closed && not one.gone) ≡ true)
     by None is k = absurd (true≢false (sym k))
-    by (Some c) is k = record { one = c; is = is; opened = k }
+    by (Some c) is k = (c, is, k)
 
 pub opened_known : (C : List Connection) (conn : ℕ) → is_open C conn ≡ true → IsSome (connection_of C conn)
-opened_known C conn h = let stands = stands_open C conn h in ap is_some stands.is
+opened_known C conn h = ap is_some (stands_open C conn h).1
 
 -- how much may still be passed to a connection, and that it may be gone
 abbrev pub room_of : List Send → Connection → ℕ
@@ -193,24 +163,23 @@ room_if true m n h = h
 room_if false m n h = omega arith
 
 -- passing makes no room, and where some bytes were passed it makes less
+passing : (kept : List Send) (more : List Passed) (c : Connection) → room_of kept (passed_connection more c) ≤ room_of kept c
+passing kept more c = room_if (not c.closed && not c.gone) (1 + (length (sent_to c.conn kept) - length c.passed)) (1 + (length (sent_to c.conn kept) - length (c.passed ++ more))) (omega (arith, length-append c.passed more))
+
 pub room_passed : (kept : List Send) (conn : ℕ) (more : List Passed) (C : List Connection) → room kept (changed conn (passed_connection more) C) ≤ room kept C
-room_passed kept conn more C = room_stays kept conn (passed_connection more)
-    (λ c. room_if (not c.closed && not c.gone) (1 + (length (sent_to c.conn kept) - length c.passed)) (1 + (length (sent_to c.conn kept) - length (c.passed ++ more))) (omega (arith, length-append c.passed more))) C
+room_passed kept conn more C = room_stays kept conn (passed_connection more) (passing kept more) C
+
+room_opened : (kept : List Send) (c : Connection) → (not c.closed && not c.gone) ≡ true → room_of kept c ≡ 1 + (length (sent_to c.conn kept) - length c.passed)
+room_opened kept c opened = ap (λ (b : Bool). cond b (1 + (length (sent_to c.conn kept) - length c.passed)) 0) opened
 
 pub room_passed_some : (kept : List Send) (conn : ℕ) (more : List Passed) (C : List Connection) → is_open C conn ≡ true → 0 < length more → come C conn + length more ≤ length (sent_to conn kept) → room kept (changed conn (passed_connection more) C) < room kept C
 unfolding stamped_to
 room_passed_some kept conn more C opened some fits =
-    let stands : StandsOpen C conn = stands_open C conn opened in
-    let one : Connection = stands.one in
-    let place : one.conn ≡ conn = connection_of-conn C conn one stands.is in
-    let long : come C conn ≡ length one.passed = length-bytes_of (stamped_to C conn) ∙ ap (λ (o : Option Connection). length (option_map_or (λ (c : Connection). c.passed) o [])) stands.is in
-    let total : length (sent_to one.conn kept) ≡ length (sent_to conn kept) = ap (λ (c : ℕ). length (sent_to c kept)) place in
-    let old : room_of kept one ≡ 1 + (length (sent_to one.conn kept) - length one.passed) = ap (λ (b : Bool). cond b (1 + (length (sent_to one.conn kept) - length one.passed)) 0) stands.opened in
-    let new : room_of kept (passed_connection more one) ≡ 1 + (length (sent_to one.conn kept) - length (one.passed ++ more)) =
-    ap (λ (b : Bool). cond b (1 + (length (sent_to one.conn kept) - length (one.passed ++ more))) 0) stands.opened in
-    room_falls kept conn (passed_connection more)
-    (λ c. room_if (not c.closed && not c.gone) (1 + (length (sent_to c.conn kept) - length c.passed)) (1 + (length (sent_to c.conn kept) - length (c.passed ++ more))) (omega (arith, length-append c.passed more))) C one stands.is
-    (omega (arith, old, new, length-append one.passed more, long, total, some, fits))
+    let stands = stands_open C conn opened in
+    let long : come C conn ≡ length (stands.0).passed = length-bytes_of (stamped_to C conn) ∙ ap (λ (o : Option Connection). length (option_map_or (λ (c : Connection). c.passed) o [])) stands.1 in
+    let total : length (sent_to (stands.0).conn kept) ≡ length (sent_to conn kept) = ap (λ (c : ℕ). length (sent_to c kept)) (connection_of-conn C conn stands.0 stands.1) in
+    room_falls kept conn (passed_connection more) (passing kept more) C stands.0 stands.1
+    (omega (arith, room_opened kept stands.0 stands.2, room_opened kept (passed_connection more stands.0) stands.2, length-append (stands.0).passed more, long, total, some, fits))
 
 -- a connection that is gone has none
 no_room : (a : Bool) (n : ℕ) → cond (a && false) n 0 ≡ 0
@@ -219,11 +188,9 @@ no_room false n = refl
 
 pub room_gone : (kept : List Send) (conn : ℕ) (C : List Connection) → is_open C conn ≡ true → room kept (changed conn gone_connection C) < room kept C
 room_gone kept conn C opened =
-    let stands : StandsOpen C conn = stands_open C conn opened in
-    let one : Connection = stands.one in
-    let old : room_of kept one ≡ 1 + (length (sent_to one.conn kept) - length one.passed) = ap (λ (b : Bool). cond b (1 + (length (sent_to one.conn kept) - length one.passed)) 0) stands.opened in
-    room_falls kept conn gone_connection (λ c. omega (arith, no_room (not c.closed) (1 + (length (sent_to c.conn kept) - length c.passed)))) C one stands.is
-    (omega (arith, old, no_room (not one.closed) (1 + (length (sent_to one.conn kept) - length one.passed))))
+    let stands = stands_open C conn opened in
+    room_falls kept conn gone_connection (λ c. omega (arith, no_room (not c.closed) (1 + (length (sent_to c.conn kept) - length c.passed)))) C stands.0 stands.1
+    (omega (arith, room_opened kept stands.0 stands.2, no_room (not (stands.0).closed) (1 + (length (sent_to (stands.0).conn kept) - length (stands.0).passed))))
 
 -- which connections are open when one is gone
 pub is_open-gone : (conn : ℕ) (C : List Connection) (q : ℕ) → is_open (changed conn gone_connection C) q ≡ (is_open C q && not (eqb conn q))
@@ -231,18 +198,13 @@ unfolding is_open
 is_open-gone conn C q =
     ap (λ (o : Option Connection). option_map_or (λ (c : Connection). not c.closed && not c.gone) o false) (connection_of-changed conn gone_connection (λ c. refl) q C) ∙ by (eqb conn q) (connection_of C q)
   where
-    last : (a : Bool) (g : Bool) → (a && false) ≡ ((a && not g) && false)
-    last true true = refl
-    last true false = refl
-    last false g = refl
-
     same : (a : Bool) → a ≡ (a && true)
     same true = refl
     same false = refl
 
     by : (b : Bool) (o : Option Connection) → option_map_or (λ (c : Connection). not c.closed && not c.gone) (cond b (option_map gone_connection o) o) false ≡ (option_map_or (λ (c : Connection). not c.closed && not c.gone) o false && not b)
     by true None = refl
-    by true (Some c) = last (not c.closed) c.gone
+    by true (Some c) = and_right (not c.closed) false refl ∙ sym (and_right (not c.closed && not c.gone) false refl)
     by false None = refl
     by false (Some c) = same (not c.closed && not c.gone)
 
@@ -328,36 +290,32 @@ is_next_says ledger until before send h =
 pub isnt_next_says : (ledger : Ledger) (until : ℕ) (before : List Send) (send : Send) → may_be_next ledger until (unpassed ledger.connections before send) ≡ false → is_open ledger.connections send.conn ≡ true → send.taken ≤ until
     → is_left (unpassed ledger.connections before send) ≡ false
 unfolding unpassed waits
-isnt_next_says ledger until before send h opened in_time = of (is_left (unpassed ledger.connections before send)) refl
-  where
-    of : (b : Bool) → is_left (unpassed ledger.connections before send) ≡ b → b ≡ false
-    of true is = absurd (true≢false (sym (and_from (is_open ledger.connections send.conn && is_left (unpassed ledger.connections before send)) (nat_le send.taken until) (and_from (is_open ledger.connections send.conn) (is_left (unpassed ledger.connections before send)) opened is) (le-leb send.taken until in_time)) ∙ h))
-    of false is = refl
-
-next_at : (ledger : Ledger) (until : ℕ) (before later : List Send) (send : Send) → ledger.kept ≡ before ++ send ∷ later → is_open ledger.connections send.conn ≡ true → is_left (unpassed ledger.connections before send) ≡ true → send.taken ≤ until
-    → ((x : List Send) (y : Send) (z : List Send) → before ≡ x ++ y ∷ z → is_open ledger.connections y.conn ≡ true → is_left (unpassed ledger.connections x y) ≡ false) → IsNext ledger until send.conn (unpassed ledger.connections before send).bytes
-unfolding is_first
-next_at ledger until before later send split opened some in_time none = record {
-  first = is_first ledger send.conn before later send split refl some (λ x y z is to. none x y z is (ap (is_open ledger.connections) to ∙ opened));
-  opened = opened;
-  in_time = in_time;
-  none = none;
-}
+isnt_next_says ledger until before send h opened in_time = tested (is_left (unpassed ledger.connections before send))
+    (λ is. absurd (true≢false (sym (and_from (is_open ledger.connections send.conn && is_left (unpassed ledger.connections before send)) (nat_le send.taken until) (and_from (is_open ledger.connections send.conn) _ opened is) (le-leb send.taken until in_time)) ∙ h)))
+    (λ is. is)
 
 pub next_is : (ledger : Ledger) (until : ℕ) (part : Send) → IsInOrder (times_of ledger.kept) → next_part ledger until ≡ Some part → IsNext ledger until part.conn part.bytes
-unfolding next_part unpassed
+unfolding next_part unpassed is_first
 next_is ledger until part order h =
-    let found : Found (may_be_next ledger until) ledger.connections [] ledger.kept part = parts_found (may_be_next ledger until) ledger.connections [] ledger.kept part h in
-    let says = is_next_says ledger until found.before found.send (ap (may_be_next ledger until) (sym found.is) ∙ found.holds) in
-    let times : IsInOrder (times_of (found.before ++ found.send ∷ found.later)) = subst (λ (l : List Send). IsInOrder (times_of l)) found.split order in
-    subst (λ (p : Send). IsNext ledger until p.conn p.bytes) (sym found.is) (next_at ledger until found.before found.later found.send found.split says.0 says.1 says.2
-    (λ x y z split opened. isnt_next_says ledger until x y (found.none x y z split) opened
-    (omega (arith, says.2, earlier_time x z found.later y found.send (subst (λ (l : List Send). IsInOrder (times_of (l ++ found.send ∷ found.later))) split times)))))
+    let found = parts_found (may_be_next ledger until) ledger.connections [] ledger.kept part h in
+    let at : Found (may_be_next ledger until) ledger.connections [] ledger.kept part = found.0 in
+    let says = is_next_says ledger until at.before at.send (ap (may_be_next ledger until) (sym at.is) ∙ found.1) in
+    let times : IsInOrder (times_of (at.before ++ at.send ∷ at.later)) = subst (λ (l : List Send). IsInOrder (times_of l)) at.split order in
+    let none : (x : List Send) (y : Send) (z : List Send) → at.before ≡ x ++ y ∷ z → is_open ledger.connections y.conn ≡ true → is_left (unpassed ledger.connections x y) ≡ false = λ x y z split opened.
+    isnt_next_says ledger until x y (parts_none (may_be_next ledger until) ledger.connections [] x y z (ap (λ (l : List Send). find (may_be_next ledger until) (parts_behind ledger.connections [] l)) (sym split) ∙ at.none)) opened
+    (omega (arith, says.2, earlier_time x z at.later y at.send (subst (λ (l : List Send). IsInOrder (times_of (l ++ at.send ∷ at.later))) split times))) in
+    subst (λ (p : Send). IsNext ledger until p.conn p.bytes) (sym at.is) (record {
+      first = is_first ledger at.send.conn at.before at.later at.send at.split refl says.1 (λ x y z is to. none x y z is (ap (is_open ledger.connections) to ∙ says.0));
+      opened = says.0;
+      in_time = says.2;
+      none = none;
+    })
 
 -- where none is next, nothing is left of any send to an open connection that was made in time
 pub next_none : (ledger : Ledger) (until : ℕ) → next_part ledger until ≡ None → (x : List Send) (y : Send) (z : List Send) → ledger.kept ≡ x ++ y ∷ z → is_open ledger.connections y.conn ≡ true → y.taken ≤ until → is_left (unpassed ledger.connections x y) ≡ false
 unfolding next_part
-next_none ledger until h x y z split opened in_time = isnt_next_says ledger until x y (parts_none (may_be_next ledger until) ledger.connections [] ledger.kept h x y z split) opened in_time
+next_none ledger until h x y z split opened in_time =
+    isnt_next_says ledger until x y (parts_none (may_be_next ledger until) ledger.connections [] x y z (ap (λ (l : List Send). find (may_be_next ledger until) (parts_behind ledger.connections [] l)) (sym split) ∙ h)) opened in_time
 
 -- the first part of one connection
 pub record IsRest (ledger : Ledger) (conn : ℕ) (bytes : List ℕ) : Type 0 where
@@ -376,19 +334,17 @@ isnt_rest_says : (C : List Connection) (conn : ℕ) (before : List Send) (send :
 unfolding unpassed
 isnt_rest_says C conn before send h to = ap (λ (b : Bool). b && is_left (unpassed C before send)) (sym (eq-eqb send.conn conn to)) ∙ h
 
-rest_at : (ledger : Ledger) (conn : ℕ) (before later : List Send) (send : Send) → ledger.kept ≡ before ++ send ∷ later → send.conn ≡ conn → is_left (unpassed ledger.connections before send) ≡ true
-    → ((x : List Send) (y : Send) (z : List Send) → before ≡ x ++ y ∷ z → y.conn ≡ conn → is_left (unpassed ledger.connections x y) ≡ false) → IsRest ledger conn (unpassed ledger.connections before send).bytes
-unfolding is_first
-rest_at ledger conn before later send split to some none = record { first = is_first ledger conn before later send split to some none; none = none }
-
 pub rest_is : (ledger : Ledger) (conn : ℕ) (part : Send) → rest_part ledger conn ≡ Some part → IsRest ledger conn part.bytes
-unfolding rest_part
+unfolding rest_part is_first
 rest_is ledger conn part h =
-    let found : Found (is_rest conn) ledger.connections [] ledger.kept part = parts_found (is_rest conn) ledger.connections [] ledger.kept part h in
-    let says = is_rest_says ledger.connections conn found.before found.send (ap (is_rest conn) (sym found.is) ∙ found.holds) in
-    subst (λ (p : Send). IsRest ledger conn p.bytes) (sym found.is) (rest_at ledger conn found.before found.later found.send found.split says.0 says.1
-    (λ x y z split to. isnt_rest_says ledger.connections conn x y (found.none x y z split) to))
+    let found = parts_found (is_rest conn) ledger.connections [] ledger.kept part h in
+    let at : Found (is_rest conn) ledger.connections [] ledger.kept part = found.0 in
+    let says = is_rest_says ledger.connections conn at.before at.send (ap (is_rest conn) (sym at.is) ∙ found.1) in
+    let none : (x : List Send) (y : Send) (z : List Send) → at.before ≡ x ++ y ∷ z → y.conn ≡ conn → is_left (unpassed ledger.connections x y) ≡ false = λ x y z split to.
+    isnt_rest_says ledger.connections conn x y (parts_none (is_rest conn) ledger.connections [] x y z (ap (λ (l : List Send). find (is_rest conn) (parts_behind ledger.connections [] l)) (sym split) ∙ at.none)) to in
+    subst (λ (p : Send). IsRest ledger conn p.bytes) (sym at.is) (record { first = is_first ledger conn at.before at.later at.send at.split says.0 says.1 none; none = none })
 
 pub rest_none : (ledger : Ledger) (conn : ℕ) → rest_part ledger conn ≡ None → (x : List Send) (y : Send) (z : List Send) → ledger.kept ≡ x ++ y ∷ z → y.conn ≡ conn → is_left (unpassed ledger.connections x y) ≡ false
 unfolding rest_part
-rest_none ledger conn h x y z split to = isnt_rest_says ledger.connections conn x y (parts_none (is_rest conn) ledger.connections [] ledger.kept h x y z split) to
+rest_none ledger conn h x y z split to =
+    isnt_rest_says ledger.connections conn x y (parts_none (is_rest conn) ledger.connections [] x y z (ap (λ (l : List Send). find (is_rest conn) (parts_behind ledger.connections [] l)) (sym split) ∙ h)) to

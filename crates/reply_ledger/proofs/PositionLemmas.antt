@@ -1,5 +1,5 @@
 -- The first element that passes a test, and what is found at it.
-use Rattle.reply_ledger.proofs.Terms.{Bool, List, None, Some, [], ap, arith, cond, drop, false, get_or, inl, inr, length, map, not, refl, suc, sym, true, zero, ℕ, ◌++◌, ◌+◌, ◌<◌, ◌∙◌, ◌∷◌, ◌≡◌, ◌≤◌, cases_lt, lt-ltb, ne_eqb, true≢false, fails_before_first, passes_at_first, position_or_len_is, prefix_len-le-length, position_or_len, option_map, find, if◌then◌else◌, ltb-false, ltb-true, nat_lt, ◌==◌}
+use Rattle.reply_ledger.proofs.Terms.{Bool, List, None, Some, [], ap, arith, cond, drop, eqb, false, get_or, if◌then◌else◌, inl, inr, length, map, not, refl, suc, sym, true, zero, ℕ, ◌++◌, ◌+◌, ◌<◌, ◌∙◌, ◌∷◌, ◌≡◌, ◌≤◌, cases_lt, eqb-false, eqb-true, lt-ltb, ltb-false, ltb-true, ne_eqb, true≢false, position_or_len_push, fails_before_first, passes_at_first, position_or_len_is, prefix_len-le-length, position_or_len, option_map, find, nat_lt, ◌==◌}
 
 -- cases on a test
 pub tested : {P : Type 0} (b : Bool) → (b ≡ true → P) → (b ≡ false → P) → P
@@ -42,44 +42,18 @@ pub position-same : {X : Type 0} (p q : X → Bool) (xs : List X) → ((k : ℕ)
 position-same p q [] same = refl
 position-same p q (x ∷ xs) same = (λ i. cond (not (same 0 x (omega arith) i)) (1 + position-same p q xs (λ k d lt. same (suc k) d (omega arith)) i) 0)
 
-pub position-stays : {X : Type 0} (p : X → Bool) (xs ys : List X) → position_or_len p xs < length xs → position_or_len p (xs ++ ys) ≡ position_or_len p xs
-position-stays p [] ys lt = absurd (omega (arith, lt))
-position-stays p (x ∷ xs) ys lt = by (p x) lt (λ k. position-stays p xs ys k)
-  where
-    by : (b : Bool) → cond (not b) (1 + position_or_len p xs) 0 < suc (length xs) → (position_or_len p xs < length xs → position_or_len p (xs ++ ys) ≡ position_or_len p xs)
-        → cond (not b) (1 + position_or_len p (xs ++ ys)) 0 ≡ cond (not b) (1 + position_or_len p xs) 0
-    by true lt ih = refl
-    by false lt ih = ap (λ (n : ℕ). 1 + n) (ih (omega (arith, lt)))
-
-position-one : {X : Type 0} (p : X → Bool) (xs : List X) (e : X) → position_or_len p xs ≡ length xs → position_or_len p (xs ++ e ∷ []) ≡ position_or_len p xs + (if p e then 0 else 1)
-position-one p [] e end = by (p e)
-  where
-    by : (b : Bool) → cond (not b) (1 + 0) 0 ≡ 0 + (if b then 0 else 1)
-    by true = refl
-    by false = refl
-position-one p (x ∷ xs) e end = by (p x) (if p e then 0 else 1) end (λ k. position-one p xs e k)
-  where
-    by : (b : Bool) (more : ℕ) → cond (not b) (1 + position_or_len p xs) 0 ≡ suc (length xs) → (position_or_len p xs ≡ length xs → position_or_len p (xs ++ e ∷ []) ≡ position_or_len p xs + more)
-        → cond (not b) (1 + position_or_len p (xs ++ e ∷ [])) 0 ≡ cond (not b) (1 + position_or_len p xs) 0 + more
-    by true more end ih = absurd (omega (arith, end))
-    by false more end ih = omega (arith, ih (omega (arith, end)))
-
 -- one more element, where the first so far is known
 pub position-push : {X : Type 0} (p : X → Bool) (xs : List X) (e : X) (n m : ℕ) → n ≡ position_or_len p xs → m ≡ length xs + 1
     → position_or_len p (xs ++ e ∷ []) ≡ (if p e then n else if nat_lt (n + 1) m then n else n + 1)
-position-push p xs e n m at long = tested (nat_lt (n + 1) m)
-    (λ t. position-stays p xs (e ∷ []) (omega (arith, ltb-true (n + 1) m t, at, long)) ∙ sym at ∙ same (p e) (nat_lt (n + 1) m) t)
-    (λ f. position-one p xs e (omega (arith, ltb-false (n + 1) m f, at, long, position-le p xs)) ∙ more (p e) (nat_lt (n + 1) m) f)
+position-push p xs e n m at long = position_or_len_push p xs e ∙ by (eqb (position_or_len p xs) (length xs)) refl (p e) (nat_lt (n + 1) m) refl
   where
-    same : (b c : Bool) → c ≡ true → n ≡ (if b then n else if c then n else n + 1)
-    same true c t = refl
-    same false true t = refl
-    same false false t = absurd (true≢false (sym t))
-
-    more : (b c : Bool) → c ≡ false → position_or_len p xs + (if b then 0 else 1) ≡ (if b then n else if c then n else n + 1)
-    more true c f = omega (arith, at)
-    more false true f = absurd (true≢false f)
-    more false false f = omega (arith, at)
+    by : (b : Bool) → eqb (position_or_len p xs) (length xs) ≡ b → (r s : Bool) → nat_lt (n + 1) m ≡ s → cond b (length xs + cond r 0 1) (position_or_len p xs) ≡ (if r then n else if s then n else n + 1)
+    by true t true s u = omega (arith, at, eqb-true _ _ t)
+    by true t false true u = absurd (omega (arith, at, long, eqb-true _ _ t, ltb-true _ _ u))
+    by true t false false u = omega (arith, at, eqb-true _ _ t)
+    by false f true s u = sym at
+    by false f false true u = sym at
+    by false f false false u = absurd (eqb-false _ _ f (omega (arith, at, long, ltb-false _ _ u, position-le p xs)))
 
 pub position-drop : {X : Type 0} (p : X → Bool) (xs : List X) (n : ℕ) → n ≤ position_or_len p xs → position_or_len p (drop n xs) + n ≡ position_or_len p xs
 position-drop p xs zero le = omega arith
@@ -115,3 +89,5 @@ find-map p f (x ∷ xs) = by (p (f x)) (find-map p f xs)
 pub not-empty : (n : ℕ) → not (n == 0) ≡ nat_lt 0 n
 not-empty zero = refl
 not-empty (suc n) = ap not (ne_eqb (suc n) 0 (λ h. omega (arith, h))) ∙ sym (lt-ltb 0 (suc n) (omega arith))
+
+pub ruleset positions = (position-here, position-next, position-le)

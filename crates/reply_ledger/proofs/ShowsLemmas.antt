@@ -1,8 +1,8 @@
 -- What the calls make of a ledger beside all that was sent and passed.
-use Rattle.reply_ledger.proofs.Terms.{Bool, List, None, Option, Some, [], ap, append-nil, append_assoc, arith, cond, drop, false, if◌then◌else◌, is_some, length, length-append, length-drop, refl, subst, suc, sym, take, true, zero, ℕ, ◌++◌, ◌+◌, ◌<◌, ◌∙◌, ◌∷◌, ◌≡◌, ◌≤◌, drop-append_seam, take-add, take-append_seam, eqb-true, leb-false, lt-leb, true≢false, drop-append-le, drop-drop, drop_all, length-take-le, take-append-drop, take-append-le, flat_map-append, AllByRecursion, IsSome, nat_le, ◌==◌, Prefix, Send, sent_to, Connection, IsInOrder, Ledger, Passed, bytes_of, connection_of, new_connection, passed_connection, passed_to, stamped, stamped_to, stamps_of, with_change, with_connection, with_passed, with_send, Covers, CoversBefore, adopted, trial_sends, until, trimmed_connections, without, earlier_at}
+use Rattle.reply_ledger.proofs.Terms.{Bool, List, None, Option, Some, [], ap, append-nil, append_assoc, arith, cond, drop, false, if◌then◌else◌, is_some, length, length-append, length-drop, refl, subst, suc, sym, take, true, zero, ℕ, ◌++◌, ◌+◌, ◌<◌, ◌∙◌, ◌∷◌, ◌≡◌, ◌≤◌, drop-append_seam, take-add, take-append_seam, eqb-true, leb-false, true≢false, drop-append-le, drop-drop, drop_all, length-take-le, take-append-drop, take-append-le, flat_map-append, AllByRecursion, option_map, IsSome, nat_le, ◌==◌, Prefix, Send, sent_to, Connection, IsInOrder, Ledger, Passed, bytes_of, changed, connection_of, new_connection, passed_connection, passed_to, stamped, stamped_to, stamps_of, with_change, with_connection, with_passed, with_send, Covers, CoversBefore, adopted, trial_sends, until, trimmed_connections, without, earlier_at}
 use Rattle.reply_ledger.specs.Shows.{Shows, stamped_of, pieces_until}
 use Rattle.reply_ledger.proofs.RunLemmas.{bytes_of-append, bytes_of-stamped, until-stamped, until-append}
-use Rattle.reply_ledger.proofs.StandsLemmas.{until-front, bytes_of-drop, prefix-drop}
+use Rattle.reply_ledger.proofs.StandsLemmas.{none-in-time, until-front, bytes_of-drop, prefix-drop}
 use Rattle.reply_ledger.proofs.ConnectionLemmas.{connection_of-changed, connection_of-push, connection_of-trimmed, stamped_to-changed, earlier_at-changed, stamped_to-passed, stamped_to-push, earlier_at-push, stamped_to-trimmed, earlier_at-trimmed}
 use Rattle.reply_ledger.proofs.EntryLemmas.{sent_to-append}
 
@@ -39,21 +39,27 @@ shows-opens ledger sends passed conn none h = record {
     by true k = absurd (let no : ⊥ = cc in no)
     by false k = k
 
--- a mark changes nothing of it
-pub shows-marked : (ledger : Ledger) (sends passed : List Send) (conn : ℕ) (change : Connection → Connection) → ((c : Connection) → (change c).conn ≡ c.conn) → ((c : Connection) → (change c).passed ≡ c.passed) → ((c : Connection) → (change c).earlier ≡ c.earlier)
-    → Shows ledger sends passed → Shows (with_change ledger conn change) sends passed
-shows-marked ledger sends passed conn change keeps p e h = record {
+-- one connection is changed, where it stays as far as its earlier bytes go
+shows-changed : (ledger : Ledger) (sends passed now : List Send) (conn : ℕ) (change : Connection → Connection) → ((c : Connection) → (change c).conn ≡ c.conn) → ((c : Connection) → (change c).earlier ≡ c.earlier)
+    → ((q : ℕ) → stamped_to (changed conn change ledger.connections) q ≡ drop (earlier_at ledger.connections q) (stamped_of q now)) → Shows ledger sends passed → Shows (with_change ledger conn change) sends now
+shows-changed ledger sends passed now conn change keeps e shown h = record {
   counted = h.counted;
   kept = h.kept;
   opened = λ q k. h.opened q (by (conn == q) (connection_of ledger.connections q) (sym (connection_of-changed conn change keeps q ledger.connections) ∙ k));
   earlier = λ q. earlier_at-changed conn change keeps e ledger.connections q ∙ h.earlier q;
-  passed = λ q. stamped_to-changed conn change keeps p ledger.connections q ∙ h.passed q ∙ ap (λ (n : ℕ). drop n (stamped_of q passed)) (sym (earlier_at-changed conn change keeps e ledger.connections q));
+  passed = λ q. shown q ∙ ap (λ (n : ℕ). drop n (stamped_of q now)) (sym (earlier_at-changed conn change keeps e ledger.connections q));
 }
   where
-    by : (b : Bool) (o : Option Connection) → (if b then Rattle.std.specs.Option.option_map change o else o) ≡ None → o ≡ None
+    by : (b : Bool) (o : Option Connection) → (if b then option_map change o else o) ≡ None → o ≡ None
     by true None k = refl
     by true (Some c) k = absurd (let no : ⊥ = cc in no)
     by false o k = k
+
+-- a mark changes nothing of it
+pub shows-marked : (ledger : Ledger) (sends passed : List Send) (conn : ℕ) (change : Connection → Connection) → ((c : Connection) → (change c).conn ≡ c.conn) → ((c : Connection) → (change c).passed ≡ c.passed) → ((c : Connection) → (change c).earlier ≡ c.earlier)
+    → Shows ledger sends passed → Shows (with_change ledger conn change) sends passed
+shows-marked ledger sends passed conn change keeps p e h =
+    shows-changed ledger sends passed passed conn change keeps e (λ q. stamped_to-changed conn change keeps p ledger.connections q ∙ h.passed q) h
 
 pub shows-sent : (ledger : Ledger) (sends passed : List Send) (send : Send) → IsSome (connection_of ledger.connections send.conn) → Shows ledger sends passed → Shows (with_send ledger send) (sends ++ send ∷ []) passed
 shows-sent ledger sends passed send known h = record {
@@ -74,38 +80,24 @@ shows-sent ledger sends passed send known h = record {
 -- a piece of a connection whose passed bytes weren't given up
 pub shows-passed : (ledger : Ledger) (sends passed : List Send) (conn count stamp : ℕ) → IsSome (connection_of ledger.connections conn) → earlier_at ledger.connections conn ≤ length (stamped_of conn passed) → Shows ledger sends passed
     → Shows (with_passed ledger conn count stamp) sends (passed ++ record { conn = conn; bytes = take count (drop (length (passed_to ledger conn)) (sent_to conn ledger.kept)); taken = stamp } ∷ [])
-shows-passed ledger sends passed conn count stamp known long h = record {
-  counted = h.counted;
-  kept = h.kept;
-  opened = λ q k. h.opened q (by (conn == q) (connection_of ledger.connections q) (sym (connection_of-changed conn (passed_connection more) (λ c. refl) q ledger.connections) ∙ k));
-  earlier = λ q. earlier_at-changed conn (passed_connection more) (λ c. refl) (λ c. refl) ledger.connections q ∙ h.earlier q;
-  passed = λ q. stamped_to-passed conn more ledger.connections q known ∙ new q (conn == q) refl ∙ ap (λ (n : ℕ). drop n (stamped_of q (passed ++ piece ∷ []))) (sym (earlier_at-changed conn (passed_connection more) (λ c. refl) (λ c. refl) ledger.connections q));
-}
+shows-passed ledger sends passed conn count stamp known long h =
+    shows-changed ledger sends passed (passed ++ piece ∷ []) conn (passed_connection more) (λ c. refl) (λ c. refl) (λ q. stamped_to-passed conn more ledger.connections q known ∙ new q (conn == q) refl) h
   where
-    bytes : List ℕ
-    bytes = take count (drop (length (passed_to ledger conn)) (sent_to conn ledger.kept))
-
     more : List Passed
     more = stamped stamp (take count (drop (length (passed_to ledger conn)) (sent_to conn ledger.kept)))
 
     piece : Send
     piece = record { conn = conn; bytes = take count (drop (length (passed_to ledger conn)) (sent_to conn ledger.kept)); taken = stamp }
 
-    by : (b : Bool) (o : Option Connection) → (if b then Rattle.std.specs.Option.option_map (passed_connection more) o else o) ≡ None → o ≡ None
-    by true None k = refl
-    by true (Some c) k = absurd (let no : ⊥ = cc in no)
-    by false o k = k
-
     new : (q : ℕ) (b : Bool) → conn == q ≡ b → (if b then stamped_to ledger.connections q ++ more else stamped_to ledger.connections q) ≡ drop (earlier_at ledger.connections q) (stamped_of q (passed ++ piece ∷ []))
     new q true p =
         let one : stamped_of q (piece ∷ []) ≡ more = stamped_of-one q piece ∙ ap (λ (b : Bool). if b then more else []) p in
         let fits : earlier_at ledger.connections q ≤ length (stamped_of q passed) = subst (λ (c : ℕ). earlier_at ledger.connections c ≤ length (stamped_of c passed)) (eqb-true conn q p) long in
-        ap (λ (l : List Passed). l ++ more) (h.passed q) ∙ ap (λ (l : List Passed). drop (earlier_at ledger.connections q) (stamped_of q passed) ++ l) (sym one)
-        ∙ sym (drop-append-le (earlier_at ledger.connections q) (stamped_of q passed) (stamped_of q (piece ∷ [])) fits)
+        (λ i. h.passed q i ++ sym one i) ∙ sym (drop-append-le (earlier_at ledger.connections q) (stamped_of q passed) (stamped_of q (piece ∷ [])) fits)
         ∙ ap (drop (earlier_at ledger.connections q)) (sym (stamped_of-append q passed (piece ∷ [])))
     new q false p =
         let one : stamped_of q (piece ∷ []) ≡ [] = stamped_of-one q piece ∙ ap (λ (b : Bool). if b then more else []) p in
-        h.passed q ∙ ap (drop (earlier_at ledger.connections q)) (sym (append-nil (stamped_of q passed)) ∙ ap (λ (l : List Passed). stamped_of q passed ++ l) (sym one) ∙ sym (stamped_of-append q passed (piece ∷ [])))
+        h.passed q ∙ ap (drop (earlier_at ledger.connections q)) (sym (append-nil (stamped_of q passed)) ∙ (λ i. stamped_of q passed ++ sym one i) ∙ sym (stamped_of-append q passed (piece ∷ [])))
 
 -- an adopted trial: the survivor's sends that it kept from the start, then its own
 pub shows-adopted : (ledger : Ledger) (sends passed : List Send) → ((conn : ℕ) → connection_of ledger.connections conn ≡ None → sent_to conn (trial_sends ledger) ≡ []) → Shows ledger sends passed
@@ -177,18 +169,25 @@ shown_passed ledger sends passed h conn =
     ap bytes_of (h.passed conn) ∙ bytes_of-drop (earlier_at ledger.connections conn) (stamped_of conn passed)
     ∙ (λ i. drop (h.earlier conn i) (bytes_of-stamped_of conn passed i))
 
+-- a trial that sends a part of what was passed from the kept sends on sends it from the start, and the other way round
+covered : (ledger : Ledger) (sends : List Send) (conn : ℕ) (whole part : List ℕ) → part ≡ drop (length (sent_to conn (take ledger.first sends))) whole → Prefix whole (sent_to conn sends) → Prefix part (sent_to conn (trial_sends ledger))
+    → Prefix whole (sent_to conn (take ledger.first sends ++ trial_sends ledger))
+covered ledger sends conn whole part is survivor h =
+    let split : sent_to conn sends ≡ sent_to conn (take ledger.first sends) ++ sent_to conn (drop ledger.first sends) = ap (sent_to conn) (sym (take-append-drop ledger.first sends)) ∙ sent_to-append conn (take ledger.first sends) (drop ledger.first sends) in
+    subst (Prefix whole) (sym (sent_to-append conn (take ledger.first sends) (trial_sends ledger)))
+    (fronts-agree (sent_to conn (take ledger.first sends)) (sent_to conn (drop ledger.first sends)) (sent_to conn (trial_sends ledger)) whole (subst (Prefix whole) split survivor) (subst (λ (l : List ℕ). Prefix l (sent_to conn (trial_sends ledger))) is h))
+
+uncovered : (ledger : Ledger) (sends : List Send) (conn : ℕ) (whole part : List ℕ) → part ≡ drop (length (sent_to conn (take ledger.first sends))) whole → Prefix whole (sent_to conn (take ledger.first sends ++ trial_sends ledger)) → Prefix part (sent_to conn (trial_sends ledger))
+uncovered ledger sends conn whole part is h =
+    subst (λ (l : List ℕ). Prefix l (sent_to conn (trial_sends ledger))) (sym is)
+    (prefix-drop (sent_to conn (take ledger.first sends)) (sent_to conn (trial_sends ledger)) whole (subst (Prefix whole) (sent_to-append conn (take ledger.first sends) (trial_sends ledger)) h))
+
 pub shows-covers : (ledger : Ledger) (sends passed : List Send) → Shows ledger sends passed → ((conn : ℕ) → Prefix (sent_to conn passed) (sent_to conn sends)) → Covers ledger
     → (conn : ℕ) → Prefix (sent_to conn passed) (sent_to conn (take ledger.first sends ++ trial_sends ledger))
-shows-covers ledger sends passed h survivor covers conn =
-    let split : sent_to conn sends ≡ sent_to conn (take ledger.first sends) ++ sent_to conn (drop ledger.first sends) = ap (sent_to conn) (sym (take-append-drop ledger.first sends)) ∙ sent_to-append conn (take ledger.first sends) (drop ledger.first sends) in
-    subst (Prefix (sent_to conn passed)) (sym (sent_to-append conn (take ledger.first sends) (trial_sends ledger)))
-    (fronts-agree (sent_to conn (take ledger.first sends)) (sent_to conn (drop ledger.first sends)) (sent_to conn (trial_sends ledger)) (sent_to conn passed)
-    (subst (Prefix (sent_to conn passed)) split (survivor conn)) (subst (λ (l : List ℕ). Prefix l (sent_to conn (trial_sends ledger))) (shown_passed ledger sends passed h conn) (covers conn)))
+shows-covers ledger sends passed h survivor covers conn = covered ledger sends conn (sent_to conn passed) (passed_to ledger conn) (shown_passed ledger sends passed h conn) (survivor conn) (covers conn)
 
 pub covers-shows : (ledger : Ledger) (sends passed : List Send) → Shows ledger sends passed → ((conn : ℕ) → Prefix (sent_to conn passed) (sent_to conn (take ledger.first sends ++ trial_sends ledger))) → Covers ledger
-covers-shows ledger sends passed h all conn =
-    subst (λ (l : List ℕ). Prefix l (sent_to conn (trial_sends ledger))) (sym (shown_passed ledger sends passed h conn))
-    (prefix-drop (sent_to conn (take ledger.first sends)) (sent_to conn (trial_sends ledger)) (sent_to conn passed) (subst (Prefix (sent_to conn passed)) (sent_to-append conn (take ledger.first sends) (trial_sends ledger)) (all conn)))
+covers-shows ledger sends passed h all conn = uncovered ledger sends conn (sent_to conn passed) (passed_to ledger conn) (shown_passed ledger sends passed h conn) (all conn)
 
 -- the pieces in time are what was passed in time
 until-one : (item stamp : ℕ) (bytes : List ℕ) (b : Bool) → nat_le stamp item ≡ b → until item (stamped stamp bytes) ≡ (if b then stamped stamp bytes else [])
@@ -209,11 +208,6 @@ until-pieces item conn (piece ∷ pieces) = by (nat_le piece.taken item) refl (p
     by false t true a ih =
         ih ∙ ap (λ (l : List Passed). l ++ until item (stamped_of conn pieces)) (sym (until-one item piece.taken piece.bytes false t)) ∙ sym (until-append item (stamped piece.taken piece.bytes) (stamped_of conn pieces))
     by false t false a ih = ih
-
-none-in-time : (item stamp : ℕ) (ys : List Passed) → AllByRecursion (λ y. stamp ≤ y) (stamps_of ys) → item < stamp → until item ys ≡ []
-unfolding until stamps_of
-none-in-time item stamp [] h lt = refl
-none-in-time item stamp (y ∷ ys) h lt = ap (λ (b : Bool). cond b (y ∷ until item ys) (until item ys)) (lt-leb y.stamp item (omega (arith, h.0, lt))) ∙ none-in-time item stamp ys h.1 lt
 
 all-drop : (P : ℕ → Type 0) (n : ℕ) (ys : List Passed) → AllByRecursion P (stamps_of ys) → AllByRecursion P (stamps_of (drop n ys))
 unfolding stamps_of
@@ -245,18 +239,13 @@ shown_until ledger sends passed item h conn order =
 pub shows-covers_before : (ledger : Ledger) (sends passed : List Send) (item : ℕ) → Shows ledger sends passed → ((conn : ℕ) → IsInOrder (stamps_of (stamped_of conn passed))) → ((conn : ℕ) → Prefix (sent_to conn passed) (sent_to conn sends))
     → CoversBefore ledger item → (conn : ℕ) → Prefix (sent_to conn (pieces_until item passed)) (sent_to conn (take ledger.first sends ++ trial_sends ledger))
 shows-covers_before ledger sends passed item h order survivor covers conn =
-    let split : sent_to conn sends ≡ sent_to conn (take ledger.first sends) ++ sent_to conn (drop ledger.first sends) = ap (sent_to conn) (sym (take-append-drop ledger.first sends)) ∙ sent_to-append conn (take ledger.first sends) (drop ledger.first sends) in
     let early : sent_to conn (pieces_until item passed) ≡ bytes_of (until item (stamped_of conn passed)) = sym (bytes_of-stamped_of conn (pieces_until item passed)) ∙ ap bytes_of (until-pieces item conn passed) in
     let first = until-front item (stamped_of conn passed) (order conn) in
     let whole = survivor conn in
     let front : Prefix (sent_to conn (pieces_until item passed)) (sent_to conn sends) =
     (first.0 ++ whole.0, ap (λ (l : List ℕ). l ++ (first.0 ++ whole.0)) early ∙ sym (append_assoc (bytes_of (until item (stamped_of conn passed))) first.0 whole.0) ∙ ap (λ (l : List ℕ). l ++ whole.0) (first.1 ∙ bytes_of-stamped_of conn passed) ∙ whole.1) in
-    subst (Prefix (sent_to conn (pieces_until item passed))) (sym (sent_to-append conn (take ledger.first sends) (trial_sends ledger)))
-    (fronts-agree (sent_to conn (take ledger.first sends)) (sent_to conn (drop ledger.first sends)) (sent_to conn (trial_sends ledger)) (sent_to conn (pieces_until item passed))
-    (subst (Prefix (sent_to conn (pieces_until item passed))) split front) (subst (λ (l : List ℕ). Prefix l (sent_to conn (trial_sends ledger))) (shown_until ledger sends passed item h conn (order conn)) (covers conn)))
+    covered ledger sends conn (sent_to conn (pieces_until item passed)) _ (shown_until ledger sends passed item h conn (order conn)) front (covers conn)
 
 pub covers_before-shows : (ledger : Ledger) (sends passed : List Send) (item : ℕ) → Shows ledger sends passed → ((conn : ℕ) → IsInOrder (stamps_of (stamped_of conn passed)))
     → ((conn : ℕ) → Prefix (sent_to conn (pieces_until item passed)) (sent_to conn (take ledger.first sends ++ trial_sends ledger))) → CoversBefore ledger item
-covers_before-shows ledger sends passed item h order all conn =
-    subst (λ (l : List ℕ). Prefix l (sent_to conn (trial_sends ledger))) (sym (shown_until ledger sends passed item h conn (order conn)))
-    (prefix-drop (sent_to conn (take ledger.first sends)) (sent_to conn (trial_sends ledger)) (sent_to conn (pieces_until item passed)) (subst (Prefix (sent_to conn (pieces_until item passed))) (sent_to-append conn (take ledger.first sends) (trial_sends ledger)) (all conn)))
+covers_before-shows ledger sends passed item h order all conn = uncovered ledger sends conn (sent_to conn (pieces_until item passed)) _ (shown_until ledger sends passed item h conn (order conn)) (all conn)

@@ -1,13 +1,10 @@
 -- What a ledger's calls keep.
-use Rattle.std.specs.Prelude.{min}
-use Rattle.std.specs.Cmp.{nat_eq_equiv}
-use Rattle.std.specs.Option.{IfSome}
-use Rattle.std.proofs.lemmas.Map.Views.{All-values_from_lookup}
-use Rattle.reply_ledger.proofs.Terms.{Bool, List, None, Option, Some, [], ap, append-nil, append_assoc, arith, cond, drop, false, get_or, if◌then◌else◌, inl, inr, length, length-append, length-drop, not, refl, replicate, subst, suc, sym, take, true, zero, ℕ, ◌&&◌, ◌++◌, ◌+◌, ◌-◌, ◌<◌, ◌∙◌, ◌∷◌, ◌≡◌, ◌≤◌, map, and_from, and_left, All, and_parts, and_right, cases_lt, eq-eqb, eqb-true, leb-false, leb-true, le-leb, length-replicate, lt-leb, lt-ltb, ltb-true, true≢false, drop_all, get_or_default, take-append-drop, fails_before_first, AllByRecursion, IsDistinct, keys_of, list_all, lookup, position_or_len, values_of, option_map, IsSome, find, nat_eq, nat_le, nat_lt, unwrap_or, ◌==◌, ◌||◌, ◌⊎◌, Prefix, Send, sent_to, Entry, IsInOrder, NotBefore, Passed, bytes_of, changed, passed_connection, stamped, stamped_to, stamps_of, times_of, parts_behind, waits, agree, until, IsLawful, trimmed_connections, HasRoom, Holds, Kept, Laid, Stands, Writes, account_at, connections_of, ending, given_up, is_known, is_open_account, ledger_of, new_account, no_account, passed_end, passed_of, rest_of, seen, send_of, sends_of, start_of, trial_of, waits_in, written, set_value, Connection}
-use Rattle.reply_ledger.proofs.AccountLemmas.{account_at-some, all_pass, of_written, pass_all, put, put-same}
-use Rattle.reply_ledger.proofs.ConnectionLemmas.{connections-changed, connections-same, connections-trimmed, is_open-of, stamped_to-of}
+use Rattle.reply_ledger.proofs.Terms.{Bool, List, None, Option, Some, [], ap, append-nil, append_assoc, arith, cond, drop, false, get_or, if◌then◌else◌, inl, inr, length, length-append, length-drop, map, not, refl, replicate, subst, suc, sym, take, true, zero, ℕ, ◌&&◌, ◌++◌, ◌+◌, ◌-◌, ◌<◌, ◌∙◌, ◌∷◌, ◌≡◌, ◌≤◌, and_from, and_left, and_parts, and_right, cases_lt, eq-eqb, eqb-true, le-leb, leb-false, leb-true, lt-leb, lt-ltb, ltb-false, ltb-true, true≢false, get_or_default, length-replicate, take-append-drop, fails_before_first, AllByRecursion, IsDistinct, list_all, position_or_len, keys_of, set_value, values_of, option_map, IsSome, find, min, nat_eq, nat_le, nat_lt, unwrap_or, ◌==◌, ◌||◌, ◌⊎◌, Prefix, Send, sent_to, Entry, Connection, IsInOrder, Ledger, NotBefore, Passed, bytes_of, changed, new_connection, passed_connection, stamped, stamped_to, stamps_of, times_of, next_part, parts_behind, rest_part, waits, agree, until, IsLawful, trimmed_connections, Kept, account_at, is_open_account, new_account, no_account, passed_end, passed_of, rest_of, send_of, sends_of, start_of, HasRoom, Holds, Laid, Stands, Writes, connections_of, ending, given_up, is_known, ledger_of, seen, trial_of, waits_in, written}
+use Rattle.reply_ledger.proofs.AgreeLemmas.{agree-past, agree-split, and_assoc}
+use Rattle.reply_ledger.proofs.AccountLemmas.{of_opened, lookup-unknown, none_kept, all_pass, of_written, pass_all, at-put, put, put-same}
+use Rattle.reply_ledger.proofs.ConnectionLemmas.{connections-push, unknown-of, opened-known, connections-changed, connections-same, connections-trimmed, is_open-of, stamped_to-of}
 use Rattle.reply_ledger.proofs.PositionLemmas.{tested, not-empty, position-map, position-at, find-none, find-at, find-map, position-le, position-same, position-later, position-push, position-drop}
-use Rattle.reply_ledger.proofs.EntryLemmas.{behind_front, laid-drop, laid-none, laid-push, laid-same, laid-take, later-at, length_parts, lengths_at, of_parts, parts_at, one_more, order-behind, parts-laid, sends_of-append, sends_of-one, sends_of-take, sent_to-append, writes-push}
+use Rattle.reply_ledger.proofs.EntryLemmas.{length-sends_of, all-both, all-replicate, behind_front, laid-drop, laid-none, laid-push, laid-same, laid-take, later-at, length_parts, lengths_at, of_parts, parts_at, one_more, order-behind, parts-laid, sends_of-append, sends_of-one, sends_of-take, sent_to-append, writes-push}
 use Rattle.reply_ledger.proofs.RunLemmas.{bytes_of-passed_of, length-bytes_of, length-passed_of, passed_of-drop, passed_of-front, passed_of-more, passed_of-same, stamps_of-passed_of}
 
 -- which sends wait, by readings of their connections
@@ -26,11 +23,9 @@ cursor-later A A' E o le at = omega (arith, at, position-later (waits_in A) (wai
 
 -- a send of an open connection that doesn't wait is passed wholly
 pub waits-not : (A : ℕ → Kept) (e : Entry) → is_open_account (A e.conn) ≡ true → waits_in A e ≡ false → length (rest_of (passed_end (A e.conn)) e) ≡ 0
-waits-not A e o h = by (length (rest_of (passed_end (A e.conn)) e)) refl
-  where
-    by : (n : ℕ) → length (rest_of (passed_end (A e.conn)) e) ≡ n → n ≡ 0
-    by zero k = refl
-    by (suc n) k = absurd (true≢false (sym (and_from (is_open_account (A e.conn)) (nat_lt 0 (length (rest_of (passed_end (A e.conn)) e))) o (lt-ltb 0 _ (omega (arith, k)))) ∙ h))
+waits-not A e o h = tested (nat_lt 0 (length (rest_of (passed_end (A e.conn)) e)))
+    (λ t. absurd (true≢false (sym (and_from (is_open_account (A e.conn)) _ o t) ∙ h)))
+    (λ f. omega (arith, ltb-false 0 _ f))
 
 -- the end of a stream that is being written doesn't matter to the survivor's sends
 stands-ends : (A B : ℕ → Kept) {K : List ℕ} {E : List Entry} {n : ℕ} → ((q : ℕ) → record (B q) { end = 0 } ≡ record (A q) { end = 0 }) → Stands A K E n → Stands B K E n
@@ -79,11 +74,8 @@ holds-marked {A = A} conn k e s f cursor h =
 -- the first that waits, where a connection shuts
 pub cursor-marked : (A : ℕ → Kept) (E : List Entry) {n : ℕ} (conn : ℕ) (k : Kept) → k.earlier ≡ (A conn).earlier → k.stamps ≡ (A conn).stamps → is_open_account k ≡ false → n ≡ position_or_len (waits_in A) E → n ≤ position_or_len (waits_in (put A conn k)) E
 cursor-marked A E conn k e s shut at =
-    cursor-later A (put A conn k) E (λ q. by q (conn == q)) (λ q. omega (arith, put-same (λ (x : Kept). x.earlier) A conn k e q, ap length (put-same (λ (x : Kept). x.stamps) A conn k s q))) at
-  where
-    by : (q : ℕ) (b : Bool) → is_open_account (if b then k else A q) ≡ true → is_open_account (A q) ≡ true
-    by q true h = absurd (true≢false (sym h ∙ shut))
-    by q false h = h
+    cursor-later A (put A conn k) E (at-put (λ q x. is_open_account x ≡ true → is_open_account (A q) ≡ true) A conn k (λ h. absurd (true≢false (sym h ∙ shut))) (λ q none h. h))
+    (λ q. omega (arith, put-same (λ (x : Kept). x.earlier) A conn k e q, ap length (put-same (λ (x : Kept). x.stamps) A conn k s q))) at
 
 -- the same of accounts of which one was marked
 pub marked-later : {n : ℕ} {new : List (ℕ × Kept)} (T : List (ℕ × Kept)) (E : List Entry) (conn : ℕ) (k : Kept) → new ≡ set_value (nat_eq conn) T k → is_known (keys_of T) conn ≡ true → k.earlier ≡ (account_at T conn).earlier → k.stamps ≡ (account_at T conn).stamps → is_open_account k ≡ false → n ≡ position_or_len (waits_in (account_at T)) E
@@ -161,11 +153,14 @@ holds-sent {A = A} {K = K} {E = E} {own = own} {room' = room'} {n = n} {n' = n'}
     there = omega (arith, end, h.writes.ends e.conn)
 
 -- the connections are seen as before
-pub seen-sent : {A : ℕ → Kept} {K : List ℕ} {E E' : List Entry} {n : ℕ} (conn end : ℕ) (more : List Entry) → E' ≡ E ++ more → Stands A K E n → connections_of (sends_of E') (put A conn (record (A conn) { end = end })) K ≡ connections_of (sends_of E) A K
-seen-sent {A = A} {K = K} {E = E} {E' = E'} conn end more items h = connections-same (sends_of E) (sends_of E') A (put A conn (record (A conn) { end = end })) K (λ q.
-    put-same (λ (k : Kept). seen (sends_of E') q k) A conn (record (A conn) { end = end }) refl q
-    ∙ ap (λ (l : List Passed). record { conn = q; closed = (A q).closed; gone = (A q).gone; earlier = (A q).earlier; passed = l })
-    (ap (λ (l : List ℕ). passed_of l (A q).stamps) (ap (λ (l : List Entry). sent_to q (sends_of l)) items ∙ of_parts q E more) ∙ passed_of-front (sent_to q (sends_of E)) (sent_to q (sends_of more)) (A q).stamps (h.fits q)))
+pub sent-shown : {E E' : List Entry} {n : ℕ} {new : List (ℕ × Kept)} (T : List (ℕ × Kept)) (conn end : ℕ) (more : List Entry) → Stands (account_at T) (keys_of T) E n → new ≡ set_value (nat_eq conn) T (record (account_at T conn) { end = end }) → is_known (keys_of T) conn ≡ true
+    → E' ≡ E ++ more → connections_of (sends_of E') (account_at new) (keys_of new) ≡ connections_of (sends_of E) (account_at T) (keys_of T)
+sent-shown {E = E} {E' = E'} T conn end more h is known items =
+    of_written (λ B l. connections_of (sends_of E') B l ≡ connections_of (sends_of E) (account_at T) (keys_of T)) T conn (record (account_at T conn) { end = end }) is known
+    (connections-same (sends_of E) (sends_of E') (account_at T) (put (account_at T) conn (record (account_at T conn) { end = end })) (keys_of T) (λ q.
+    put-same (λ (k : Kept). seen (sends_of E') q k) (account_at T) conn (record (account_at T conn) { end = end }) refl q
+    ∙ ap (λ (l : List Passed). record { conn = q; closed = (account_at T q).closed; gone = (account_at T q).gone; earlier = (account_at T q).earlier; passed = l })
+    (ap (λ (l : List ℕ). passed_of l (account_at T q).stamps) (ap (λ (l : List Entry). sent_to q (sends_of l)) items ∙ of_parts q E more) ∙ passed_of-front (sent_to q (sends_of E)) (sent_to q (sends_of more)) (account_at T q).stamps (h.fits q))))
 
 -- the streams are counted anew
 pub holds-recounted : {A B : ℕ → Kept} {K K' : List ℕ} {E own own' : List Entry} {room room' : ℕ} {shared shared' : Option ℕ} {n : ℕ} (count : ℕ) → K' ≡ K → ((q : ℕ) → B q ≡ ending A (take count E) q) → written E own' shared' ≡ take count E
@@ -200,41 +195,28 @@ passed-front A K E q none =
     (drop (length (A q).stamps) (sent_to q (sends_of E)), ap (λ (l : List ℕ). l ++ drop (length (A q).stamps) (sent_to q (sends_of E))) (passed-bytes (sends_of E) A K q none) ∙ take-append-drop (length (A q).stamps) (sent_to q (sends_of E)))
 
 -- a trial that begins agrees with what was passed
-prefix-agree : (xs ys : List ℕ) (front : List ℕ) → Prefix xs ys → Prefix front ys → agree front xs ≡ true
+agree-self : (xs ys : List ℕ) → agree xs (xs ++ ys) ≡ true
 unfolding agree
-prefix-agree [] ys [] p q = refl
-prefix-agree [] ys (f ∷ front) p q = refl
-prefix-agree (x ∷ xs) ys [] p q = refl
-prefix-agree (x ∷ xs) [] (f ∷ front) p q = absurd (let no : ⊥ = cc (p.1) in no)
-prefix-agree (x ∷ xs) (y ∷ ys) (f ∷ front) p q =
-    let heads : f ≡ x = (cc (p.1, q.1)) in
-    let one : xs ++ p.0 ≡ ys = (cc (p.1)) in
-    let two : front ++ q.0 ≡ ys = (cc (q.1)) in
-    and_from (f == x) (agree front xs) (eq-eqb f x heads) (prefix-agree xs ys front (p.0, one) (q.0, two))
+agree-self [] ys = refl
+agree-self (x ∷ xs) ys = and_from (x == x) (agree xs (xs ++ ys)) (eq-eqb x x refl) (agree-self xs ys)
+
+pub agree-front : (xs ys zs : List ℕ) → agree xs (ys ++ zs) ≡ true → agree xs ys ≡ true
+agree-front xs ys zs h = (and_parts (agree xs ys) _ (sym (agree-split xs ys zs) ∙ h)).0
+
+prefix-agree : (xs ys : List ℕ) (front : List ℕ) → Prefix xs ys → Prefix front ys → agree front xs ≡ true
+prefix-agree xs ys front p q = agree-front front xs p.0 (ap (agree front) (p.1 ∙ sym q.1) ∙ agree-self front q.0)
 
 pub begun-agrees : (A : ℕ → Kept) (K : List ℕ) (E own : List Entry) (k q : ℕ) → own ≡ [] → (is_known K q ≡ false → A q ≡ no_account) → agree (sent_to q (sends_of (take k E ++ own))) (bytes_of (stamped_to (connections_of (sends_of E) A K) q)) ≡ true
 begun-agrees A K E own k q empty none =
     ap (λ (l : List Entry). agree (sent_to q (sends_of l)) (bytes_of (stamped_to (connections_of (sends_of E) A K) q))) (ap (λ (l : List Entry). take k E ++ l) empty ∙ append-nil (take k E))
     ∙ prefix-agree (bytes_of (stamped_to (connections_of (sends_of E) A K) q)) (sent_to q (sends_of E)) (sent_to q (sends_of (take k E))) (passed-front A K E q none) (sent_to q (sends_of (drop k E)), sym (parts_at q k E))
 
-agree-none : (ys : List ℕ) → agree [] ys ≡ true
-unfolding agree
-agree-none ys = refl
-
 -- a longer trial agrees where its new bytes do
 pub agree-append : (xs more ys : List ℕ) → agree (xs ++ more) ys ≡ (agree xs ys && agree more (drop (length xs) ys))
 unfolding agree
 agree-append [] more ys = refl
-agree-append (x ∷ xs) more [] = sym (ap (λ (l : List ℕ). agree more l) (drop_all (suc (length xs)) [] (omega arith)) ∙ none more)
-  where
-    none : (more : List ℕ) → agree more [] ≡ true
-    none [] = refl
-    none (m ∷ more) = refl
-agree-append (x ∷ xs) more (y ∷ ys) = ap (λ (b : Bool). (x == y) && b) (agree-append xs more ys) ∙ assoc (x == y) (agree xs ys) (agree more (drop (length xs) ys))
-  where
-    assoc : (a b c : Bool) → (a && (b && c)) ≡ ((a && b) && c)
-    assoc true b c = refl
-    assoc false b c = refl
+agree-append (x ∷ xs) more [] = sym (agree-past more [] (suc (length xs)) (omega arith))
+agree-append (x ∷ xs) more (y ∷ ys) = ap (λ (b : Bool). (x == y) && b) (agree-append xs more ys) ∙ and_assoc (x == y) (agree xs ys) (agree more (drop (length xs) ys))
 
 -- where the trial agrees, it covers what is no longer than it
 pub agree-prefix : (xs ys : List ℕ) → agree xs ys ≡ true → length ys ≤ length xs → Prefix ys xs
@@ -249,26 +231,19 @@ agree-prefix (x ∷ xs) (y ∷ ys) h le =
 pub prefix-le : (xs ys : List ℕ) → Prefix xs ys → length xs ≤ length ys
 prefix-le xs ys p = let l = ap length p.1 in omega (arith, l, length-append xs p.0)
 
--- a front of what agrees agrees
-pub agree-front : (xs ys zs : List ℕ) → agree xs (ys ++ zs) ≡ true → agree xs ys ≡ true
-unfolding agree
-agree-front [] ys zs h = refl
-agree-front (x ∷ xs) [] zs h = refl
-agree-front (x ∷ xs) (y ∷ ys) zs h =
-    let parts = and_parts (x == y) (agree xs (ys ++ zs)) h in and_from (x == y) (agree xs ys) parts.0 (agree-front xs ys zs parts.1)
-
 -- what was passed in time is a front of what was passed
+pub none-in-time : (item stamp : ℕ) (ys : List Passed) → AllByRecursion (λ y. stamp ≤ y) (stamps_of ys) → item < stamp → until item ys ≡ []
+unfolding until stamps_of
+none-in-time item stamp [] h lt = refl
+none-in-time item stamp (y ∷ ys) h lt = ap (λ (b : Bool). cond b (y ∷ until item ys) (until item ys)) (lt-leb y.stamp item (omega (arith, h.0, lt))) ∙ none-in-time item stamp ys h.1 lt
+
 pub until-front : (item : ℕ) (xs : List Passed) → IsInOrder (stamps_of xs) → Prefix (bytes_of (until item xs)) (bytes_of xs)
 unfolding until stamps_of bytes_of
 until-front item [] h = ([], refl)
 until-front item (x ∷ xs) h = tested (nat_le x.stamp item)
     (λ t. let rest = until-front item xs h.1 in
     (rest.0, ap (λ (b : Bool). bytes_of (cond b (x ∷ until item xs) (until item xs)) ++ rest.0) t ∙ ap (λ (l : List ℕ). x.byte ∷ l) rest.1))
-    (λ f. (bytes_of (x ∷ xs), ap (λ (b : Bool). bytes_of (cond b (x ∷ until item xs) (until item xs)) ++ bytes_of (x ∷ xs)) f ∙ ap (λ (l : List Passed). bytes_of l ++ bytes_of (x ∷ xs)) (none xs h.0 (leb-false x.stamp item f))))
-  where
-    none : (ys : List Passed) → AllByRecursion (λ y. x.stamp ≤ y) (stamps_of ys) → item < x.stamp → until item ys ≡ []
-    none [] h lt = refl
-    none (y ∷ ys) h lt = ap (λ (b : Bool). cond b (y ∷ until item ys) (until item ys)) (lt-leb y.stamp item (omega (arith, h.0, lt))) ∙ none ys h.1 lt
+    (λ f. (bytes_of (x ∷ xs), ap (λ (l : List Passed). bytes_of l ++ bytes_of (x ∷ xs)) (none-in-time item x.stamp (x ∷ xs) (omega arith, h.0) (leb-false x.stamp item f))))
 
 -- a trial's sends are those that are written
 pub written-is : (E own : List Entry) (shared : Option ℕ) → IsSome (trial_of E own shared) → sends_of (written E own shared) ≡ unwrap_or (trial_of E own shared) []
@@ -292,6 +267,7 @@ trial-sent E own (Some n) e some = ap Some (ap sends_of (sym (append_assoc (take
 
 pub agrees-sent : (F : List Send) (send : Send) (passed : ℕ → List ℕ) → agree send.bytes (drop (length (sent_to send.conn F)) (passed send.conn)) ≡ true → ((c : ℕ) → agree (sent_to c F) (passed c) ≡ true)
     → (c : ℕ) → agree (sent_to c (F ++ send ∷ [])) (passed c) ≡ true
+unfolding agree
 agrees-sent F send passed new old c =
     ap (λ (l : List ℕ). agree l (passed c)) (sent_to-append c F (send ∷ []) ∙ ap (λ (l : List ℕ). sent_to c F ++ l) (append-nil _))
     ∙ agree-append (sent_to c F) (if send.conn == c then send.bytes else []) (passed c)
@@ -299,7 +275,7 @@ agrees-sent F send passed new old c =
   where
     by : (b : Bool) → send.conn == c ≡ b → agree (if b then send.bytes else []) (drop (length (sent_to c F)) (passed c)) ≡ true
     by true p = ap (λ (q : ℕ). agree send.bytes (drop (length (sent_to q F)) (passed q))) (sym (eqb-true send.conn c p)) ∙ new
-    by false p = agree-none (drop (length (sent_to c F)) (passed c))
+    by false p = refl
 
 -- the bytes that a trial's next ones are compared with
 pub compared-with : {A : ℕ → Kept} {K : List ℕ} {E own : List Entry} {room n : ℕ} {shared : Option ℕ} (conn : ℕ) (F : List Send) → (is_known K conn ≡ false → A conn ≡ no_account) → sends_of (written E own shared) ≡ F → Holds A K E own room shared n
@@ -318,14 +294,6 @@ covers-says T F counts part distinct none long agrees ends = (
       agree-prefix (sent_to q F) (part q) (agrees q) (omega (arith, le, long q, ends q))),
   (λ covers. pass_all (λ (k : Kept). nat_le (k.earlier + counts k) k.end) T distinct (λ q. le-leb _ _ (omega (arith, prefix-le (part q) (sent_to q F) (covers q), long q, ends q)))),
 )
-
--- what holds of each account holds of those in the map
-pub all-kept : (P : Kept → Type 0) (T : List (ℕ × Kept)) → IsDistinct nat_eq (keys_of T) → ((q : ℕ) → P (account_at T q)) → All P (values_of T)
-all-kept P T distinct h = All-values_from_lookup nat_eq_equiv P T distinct (λ q. by q (lookup (nat_eq q) T) refl)
-  where
-    by : (q : ℕ) (o : Option Kept) → lookup (nat_eq q) T ≡ o → IfSome o P
-    by q None k = tt
-    by q (Some v) k = subst P (account_at-some T q v (sym k)) (h q)
 
 -- the trial is adopted
 pub holds-adopted : {A : ℕ → Kept} {K : List ℕ} {E E' own own' : List Entry} {room room' k n n' : ℕ} → ((q : ℕ) → is_known K q ≡ false → A q ≡ no_account)
@@ -356,28 +324,18 @@ adopt-room h a b m r = omega (arith, h.room.0, h.room.1, a, b, m, r)
 -- more was passed
 order-replicate : (xs : List ℕ) (stamp n : ℕ) → IsInOrder xs → NotBefore stamp xs → IsInOrder (xs ++ replicate n stamp)
 order-replicate [] stamp zero h m = tt
-order-replicate [] stamp (suc n) h m = (all n, order-replicate [] stamp n tt tt)
-  where
-    all : (n : ℕ) → AllByRecursion (λ y. stamp ≤ y) (replicate n stamp)
-    all zero = tt
-    all (suc n) = (omega arith, all n)
-order-replicate (x ∷ xs) stamp n h m = (all xs n h.0 m.0, order-replicate xs stamp n h.1 m.1)
-  where
-    all : (xs : List ℕ) (n : ℕ) → AllByRecursion (λ y. x ≤ y) xs → x ≤ stamp → AllByRecursion (λ y. x ≤ y) (xs ++ replicate n stamp)
-    all [] zero h le = tt
-    all [] (suc n) h le = (le, all [] n h le)
-    all (y ∷ xs) n h le = (h.0, all xs n h.1 le)
+order-replicate [] stamp (suc n) h m = (all-replicate (λ y. stamp ≤ y) n stamp (omega arith), order-replicate [] stamp n tt tt)
+order-replicate (x ∷ xs) stamp n h m = (all-both (λ y. x ≤ y) xs (replicate n stamp) h.0 (all-replicate (λ y. x ≤ y) n stamp m.0), order-replicate xs stamp n h.1 m.1)
 
 abbrev pub passed_account : Kept → ℕ → ℕ → Kept
 passed_account k count stamp = record k { stamps = k.stamps ++ replicate count stamp }
 
-pub cursor-passed : (A : ℕ → Kept) (E : List Entry) {n : ℕ} (conn count stamp : ℕ) → n ≡ position_or_len (waits_in A) E → n ≤ position_or_len (waits_in (put A conn (passed_account (A conn) count stamp))) E
-cursor-passed A E conn count stamp at = cursor-later A (put A conn (passed_account (A conn) count stamp)) E
-    (λ q h. sym (put-same is_open_account A conn (passed_account (A conn) count stamp) refl q) ∙ h) (λ q. by q (conn == q) refl) at
-  where
-    by : (q : ℕ) (b : Bool) → conn == q ≡ b → passed_end (A q) ≤ passed_end (if b then passed_account (A conn) count stamp else A q)
-    by q true p = subst (λ (c : ℕ). passed_end (A c) ≤ passed_end (passed_account (A conn) count stamp)) (eqb-true conn q p) (omega (arith, length-append (A conn).stamps (replicate count stamp)))
-    by q false p = omega arith
+pub passed-later : {n : ℕ} {new : List (ℕ × Kept)} (T : List (ℕ × Kept)) (E : List Entry) (conn count stamp : ℕ) → new ≡ set_value (nat_eq conn) T (passed_account (account_at T conn) count stamp) → is_known (keys_of T) conn ≡ true
+    → n ≡ position_or_len (waits_in (account_at T)) E → n ≤ position_or_len (waits_in (account_at new)) E
+passed-later {n = n} T E conn count stamp is known at = of_written (λ B l. n ≤ position_or_len (waits_in B) E) T conn (passed_account (account_at T conn) count stamp) is known
+    (cursor-later (account_at T) (put (account_at T) conn (passed_account (account_at T conn) count stamp)) E
+    (λ q h. sym (put-same is_open_account (account_at T) conn (passed_account (account_at T conn) count stamp) refl q) ∙ h)
+    (at-put (λ q x. passed_end (account_at T q) ≤ passed_end x) (account_at T) conn (passed_account (account_at T conn) count stamp) (omega (arith, length-append (account_at T conn).stamps (replicate count stamp))) (λ q none. omega arith)) at)
 
 pub holds-passed : {A : ℕ → Kept} {K : List ℕ} {E own : List Entry} {room : ℕ} {shared : Option ℕ} {n n' : ℕ} (conn count stamp : ℕ) → length (A conn).stamps + count ≤ length (sent_to conn (sends_of E)) → NotBefore stamp (A conn).stamps
     → n' ≡ position_or_len (waits_in (put A conn (passed_account (A conn) count stamp))) E → Holds A K E own room shared n → Holds (put A conn (passed_account (A conn) count stamp)) K E own room shared n'
@@ -385,8 +343,8 @@ holds-passed {A = A} {E = E} {own = own} {shared = shared} conn count stamp few 
   stands = record {
     distinct = h.stands.distinct;
     laid = laid-same earlier (λ q x. x) h.stands.laid;
-    fits = λ q. fits q (conn == q) refl;
-    stamps = λ q. order q (conn == q);
+    fits = at-put (λ q x. length x.stamps ≤ length (sent_to q (sends_of E))) A conn (passed_account (A conn) count stamp) (omega (arith, few, length-append (A conn).stamps (replicate count stamp), length-replicate count stamp)) (λ q none. h.stands.fits q);
+    stamps = at-put (λ q x. IsInOrder x.stamps) A conn (passed_account (A conn) count stamp) (order-replicate (A conn).stamps stamp count (h.stands.stamps conn) later) (λ q none. h.stands.stamps q);
     cursor = cursor;
   };
   writes = record {
@@ -399,19 +357,12 @@ holds-passed {A = A} {E = E} {own = own} {shared = shared} conn count stamp few 
     earlier : (q : ℕ) → (put A conn (passed_account (A conn) count stamp) q).earlier ≡ (A q).earlier
     earlier q = put-same (λ (k : Kept). k.earlier) A conn (passed_account (A conn) count stamp) refl q
 
-    fits : (q : ℕ) (b : Bool) → conn == q ≡ b → length (if b then passed_account (A conn) count stamp else A q).stamps ≤ length (sent_to q (sends_of E))
-    fits q true p = subst (λ (c : ℕ). length (passed_account (A conn) count stamp).stamps ≤ length (sent_to c (sends_of E))) (eqb-true conn q p) (omega (arith, few, length-append (A conn).stamps (replicate count stamp), length-replicate count stamp))
-    fits q false p = h.stands.fits q
-
-    order : (q : ℕ) (b : Bool) → IsInOrder (if b then passed_account (A conn) count stamp else A q).stamps
-    order q true = order-replicate (A conn).stamps stamp count (h.stands.stamps conn) later
-    order q false = h.stands.stamps q
-
-pub seen-passed : {A : ℕ → Kept} {K : List ℕ} {E : List Entry} {n : ℕ} (conn count stamp : ℕ) → (is_known K conn ≡ false → A conn ≡ no_account) → Stands A K E n
-    → connections_of (sends_of E) (put A conn (passed_account (A conn) count stamp)) K ≡ changed conn (passed_connection (stamped stamp (take count (drop (length (bytes_of (stamped_to (connections_of (sends_of E) A K) conn))) (sent_to conn (sends_of E)))))) (connections_of (sends_of E) A K)
-seen-passed {A = A} {K = K} {E = E} conn count stamp none h =
-    let place : length (A conn).stamps ≡ length (bytes_of (stamped_to (connections_of (sends_of E) A K) conn)) = sym (length-bytes_of (stamped_to (connections_of (sends_of E) A K) conn) ∙ passed-length conn none h) in
-    connections-changed (sends_of E) A conn (passed_account (A conn) count stamp) _ K
+pub passed-shown : {E : List Entry} {n : ℕ} {new : List (ℕ × Kept)} (T : List (ℕ × Kept)) (conn count stamp : ℕ) → Stands (account_at T) (keys_of T) E n → new ≡ set_value (nat_eq conn) T (passed_account (account_at T conn) count stamp) → is_known (keys_of T) conn ≡ true
+    → connections_of (sends_of E) (account_at new) (keys_of new) ≡ changed conn (passed_connection (stamped stamp (take count (drop (length (bytes_of (stamped_to (connections_of (sends_of E) (account_at T) (keys_of T)) conn))) (sent_to conn (sends_of E)))))) (connections_of (sends_of E) (account_at T) (keys_of T))
+passed-shown {E = E} T conn count stamp h is known =
+    let A : ℕ → Kept = account_at T in
+    let place : length (A conn).stamps ≡ length (bytes_of (stamped_to (connections_of (sends_of E) A (keys_of T)) conn)) = sym (length-bytes_of (stamped_to (connections_of (sends_of E) A (keys_of T)) conn) ∙ passed-length conn (none_kept T conn) h) in
+    marked-shown (sends_of E) T conn (passed_account (A conn) count stamp) _ is known
     (ap (λ (l : List Passed). record { conn = conn; closed = (A conn).closed; gone = (A conn).gone; earlier = (A conn).earlier; passed = l })
     (passed_of-more (sent_to conn (sends_of E)) (A conn).stamps count stamp (h.fits conn)
     ∙ ap (λ (m : ℕ). passed_of (sent_to conn (sends_of E)) (A conn).stamps ++ stamped stamp (take count (drop m (sent_to conn (sends_of E))))) place))
@@ -523,53 +474,58 @@ next-of {A = A} {K = K} {E = E} until none h =
     ap (find (λ (p : Send). waits (connections_of (sends_of E) A K) p && nat_le p.taken until)) (parts-are none h) ∙ find-map (λ (p : Send). waits (connections_of (sends_of E) A K) p && nat_le p.taken until) (part_in A) E
     ∙ ap (λ (p : Entry → Bool). option_map (part_in A) (find (λ (e : Entry). p e && nat_le e.taken until) E)) (waits-seen K (sends_of E) none)
 
-pub next-found : {A : ℕ → Kept} {K : List ℕ} {E : List Entry} {n : ℕ} (until : ℕ) (e : Entry) → ((q : ℕ) → is_known K q ≡ false → A q ≡ no_account) → Stands A K E n → n < length E → e ≡ get_or E n e → e.taken ≤ until
-    → find (λ (p : Send). waits (connections_of (sends_of E) A K) p && nat_le p.taken until) (parts_behind (connections_of (sends_of E) A K) [] (sends_of E)) ≡ Some (part_in A e)
-next-found {A = A} {E = E} {n = n} until e none h lt is le =
-    let here : waits_in A e ≡ true = ap (waits_in A) is ∙ position-at (waits_in A) E n e h.cursor lt in
-    next-of until none h ∙ ap (option_map (part_in A)) (find-at (λ (x : Entry). waits_in A x && nat_le x.taken until) E n e lt is (and_from (waits_in A e) (nat_le e.taken until) here (le-leb e.taken until le))
-    (λ k d before. and_left (waits_in A (get_or E k d)) (nat_le (get_or E k d).taken until) (fails_before_first (waits_in A) E k d (omega (arith, before, h.cursor)))))
+pub next-found : {E own : List Entry} {room n : ℕ} {shared : Option ℕ} (first : ℕ) (T : List (ℕ × Kept)) (until : ℕ) (e : Entry) → Holds (account_at T) (keys_of T) E own room shared n → n < length E → e ≡ get_or E n e → e.taken ≤ until
+    → next_part (ledger_of first E own shared (connections_of (sends_of E) (account_at T) (keys_of T))) until ≡ Some (part_in (account_at T) e)
+unfolding next_part
+next-found {E = E} {n = n} first T until e h lt is le =
+    let here : waits_in (account_at T) e ≡ true = ap (waits_in (account_at T)) is ∙ position-at (waits_in (account_at T)) E n e h.stands.cursor lt in
+    next-of until (none_kept T) h.stands ∙ ap (option_map (part_in (account_at T))) (find-at (λ (x : Entry). waits_in (account_at T) x && nat_le x.taken until) E n e lt is (and_from (waits_in (account_at T) e) (nat_le e.taken until) here (le-leb e.taken until le))
+    (λ k d before. and_left (waits_in (account_at T) (get_or E k d)) (nat_le (get_or E k d).taken until) (fails_before_first (waits_in (account_at T)) E k d (omega (arith, before, h.stands.cursor)))))
 
-pub next-none : {A : ℕ → Kept} {K : List ℕ} {E : List Entry} {n : ℕ} (until : ℕ) → ((q : ℕ) → is_known K q ≡ false → A q ≡ no_account) → Stands A K E n → ((e : Entry) → n < length E → e ≡ get_or E n e → until < e.taken)
-    → find (λ (p : Send). waits (connections_of (sends_of E) A K) p && nat_le p.taken until) (parts_behind (connections_of (sends_of E) A K) [] (sends_of E)) ≡ None
-next-none {A = A} {E = E} {n = n} until none h late =
-    next-of until none h ∙ ap (option_map (part_in A)) (find-none (λ (x : Entry). waits_in A x && nat_le x.taken until) E (λ k d within. by k d within (cases_lt k n)))
+pub next-late : {E own : List Entry} {room n : ℕ} {shared : Option ℕ} (first : ℕ) (T : List (ℕ × Kept)) (until : ℕ) (e : Entry) → Holds (account_at T) (keys_of T) E own room shared n → (n < length E → (e ≡ get_or E n e) × (until < e.taken))
+    → next_part (ledger_of first E own shared (connections_of (sends_of E) (account_at T) (keys_of T))) until ≡ None
+unfolding next_part
+next-late {E = E} {n = n} first T until e h late =
+    next-of until (none_kept T) h.stands ∙ ap (option_map (part_in (account_at T))) (find-none (λ (x : Entry). waits_in (account_at T) x && nat_le x.taken until) E (λ k d within. by k d within (cases_lt k n)))
   where
-    by : (k : ℕ) (d : Entry) → k < length E → (k < n) ⊎ (n ≤ k) → (waits_in A (get_or E k d) && nat_le (get_or E k d).taken until) ≡ false
-    by k d within (inl before) = and_left (waits_in A (get_or E k d)) (nat_le (get_or E k d).taken until) (fails_before_first (waits_in A) E k d (omega (arith, before, h.cursor)))
+    by : (k : ℕ) (d : Entry) → k < length E → (k < n) ⊎ (n ≤ k) → (waits_in (account_at T) (get_or E k d) && nat_le (get_or E k d).taken until) ≡ false
+    by k d within (inl before) = and_left (waits_in (account_at T) (get_or E k d)) (nat_le (get_or E k d).taken until) (fails_before_first (waits_in (account_at T)) E k d (omega (arith, before, h.stands.cursor)))
     by k d within (inr behind) =
-        let here : until < (get_or E n d).taken = late (get_or E n d) (omega (arith, behind, within)) (get_or_default E n d (get_or E n d) (omega (arith, behind, within))) in
-        and_right (waits_in A (get_or E k d)) (nat_le (get_or E k d).taken until) (lt-leb (get_or E k d).taken until (omega (arith, here, later-at E n k d h.laid.times behind within)))
+        let lt : n < length E = omega (arith, behind, within) in
+        let here : until < (get_or E n d).taken = subst (λ (x : Entry). until < x.taken) ((late lt).0 ∙ get_or_default E n e d lt) (late lt).1 in
+        and_right (waits_in (account_at T) (get_or E k d)) (nat_le (get_or E k d).taken until) (lt-leb (get_or E k d).taken until (omega (arith, here, later-at E n k d h.stands.laid.times behind within)))
+
+pub next-past : {E own : List Entry} {room n : ℕ} {shared : Option ℕ} (first : ℕ) (T : List (ℕ × Kept)) (until : ℕ) → Holds (account_at T) (keys_of T) E own room shared n → length E ≤ n → next_part (ledger_of first E own shared (connections_of (sends_of E) (account_at T) (keys_of T))) until ≡ None
+next-past first T until h past = next-late first T until (record { conn = 0; bytes = []; taken = 0; end = 0 }) h (λ lt. absurd (omega (arith, lt, past)))
+
+pub ruleset nexting = (next-found, next-late)
 
 -- the next part of one connection
 abbrev pub rests : (ℕ → Kept) → ℕ → Entry → Bool
 rests A conn e = (e.conn == conn) && nat_lt 0 (length (rest_of (passed_end (A e.conn)) e))
 
-pub rest-of : {A : ℕ → Kept} {K : List ℕ} {E : List Entry} {n : ℕ} (conn : ℕ) (found : Option Entry) → ((q : ℕ) → is_known K q ≡ false → A q ≡ no_account) → Stands A K E n → find (rests A conn) E ≡ found
-    → find (λ (p : Send). p.conn == conn && nat_lt 0 (length p.bytes)) (parts_behind (connections_of (sends_of E) A K) [] (sends_of E)) ≡ option_map (part_in A) found
-rest-of {A = A} {E = E} conn found none h is =
-    ap (find (λ (p : Send). p.conn == conn && nat_lt 0 (length p.bytes))) (parts-are none h) ∙ find-map (λ (p : Send). p.conn == conn && nat_lt 0 (length p.bytes)) (part_in A) E ∙ ap (option_map (part_in A)) is
+pub rest-of : {E own : List Entry} {room n : ℕ} {shared : Option ℕ} (first : ℕ) (T : List (ℕ × Kept)) (conn : ℕ) (found : Option Entry) → Holds (account_at T) (keys_of T) E own room shared n → find (rests (account_at T) conn) E ≡ found
+    → rest_part (ledger_of first E own shared (connections_of (sends_of E) (account_at T) (keys_of T))) conn ≡ option_map (part_in (account_at T)) found
+unfolding rest_part
+rest-of {E = E} first T conn found h is =
+    ap (find (λ (p : Send). p.conn == conn && nat_lt 0 (length p.bytes))) (parts-are (none_kept T) h.stands) ∙ find-map (λ (p : Send). p.conn == conn && nat_lt 0 (length p.bytes)) (part_in (account_at T)) E
+    ∙ ap (option_map (part_in (account_at T))) is
 
 pub rests-before : {A : ℕ → Kept} {K : List ℕ} {E : List Entry} {n : ℕ} (conn from : ℕ) → Stands A K E n → from ≡ (if is_open_account (A conn) then n else 0) → (k : ℕ) (d : Entry) → k < from → rests A conn (get_or E k d) ≡ false
-rests-before {A = A} {E = E} {n = n} conn from h is k d lt = by (is_open_account (A conn)) refl is
-  where
-    by : (b : Bool) → is_open_account (A conn) ≡ b → from ≡ (if b then n else 0) → rests A conn (get_or E k d) ≡ false
-    by true o e = tested ((get_or E k d).conn == conn)
-        (λ p.
-        let opened : is_open_account (A (get_or E k d).conn) ≡ true = ap (λ (q : ℕ). is_open_account (A q)) (eqb-true (get_or E k d).conn conn p) ∙ o in
-        and_right ((get_or E k d).conn == conn) _ (ap (nat_lt 0) (waits-not A (get_or E k d) opened (fails_before_first (waits_in A) E k d (omega (arith, lt, e, h.cursor))))))
-        (λ p. and_left ((get_or E k d).conn == conn) _ p)
-    by false o e = absurd (omega (arith, lt, e))
+rests-before {A = A} {E = E} {n = n} conn from h is k d lt = tested ((get_or E k d).conn == conn)
+    (λ p. tested (is_open_account (A conn))
+    (λ o.
+    let opened : is_open_account (A (get_or E k d).conn) ≡ true = ap (λ (q : ℕ). is_open_account (A q)) (eqb-true (get_or E k d).conn conn p) ∙ o in
+    and_right ((get_or E k d).conn == conn) _ (ap (nat_lt 0) (waits-not A (get_or E k d) opened (fails_before_first (waits_in A) E k d (omega (arith, lt, is, h.cursor, ap (λ (b : Bool). if b then n else 0) o))))))
+    (λ o. absurd (omega (arith, lt, is, ap (λ (b : Bool). if b then n else 0) o))))
+    (λ p. and_left ((get_or E k d).conn == conn) _ p)
 
 -- whether a part that the code looks at is left
 pub rests-part : (A : ℕ → Kept) (conn at : ℕ) (e : Entry) (part : List ℕ) → at ≡ passed_end (A conn) → part ≡ (if e.conn == conn then rest_of at e else []) → rests A conn e ≡ not (length part == 0)
-rests-part A conn at e part place is = by (e.conn == conn) refl is
-  where
-    by : (b : Bool) → e.conn == conn ≡ b → part ≡ (if b then rest_of at e else []) → (b && nat_lt 0 (length (rest_of (passed_end (A e.conn)) e))) ≡ not (length part == 0)
-    by true p q =
-        let here : passed_end (A e.conn) ≡ at = ap (λ (c : ℕ). passed_end (A c)) (eqb-true e.conn conn p) ∙ sym place in
-        ap (λ (m : ℕ). nat_lt 0 (length (rest_of m e))) here ∙ ap (λ (l : List ℕ). nat_lt 0 (length l)) (sym q) ∙ sym (not-empty (length part))
-    by false p q = sym (ap (λ (l : List ℕ). not (length l == 0)) q)
+rests-part A conn at e part place is = tested (e.conn == conn)
+    (λ p. (λ i. p i && nat_lt 0 (length (rest_of ((ap (λ (c : ℕ). passed_end (A c)) (eqb-true e.conn conn p) ∙ sym place) i) e)))
+    ∙ ap (λ (l : List ℕ). nat_lt 0 (length l)) (sym (is ∙ ap (λ (b : Bool). if b then rest_of at e else []) p)) ∙ sym (not-empty (length part)))
+    (λ p. and_left (e.conn == conn) _ p ∙ sym (ap (λ (l : List ℕ). not (length l == 0)) (is ∙ ap (λ (b : Bool). if b then rest_of at e else []) p)))
 
 pub rests-bytes : (A : ℕ → Kept) (conn at : ℕ) (e : Entry) (part : List ℕ) → at ≡ passed_end (A conn) → part ≡ (if e.conn == conn then rest_of at e else []) → rests A conn e ≡ true → part ≡ rest_of (passed_end (A e.conn)) e
 rests-bytes A conn at e part place is t =
@@ -587,9 +543,33 @@ rests-more A conn i E e lt is f h k d below = by (cases_lt k i)
         ap (rests A conn) (ap (λ (n : ℕ). get_or E n d) at ∙ get_or_default E i d e lt ∙ sym is) ∙ f
 
 -- what holds of every ledger
-pub lawful : {A : ℕ → Kept} {K : List ℕ} {E own : List Entry} {room n : ℕ} {shared : Option ℕ} (first : ℕ) → ((q : ℕ) → is_known K q ≡ false → A q ≡ no_account) → Holds A K E own room shared n → IsLawful (ledger_of first E own shared (connections_of (sends_of E) A K))
-lawful {A = A} {K = K} {E = E} first none h = record { passed = λ q. passed-front A K E q (none q); times = h.stands.laid.times; stamps = λ q. subst IsInOrder (sym (passed-stamps q (none q) h.stands)) (h.stands.stamps q) }
+pub lawful : {E own : List Entry} {room n first : ℕ} {shared : Option ℕ} {ledger : Ledger} (T : List (ℕ × Kept)) → Holds (account_at T) (keys_of T) E own room shared n
+    → ledger_of first E own shared (connections_of (sends_of E) (account_at T) (keys_of T)) ≡ ledger → IsLawful ledger
+lawful {E = E} T h is = subst IsLawful is (record {
+  passed = λ q. passed-front (account_at T) (keys_of T) E q (none_kept T q);
+  times = h.stands.laid.times;
+  stamps = λ q. subst IsInOrder (sym (passed-stamps q (none_kept T q) h.stands)) (h.stands.stamps q);
+})
 
 pub trial-same : (E own E' own' : List Entry) (shared : Option ℕ) → shared ≡ None → trial_of E' own' shared ≡ trial_of E own shared
 trial-same E own E' own' None k = refl
 trial-same E own E' own' (Some n) k = absurd (let no : ⊥ = cc (k) in no)
+
+pub ruleset opened = (is_open-of, none_kept)
+
+pub ruleset passing = (passed-later, passed-shown, opened-known)
+
+pub ruleset marking = (marked-later, marked-shown, opened-known)
+
+pub ruleset resting = (rests-more, rests-part)
+
+pub opened-shown : {new : List (ℕ × Kept)} (S : List Send) (T : List (ℕ × Kept)) (conn : ℕ) → new ≡ T ++ (conn, new_account) ∷ [] → is_known (keys_of T) conn ≡ false
+    → connections_of S (account_at new) (keys_of new) ≡ connections_of S (account_at T) (keys_of T) ++ new_connection conn ∷ []
+opened-shown S T conn is none =
+    of_opened (λ B l. connections_of S B l ≡ connections_of S (account_at T) (keys_of T) ++ new_connection conn ∷ []) T conn new_account is none (connections-push S (account_at T) conn (keys_of T) none)
+
+pub ruleset opening = (lookup-unknown, unknown-of, opened-shown)
+
+pub ruleset beginning = (length-sends_of)
+
+pub ruleset sending = (position-le, sent-shown, opened-known, sends_of-append, sends_of-one, trial-same, shared-none)

@@ -1,10 +1,8 @@
 // What is kept of one connection.
-ghost use Rattle.std.specs.Prelude.{◌≡◌, ℕ, ◌+◌, ◌-◌, ◌<◌, ◌≤◌, ◌&&◌, not, true, false, ◌++◌, length, drop, filter, replicate, nat_le, OnOk, OnErr, IfSome, IfNone, OnSome, if◌then◌else◌};
+ghost use Rattle.std.specs.Prelude.{◌≡◌, ℕ, ◌+◌, ◌^◌, ◌-◌, ◌<◌, ◌≤◌, ◌&&◌, not, true, false, ◌++◌, length, take, drop, filter, replicate, nat_le, OnOk, OnErr, IfSome, IfNone, OnSome, if◌then◌else◌};
 ghost use Rattle.reply_ledger.specs.Ledger.{IsInOrder};
-ghost use Rattle.std.specs.List.{AllWithin};
-ghost use Rattle.std.specs.List.Sorted.{IsPartitionedBy};
 ghost use Rattle.std.specs.VecDeque.{deque_len};
-ghost use Rattle.reply_ledger.specs.Accounts.{new_account, is_open_account, passed_end, runs_past, Notes};
+ghost use Rattle.reply_ledger.specs.Accounts.{new_account, is_open_account, passed_end, runs_past, stamps_in, RunsRise};
 
 use std::alloc::{AllocError, Global};
 use std::collections::VecDeque;
@@ -91,10 +89,7 @@ impl Account {
     pub fn passed(&self) -> u64
         ensures { result ≡ passed_end self.now }
     {
-        match self.runs.back() {
-            Some(run) => run.end,
-            None => self.earlier,
-        }
+        last_end(&self.runs, self.earlier)
     }
 
     /// Where the bytes end that were passed with so many items received, or fewer.
@@ -102,12 +97,8 @@ impl Account {
         requires { IsInOrder self.now.stamps }
         ensures { result ≡ self.now.earlier + length (filter (λ stamp. nat_le stamp item) self.now.stamps) }
     {
-        let count = runs_until(&self.runs, item);
-        if count == 0 {
-            self.earlier
-        } else {
-            self.runs[count - 1].end
-        }
+        let count = self.runs.partition_point(|run| run.stamp <= item);
+        end_of(&self.runs, count, self.earlier)
     }
 
     /// Moves the end of the stream by so many bytes, and answers where it is then: nothing, where it would pass 2^64 - 1.
@@ -143,12 +134,12 @@ impl Account {
         ensures ok { OnOk result (self.new ≡ record self.old { stamps = self.old.stamps ++ replicate count stamp }) }
         ensures err { OnErr result (self.new ≡ self.old) }
     {
-        let at = self.passed();
-        note(&mut self.runs, at, at + count as u64, stamp)?;
+        note(&mut self.runs, self.earlier, count as u64, stamp)?;
         Ok(())
     }
 
     /// Gives up the oldest bytes of the stream, and what is kept of those that were passed of them.
+    #[tactic(auto, using(crate::proofs::RunLemmas::given_up_runs))]
     pub fn give_up(&mut self, count: u64)
         requires { self.old.earlier + count ≤ self.old.end }
         ensures { self.new ≡ record self.old { earlier = self.old.earlier + count; stamps = drop count self.old.stamps } }
@@ -167,46 +158,52 @@ pub fn first_left(opened: bool, next: usize) -> usize
     if opened { next } else { 0 }
 }
 
-// How many of the runs have a stamp that isn't above this number, where the stamps don't fall.
-fn runs_until(runs: &VecDeque<Run>, item: u64) -> usize
-    requires { IsPartitionedBy (λ run. nat_le run.stamp item) runs.now.items }
-    ensures bound { result ≤ length runs.now.items }
-    ensures low { AllWithin (λ run. nat_le run.stamp item ≡ true) runs.now.items 0 result }
-    ensures high { AllWithin (λ run. nat_le run.stamp item ≡ false) runs.now.items result (length runs.now.items) }
+// Where the first so many runs end, of those that begin at this place.
+#[tactic(auto, using(crate::proofs::RunLemmas::last_end), unfolding(crate::specs::Accounts::stamps_in))]
+fn end_of(runs: &VecDeque<Run>, count: usize, from: u64) -> u64
+    requires within { count ≤ length runs.now.items }
+    requires rise { RunsRise from runs.now.items }
+    ensures { result ≡ from + length (stamps_in from (take count runs.now.items)) }
 {
-    let mut low = 0;
-    let mut high = runs.len();
-    'half: while low < high {
-        let middle = low + (high - low) / 2;
-        if runs[middle].stamp <= item {
-            low = middle + 1;
-        } else {
-            high = middle;
-        }
+    if count == 0 {
+        from
+    } else {
+        runs[count - 1].end
     }
-    low
 }
 
-// Notes a stamp for the bytes from one place of the stream up to another.
-fn note(runs: &mut VecDeque<Run>, at: u64, end: u64, stamp: u64) -> Result<(), AllocError>
-    requires { at ≤ end }
-    ensures ok { OnOk result (Notes at end stamp runs.old.items runs.new.items) }
-    ensures err { OnErr result (runs.new.items ≡ runs.old.items) }
+// Where all of them end.
+fn last_end(runs: &VecDeque<Run>, from: u64) -> u64
+    requires { RunsRise from runs.now.items }
+    ensures { result ≡ from + length (stamps_in from runs.now.items) }
 {
-    if at == end {
+    end_of(runs, runs.len(), from)
+}
+
+// Notes a stamp for so many bytes behind those that the runs have, which begin at this place.
+#[tactic(auto, using(crate::proofs::RunLemmas::noting))]
+fn note(runs: &mut VecDeque<Run>, from: u64, count: u64, stamp: u64) -> Result<(), AllocError>
+    requires rise { RunsRise from runs.old.items }
+    requires fits { from + length (stamps_in from runs.old.items) + count < 2 ^ 64 }
+    ensures rise { RunsRise from runs.new.items }
+    ensures ok { OnOk result (stamps_in from runs.new.items ≡ stamps_in from runs.old.items ++ replicate count stamp) }
+    ensures err { OnErr result (stamps_in from runs.new.items ≡ stamps_in from runs.old.items) }
+{
+    if count == 0 {
         return Ok(());
     }
-    if let Some(last) = runs.back_mut() {
-        if last.stamp == stamp {
-            last.end = end;
-            return Ok(());
-        }
+    let end = last_end(runs, from) + count;
+    let length = runs.len();
+    if length > 0 && runs[length - 1].stamp == stamp {
+        runs[length - 1].end = end;
+        return Ok(());
     }
     runs.push_back(Run { end, stamp })?;
     Ok(())
 }
 
 // Drops the runs that end at or before a place of the stream.
+#[tactic(auto, using(crate::proofs::RunLemmas::dropping))]
 fn drop_runs(runs: &mut VecDeque<Run>, at: u64)
     ensures { runs.new.items ≡ runs_past at runs.old.items }
 {

@@ -21,6 +21,7 @@ pub struct StreamPlaces {
 }
 
 /// Opens a connection that wasn't opened before.
+#[tactic(auto, using(crate::proofs::AccountLemmas::opening))]
 pub fn open(accounts: &mut Accounts, alloc: Global, conn: u16) -> Result<(), AllocError>
     requires { lookup (nat_eq conn) accounts.old.entries ≡ None }
     ensures ok { OnOk result (accounts.new.entries ≡ accounts.old.entries ++ (conn, new_account) ∷ []) }
@@ -32,6 +33,7 @@ pub fn open(accounts: &mut Accounts, alloc: Global, conn: u16) -> Result<(), All
 }
 
 /// Marks a connection closed.
+#[tactic(auto, using(crate::proofs::AccountLemmas::writing))]
 pub fn close(accounts: &mut Accounts, conn: u16)
     ensures { accounts.new.entries ≡ set_value (nat_eq conn) accounts.old.entries (record (account_at accounts.old.entries conn) { closed = true }) }
 {
@@ -41,6 +43,7 @@ pub fn close(accounts: &mut Accounts, conn: u16)
 }
 
 /// Marks a connection gone.
+#[tactic(auto, using(crate::proofs::AccountLemmas::writing))]
 pub fn leave(accounts: &mut Accounts, conn: u16)
     ensures { accounts.new.entries ≡ set_value (nat_eq conn) accounts.old.entries (record (account_at accounts.old.entries conn) { gone = true }) }
 {
@@ -105,6 +108,7 @@ pub fn places(accounts: &Accounts, conn: u16) -> StreamPlaces
 
 /// Moves the end of a connection's stream by so many bytes, and answers where it is then, and whether the connection is open: nothing, where
 /// the end would pass 2^64 - 1, or where it wasn't opened.
+#[tactic(auto, using(crate::proofs::AccountLemmas::writing))]
 pub fn send(accounts: &mut Accounts, conn: u16, count: u64) -> Option<(u64, bool)>
     ensures end { IfSome result (λ at. at.0 ≡ (account_at accounts.old.entries conn).end + count) }
     ensures opened { IfSome result (λ at. at.1 ≡ is_open_account (account_at accounts.old.entries conn)) }
@@ -124,6 +128,7 @@ pub fn send(accounts: &mut Accounts, conn: u16, count: u64) -> Option<(u64, bool
 }
 
 /// Moves the end of a connection's stream.
+#[tactic(auto, using(crate::proofs::AccountLemmas::writing))]
 pub fn set_end(accounts: &mut Accounts, conn: u16, end: u64)
     ensures { accounts.new.entries ≡ set_value (nat_eq conn) accounts.old.entries (record (account_at accounts.old.entries conn) { end = end }) }
 {
@@ -133,6 +138,7 @@ pub fn set_end(accounts: &mut Accounts, conn: u16, end: u64)
 }
 
 /// The next so many bytes of a connection's stream were passed at a stamp.
+#[tactic(auto, using(crate::proofs::AccountLemmas::writing))]
 pub fn pass(accounts: &mut Accounts, conn: u16, count: usize, stamp: u64) -> Result<(), AllocError>
     requires { passed_end (account_at accounts.old.entries conn) + count ≤ (account_at accounts.old.entries conn).end }
     ensures ok { OnOk result (accounts.new.entries ≡ set_value (nat_eq conn) accounts.old.entries (record (account_at accounts.old.entries conn) { stamps = (account_at accounts.old.entries conn).stamps ++ replicate count stamp })) }
@@ -145,6 +151,7 @@ pub fn pass(accounts: &mut Accounts, conn: u16, count: usize, stamp: u64) -> Res
 }
 
 /// Gives up the oldest bytes of a connection's stream.
+#[tactic(auto, using(crate::proofs::AccountLemmas::writing))]
 pub fn give_up(accounts: &mut Accounts, conn: u16, count: u64)
     requires { (account_at accounts.old.entries conn).earlier + count ≤ (account_at accounts.old.entries conn).end }
     ensures { accounts.new.entries ≡ set_value (nat_eq conn) accounts.old.entries (record (account_at accounts.old.entries conn) { earlier = (account_at accounts.old.entries conn).earlier + count; stamps = drop count (account_at accounts.old.entries conn).stamps }) }
@@ -155,6 +162,7 @@ pub fn give_up(accounts: &mut Accounts, conn: u16, count: u64)
 }
 
 /// Moves the end of each stream to where the kept sends begin.
+#[tactic(auto, using(crate::proofs::AccountLemmas::restarting))]
 pub fn restart(accounts: &mut Accounts)
     ensures { accounts.new.entries ≡ restarted accounts.old.entries }
 {

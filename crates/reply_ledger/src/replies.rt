@@ -59,6 +59,7 @@ impl Replies {
     }
 
     /// Nothing sent, and no connection.
+    #[tactic(auto, unfolding(crate::specs::Inside::connections_of, crate::specs::Entries::sends_of))]
     pub fn make(alloc: Global) -> Result<Replies, AllocError>
         ensures { IfOk result (λ replies. replies ≡ no_replies) }
     {
@@ -75,6 +76,7 @@ impl Replies {
     }
 
     /// Opens a connection that wasn't opened before.
+    #[tactic(auto, using(crate::proofs::StandsLemmas::opening))]
     pub fn opens(&mut self, conn: u16) -> Result<(), AllocError>
         requires { connection_of self.old.connections conn ≡ None }
         ensures ok { OnOk result (self.new ≡ with_connection self.old conn) }
@@ -85,6 +87,7 @@ impl Replies {
     }
 
     /// Marks a connection closed. Nothing more is due on it.
+    #[tactic(auto, using(crate::proofs::StandsLemmas::marking))]
     pub fn closes(&mut self, conn: u16)
         requires { IsOpened self.old conn }
         ensures { self.new ≡ with_change self.old conn closed_connection }
@@ -94,6 +97,7 @@ impl Replies {
     }
 
     /// Marks a connection gone: its link takes nothing more.
+    #[tactic(auto, using(crate::proofs::StandsLemmas::marking))]
     pub fn gone(&mut self, conn: u16)
         requires { IsOpened self.old conn }
         ensures { self.new ≡ with_change self.old conn gone_connection }
@@ -103,6 +107,7 @@ impl Replies {
     }
 
     /// Whether a connection was opened, wasn't closed, and isn't gone.
+    #[tactic(auto, using(crate::proofs::StandsLemmas::opened))]
     pub fn is_open(&self, conn: u16) -> bool
         ensures { result ≡ is_open self.now.connections conn }
     {
@@ -110,6 +115,7 @@ impl Replies {
     }
 
     /// A send of the survivor, made with so many items taken. After an `Err` the handed bytes are given up.
+    #[tactic(auto, using(crate::proofs::StandsLemmas::sending))]
     pub fn sent(&mut self, conn: u16, bytes: Bytes, taken: u64) -> Result<(), AllocError>
         requires opened { IsOpened self.old conn }
         requires nonempty { 0 < length bytes }
@@ -134,6 +140,7 @@ impl Replies {
     }
 
     /// A trial begins: its sends are the survivor's first so many.
+    #[tactic(auto, using(crate::proofs::StandsLemmas::beginning))]
     pub fn begin_trial(&mut self, sends: u64)
         requires survivor { self.old.trial ≡ None }
         requires kept { self.old.first ≤ sends }
@@ -233,6 +240,7 @@ impl Replies {
 
     /// The first part that wasn't passed, of a send to an open connection that was made with so many items taken at most: its connection
     /// and its bytes, of which there is at least one.
+    #[tactic(auto, using(crate::proofs::StandsLemmas::nexting))]
     pub fn next_piece(&self, until: u64) -> Option<(u16, &[u8])>
         ensures { option_map (λ piece. (piece.0, piece.1.now)) result ≡ option_map shown_part (next_part self.now until) }
     {
@@ -250,6 +258,7 @@ impl Replies {
     }
 
     /// The first part of one connection that wasn't passed, whenever it was sent, and whether or not the connection is open.
+    #[tactic(auto, using(crate::proofs::StandsLemmas::resting))]
     pub fn rest_of(&self, conn: u16) -> Option<&[u8]>
         requires { IsOpened self.now conn }
         ensures { option_copied result ≡ option_map (λ part. part.bytes) (rest_part self.now conn) }
@@ -266,6 +275,7 @@ impl Replies {
     }
 
     /// The next bytes of a connection's stream were passed with so many items received.
+    #[tactic(auto, using(crate::proofs::StandsLemmas::passing))]
     pub fn passed(&mut self, conn: u16, count: usize, stamp: u64) -> Result<(), AllocError>
         requires survivor { self.old.trial ≡ None }
         requires opened { IsOpened self.old conn }
@@ -280,6 +290,7 @@ impl Replies {
     }
 
     /// Gives up the sends before this number, up to the first that may still be passed.
+    #[tactic(auto, using(crate::proofs::PositionLemmas::positions))]
     pub fn trim(&mut self, sends: u64)
         requires survivor { self.old.trial ≡ None }
         requires within { sends ≤ self.old.first + length self.old.kept }
@@ -298,6 +309,7 @@ impl Replies {
         ensures first { result ≡ self.now.first }
         ensures lawful { IsLawful self.now }
     {
+        self.sound();
         self.first
     }
 }

@@ -14,6 +14,7 @@ use std::alloc::AllocError;
 use std::collections::VecDeque;
 
 /// Whether a send may still be passed: something is left of it, and its connection is open.
+#[tactic(auto, using(crate::proofs::AccountLemmas::accounts))]
 fn waits(accounts: &Accounts, entry: &Entry) -> bool
     ensures { result ≡ waits_in (account_at accounts.now.entries) entry.now }
 {
@@ -24,6 +25,7 @@ fn waits(accounts: &Accounts, entry: &Entry) -> bool
 }
 
 /// The place of the first send that may still be passed, or the number of sends. It is `from` or stands behind it.
+#[tactic(auto, using(crate::proofs::PositionLemmas::positions))]
 pub fn first_waiting(sends: &VecDeque<Entry>, accounts: &Accounts, from: usize) -> usize
     requires { from ≤ position_or_len (waits_in (account_at accounts.now.entries)) sends.now.items }
     ensures { result ≡ position_or_len (waits_in (account_at accounts.now.entries)) sends.now.items }

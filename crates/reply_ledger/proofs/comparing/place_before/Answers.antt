@@ -1,5 +1,5 @@
-use Rattle.reply_ledger.proofs.EntryLemmas.{one_more}
-use Rattle.reply_ledger.proofs.Terms.{ap, arith, eq-eqb, if◌then◌else◌, length, subst, suc, sym, take, Bool, ◌+◌, ◌-◌, ◌<◌, ◌∙◌, ◌≡◌, ◌==◌, sent_to, Entry, sends_of}
+use Rattle.reply_ledger.proofs.Lemmas.{one_more}
+use Rattle.reply_ledger.proofs.Terms.{Bool, ap, arith, if◌then◌else◌, length, subst, suc, sym, take, ◌+◌, ◌-◌, ◌<◌, ◌∙◌, ◌≡◌, eq-eqb, ◌==◌, sent_to, Entry, sends_of}
 use Rattle.reply_ledger.proofs.comparing.place_before.Goals as goal
 
 pub returns-then-start-at : goal.returns-then-start-at
@@ -10,7 +10,3 @@ returns-then-start-at c =
     let more = one_more c.args.conn (c.back.i - 1) c.index-entry.result.now c.args.sends.now.items lt ∙ ap (λ (e : Entry). length (sent_to c.args.conn (sends_of (take (c.back.i - 1) c.args.sends.now.items))) + (if e.conn == c.args.conn then length e.bytes else 0)) (sym c.index-entry.ensures)
     ∙ ap (λ (b : Bool). length (sent_to c.args.conn (sends_of (take (c.back.i - 1) c.args.sends.now.items))) + (if b then length c.index-entry.result.now.bytes else 0)) (eq-eqb _ _ to) in
     omega (arith, place, more, c.start_of-start.ensures, c.if-start-at.true)
-
-pub returns : goal.returns
-unfolding sends_of
-returns c = omega (arith, c.saturating_sub.ensures)

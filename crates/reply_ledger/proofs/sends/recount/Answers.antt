@@ -1,4 +1,4 @@
-use Rattle.reply_ledger.proofs.Lemmas.{account_at-restarted, ending-more, ending-none, keys-restarted, of_written}
+use Rattle.reply_ledger.proofs.Lemmas.{account_at-restarted, keys-restarted, of_written, ending-more, ending-none}
 use Rattle.reply_ledger.proofs.Terms.{List, add-one, ap, arith, length, subst, sym, take, true, ℕ, ◌+◌, ◌<◌, ◌∙◌, ◌≡◌, keys_of, Entry, Kept, account_at, ending, is_known}
 use Rattle.reply_ledger.proofs.sends.recount.Goals as goal
 

@@ -1,5 +1,5 @@
-use Rattle.reply_ledger.proofs.Lemmas.{adopt-room, holds-adopted, none_kept, seen-adopted}
-use Rattle.reply_ledger.proofs.Terms.{Bool, List, None, Option, Some, Send, [], ap, arith, if◌then◌else◌, subst, sym, take, ℕ, ◌++◌, ◌+◌, ◌∙◌, ◌≡◌, ◌≤◌, keys_of, unwrap_or, Prefix, sent_to, Entry, bytes_of, stamped_to, Holds, account_at, connections_of, sends_of, trial_of}
+use Rattle.reply_ledger.proofs.Lemmas.{none_kept, adopt-room, holds-adopted, seen-adopted}
+use Rattle.reply_ledger.proofs.Terms.{Bool, List, None, Option, Some, [], ap, arith, if◌then◌else◌, subst, sym, take, ℕ, ◌++◌, ◌+◌, ◌∙◌, ◌≡◌, ◌≤◌, keys_of, unwrap_or, Prefix, Send, sent_to, Entry, bytes_of, stamped_to, account_at, sends_of, Holds, connections_of, trial_of}
 use Rattle.reply_ledger.proofs.replies.Replies.adopt.Goals as goal
 
 pub invariant_of-self : goal.invariant_of-self

@@ -1,11 +1,6 @@
-use Rattle.reply_ledger.proofs.Lemmas.{begun-agrees, holds-recounted, length-sends_of, none_kept, seen-recounted, sends_of-take}
+use Rattle.reply_ledger.proofs.Lemmas.{none_kept, length-sends_of, sends_of-take, begun-agrees, holds-recounted, seen-recounted}
 use Rattle.reply_ledger.proofs.Terms.{List, Some, ap, append-nil, arith, length, take, ◌++◌, ◌-◌, ◌∙◌, ◌≡◌, ◌≤◌, keys_of, sent_to, Entry, Connection, bytes_of, stamped_to, agree, account_at, sends_of}
 use Rattle.reply_ledger.proofs.replies.Replies.begin_trial.Goals as goal
-
-pub recount-requires-clause-within : goal.recount-requires-clause-within
-recount-requires-clause-within c =
-    let asked = rw (← c.self.view_is) at c.requires.within in
-    omega (arith, asked, length-sends_of c.self.inside.sends.items)
 
 pub invariant_of-self : goal.invariant_of-self
 invariant_of-self c =

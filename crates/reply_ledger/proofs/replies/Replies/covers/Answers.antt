@@ -1,5 +1,5 @@
-use Rattle.reply_ledger.proofs.Lemmas.{covers-says, length-bytes_of, none_kept, passed-length, written-is}
-use Rattle.reply_ledger.proofs.Terms.{List, [], ap, arith, length, refl, sym, ◌∙◌, keys_of, IsSome, unwrap_or, sent_to, Send, bytes_of, stamped_to, account_at, connections_of, sends_of, trial_of}
+use Rattle.reply_ledger.proofs.Lemmas.{length-bytes_of, none_kept, covers-says, passed-length, written-is}
+use Rattle.reply_ledger.proofs.Terms.{List, [], ap, arith, length, refl, sym, ◌∙◌, keys_of, IsSome, unwrap_or, Send, sent_to, bytes_of, stamped_to, account_at, sends_of, connections_of, trial_of}
 use Rattle.reply_ledger.proofs.replies.Replies.covers.Goals as goal
 
 pub returns : goal.returns

@@ -1,5 +1,5 @@
-use Rattle.reply_ledger.proofs.Lemmas.{agree-front, all-kept, covers-says, length-bytes_of, none_kept, passed-stamps, stamped_to-of, until-front, until-passed_of, written-is}
-use Rattle.reply_ledger.proofs.Terms.{List, [], ap, arith, filter, length, nat_le, refl, subst, sym, true, ℕ, ◌∙◌, ◌≡◌, keys_of, IsSome, unwrap_or, sent_to, IsInOrder, Passed, Send, bytes_of, stamped_to, agree, until, Kept, account_at, connections_of, sends_of, trial_of}
+use Rattle.reply_ledger.proofs.Lemmas.{length-bytes_of, until-passed_of, all-kept, none_kept, stamped_to-of, agree-front, covers-says, passed-stamps, until-front, written-is}
+use Rattle.reply_ledger.proofs.Terms.{List, [], ap, arith, length, refl, subst, sym, true, ℕ, ◌∙◌, ◌≡◌, keys_of, IsSome, filter, nat_le, unwrap_or, Send, sent_to, IsInOrder, Passed, bytes_of, stamped_to, agree, until, Kept, account_at, sends_of, connections_of, trial_of}
 use Rattle.reply_ledger.proofs.replies.Replies.covers_before.Goals as goal
 
 pub covers_until-requires : goal.covers_until-requires

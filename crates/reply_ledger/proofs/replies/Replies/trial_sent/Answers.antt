@@ -1,10 +1,6 @@
-use Rattle.std.proofs.Common.{rules}
-use Rattle.reply_ledger.proofs.Lemmas.{agrees-sent, compared-with, holds-room, holds-tried, opened-known, none_kept, of_written, seen-sent, trial-sent, written-is}
-use Rattle.reply_ledger.proofs.Terms.{[], append-nil, arith, length, sym, true, ◌++◌, ◌+◌, ◌∙◌, ◌∷◌, ◌≡◌, ◌≤◌, keys_of, IsSome, unwrap_or, sent_to, bytes_of, stamped_to, agree, Holds, account_at, connections_of, is_known, sends_of, trial_of, refl}
+use Rattle.reply_ledger.proofs.Lemmas.{none_kept, of_written, opened-known, agrees-sent, compared-with, holds-room, holds-tried, sent-shown, trial-sent, written-is}
+use Rattle.reply_ledger.proofs.Terms.{[], append-nil, arith, length, refl, rules, sym, ◌++◌, ◌+◌, ◌∙◌, ◌∷◌, ◌≡◌, ◌≤◌, keys_of, IsSome, unwrap_or, sent_to, bytes_of, stamped_to, agree, account_at, sends_of, Holds, connections_of, trial_of}
 use Rattle.reply_ledger.proofs.replies.Replies.trial_sent.Goals as goal
-
-pub compare-same-requires-clause-written : goal.compare-same-requires-clause-written
-compare-same-requires-clause-written c = omega (arith, c.self.invariant.writes.ends c.args.conn)
 
 pub invariant_of-self : goal.invariant_of-self
 invariant_of-self c = holds-room c.reserve.ensures.items c.reserve.ensures.capacity c.self.invariant
@@ -25,7 +21,7 @@ returns c =
     let kept : c.reserve.new.sends.items ≡ c.self.inside.sends.items = c.in_ok-reserve.ensures.items in
     let items : c.push_back.new.self.items ≡ c.self.inside.own.items ++ (record { conn = c.args.conn; bytes = c.args.bytes; taken = c.args.taken; end = c.in-Some.end }) ∷ [] = c.in_ok-push_back.ensures.items in
     let trial = (λ i. trial_of (kept i) (items i) c.self.inside.shared) ∙ trial-sent c.self.inside.sends.items c.self.inside.own.items c.self.inside.shared (record { conn = c.args.conn; bytes = c.args.bytes; taken = c.args.taken; end = c.in-Some.end }) some in
-    let shown = of_written (λ B l. connections_of (sends_of c.reserve.new.sends.items) B l ≡ (connections_of (sends_of c.self.inside.sends.items) (account_at c.self.inside.accounts.entries) (keys_of c.self.inside.accounts.entries))) c.self.inside.accounts.entries c.args.conn _ c.set_end.ensures known (seen-sent c.args.conn c.in-Some.end [] (kept ∙ sym (append-nil c.self.inside.sends.items)) c.self.invariant.stands) in
+    let shown = sent-shown c.self.inside.accounts.entries c.args.conn _ [] c.self.invariant.stands c.set_end.ensures known (kept ∙ sym (append-nil c.self.inside.sends.items)) in
     let same = c.is_some.ensures ∙ c.compare-same.ensures ∙ (λ i. agree (c.as_slice-2.ensures i) (compared-with c.args.conn (unwrap_or (trial_of c.self.inside.sends.items c.self.inside.own.items c.self.inside.shared) []) ((none_kept c.self.inside.accounts.entries) c.args.conn) (written-is c.self.inside.sends.items c.self.inside.own.items c.self.inside.shared some) c.self.invariant i)) in
     record {
       sent = rw (← c.self.view_is) (λ i. record { first = c.self.inside.first; kept = sends_of (kept i); trial = trial i; connections = shown i });

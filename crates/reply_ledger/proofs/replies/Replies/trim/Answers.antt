@@ -1,12 +1,10 @@
-use Rattle.reply_ledger.proofs.Lemmas.{holds-trimmed, none_kept, position-le, seen-trimmed, sends_of-drop, settled-is, sent-ends, shared-none, trial-same}
-use Rattle.reply_ledger.proofs.Terms.{ap, arith, drop, min, sym, take, ◌+◌, ◌-◌, ◌∙◌, ◌≡◌, ◌≤◌, keys_of, Ledger, settled, trimmed_connections, account_at, connections_of, ledger_of, sends_of, trial_of, waits_in}
+use Rattle.std.proofs.Common.{min}
+use Rattle.reply_ledger.proofs.Lemmas.{none_kept, sends_of-drop, holds-trimmed, seen-trimmed, sent-ends, settled-is, shared-none, trial-same}
+use Rattle.reply_ledger.proofs.Terms.{ap, arith, drop, sym, take, ◌+◌, ◌-◌, ◌∙◌, ◌≡◌, ◌≤◌, keys_of, Ledger, settled, trimmed_connections, account_at, sends_of, connections_of, ledger_of, trial_of}
 use Rattle.reply_ledger.proofs.replies.Replies.trim.Goals as goal
 
-pub drop_oldest-requires : goal.drop_oldest-requires
-drop_oldest-requires c = let le = position-le (waits_in (account_at c.self.inside.accounts.entries)) c.self.inside.sends.items in record {
-  writes = sent-ends c.self.inside.shared (shared-none c.self.inside.sends.items c.self.inside.own.items c.self.inside.shared (ap (λ (l : Ledger). l.trial) c.self.view_is ∙ c.requires.survivor)) c.self.invariant;
-  within = omega (arith, c.min-count.ensures, c.self.invariant.stands.cursor, le);
-}
+pub drop_oldest-requires-clause-writes : goal.drop_oldest-requires-clause-writes
+drop_oldest-requires-clause-writes c = sent-ends c.self.inside.shared (shared-none c.self.inside.sends.items c.self.inside.own.items c.self.inside.shared (ap (λ (l : Ledger). l.trial) c.self.view_is ∙ c.requires.survivor)) c.self.invariant
 
 pub invariant_of-self : goal.invariant_of-self
 invariant_of-self c =
