@@ -117,9 +117,9 @@ fn serve_under<R: AccessRule + Drop, F: Files, N: Listener, T: Teller, L: Ledger
     End::of_session(answer, session.into_end())
 }
 
-/// Loads the program of a command and lets it serve the connections of a port, one after another, with a record and a report of it
-/// in two files. The port is bound once these have their first lines. The access rule is chosen here, once, by the guard that the command asks for.
-pub fn serve_program<F: Files, N: Listener, T: Teller, L: Ledger>(
+// Loads the program of a command and lets it serve the connections of a port, one after another, with a record and a report of it
+// in two files. The port is bound once these have their first lines. The access rule is chosen here, once, by the guard that the command asks for.
+pub(crate) fn serve_program<F: Files, N: Listener, T: Teller, L: Ledger>(
     alloc: Global,
     serve: &ServeCommand<'_>,
     files: &mut F,
