@@ -1,6 +1,5 @@
 -- What calls leave of what a guest has beside its memory, as turns.
-use Rattle.alloc_env.specs.Serving.{in_place_of, served_block, served_over, Served, served_ask, served_free}
-use Rattle.guest_cpu.proofs.Terms.{Bool, List, None, Option, Some, arith, cond, eqb, false, ltb, refl, true, ℕ, ◌+◌, ◌<◌, ◌∙◌, ◌≡◌, ◌≢◌, ◌≤◌, none-some, is_some, slice_get, slice_index, unwrap_or, Ask, Choice, size-live, has_replaced, is_allowed, is_defined, live_blocks, live_with, replaced, size_at, without_live, Heap, SameEnds, is_live_at, Env, Ecall, Area, bytes_at, put_bytes, read, BadFree, allocated, freed, set_bytes, Core, answering, going_on, machine_of, set_range, standing, turn_to, meeting_of, sends, allocating, freeing}
+use Rattle.guest_cpu.proofs.Terms.{Bool, List, None, Option, Some, arith, cond, eqb, false, ltb, refl, true, ℕ, ◌+◌, ◌<◌, ◌∙◌, ◌≡◌, ◌≢◌, ◌≤◌, none-some, is_some, slice_get, slice_index, unwrap_or, Ask, Choice, size-live, has_replaced, is_allowed, is_defined, live_blocks, live_with, replaced, size_at, without_live, Heap, SameEnds, is_live_at, Env, Served, in_place_of, served_ask, served_block, served_free, served_over, Ecall, Area, bytes_at, put_bytes, read, BadFree, allocated, freed, set_bytes, Core, answering, going_on, machine_of, set_range, standing, turn_to, meeting_of, sends, allocating, freeing}
 use Rattle.guest_cpu.specs.declared.event.Event.TheVariants as event
 use Rattle.guest_cpu.specs.declared.event.Met.TheVariants as met
 

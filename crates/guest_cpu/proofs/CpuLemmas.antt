@@ -1,8 +1,8 @@
 -- One guest with its checkpoints, after its memory was written.
+use Rattle.std.proofs.Common.{Ok}
 use Rattle.cow_pages.specs.Writes.{Writes}
 use Rattle.page_line.proofs.Written.{line_writes}
-use Rattle.run_history.proofs.Repeats.{repeated_one}
-use Rattle.guest_cpu.proofs.Terms.{All, List, None, Ok, Option, Some, ap, length, refl, subst, sym, ℕ, ◌+◌, ◌-◌, ◌∙◌, ◌≡◌, same_Some, SameEnds, IsLawful, Pages, IsLine, Line, saved_behind, with_reached, written_pages, repeated, Range, GuestPages, IsLawfulSpace, flat, Event, Question, Core, AreCounted, Live, Standing, Turn, live_after, quiet_next, standing, turn_to, with_range, IsSend, Keeps, Lasts, RecordedLasts, Turned, Wrote, IsCpu, cpu_state, live_of, state_in, with_live, Breaks, Lives, Reaches, RecordedLives}
+use Rattle.guest_cpu.proofs.Terms.{All, List, None, Option, Some, ap, length, refl, subst, sym, ℕ, ◌+◌, ◌-◌, ◌∙◌, ◌≡◌, same_Some, SameEnds, IsLawful, Pages, IsLine, Line, saved_behind, with_reached, written_pages, repeated_one, repeated, Range, GuestPages, IsLawfulSpace, flat, Event, Question, Core, AreCounted, Live, Standing, Turn, live_after, quiet_next, standing, turn_to, with_range, IsSend, Keeps, Lasts, RecordedLasts, Turned, Wrote, IsCpu, cpu_state, live_of, state_in, with_live, Breaks, Lives, Reaches, RecordedLives}
 use Rattle.guest_cpu.specs.declared.event.Event.TheVariants as event
 use Rattle.guest_cpu.specs.declared.event.Question.TheVariants as question
 

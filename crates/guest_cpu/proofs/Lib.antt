@@ -14,3 +14,13 @@ pub mod SavedLemmas
 pub mod StartLemmas
 pub mod ServingLemmas
 pub mod QuietLemmas
+pub mod TurnEvents
+pub mod OneMore
+pub mod WritingLemmas
+pub mod WritingOnce
+pub mod TurnWrites
+pub mod TakeLemmas
+pub mod QuietRuns
+pub mod RunLemmas
+pub mod Examples
+pub mod Asking

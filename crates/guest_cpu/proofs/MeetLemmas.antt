@@ -1,11 +1,11 @@
 -- What an instruction comes to before the allocator is asked.
-use Rattle.rv_isa.specs.Table.{row}
+use Rattle.std.proofs.Common.{Err, Ok}
 use Rattle.call_gate.specs.declared.call.Call.TheVariants as kind
 use Rattle.call_gate.proofs.CallLemmas.{CallIs, CheckSays, call_is, check_says, recv_takes, send_sends, allowed_never, does_call}
 use Rattle.call_gate.specs.declared.call.Call.{Call}
 use Rattle.call_gate.specs.Calls.{called}
 use Rattle.call_gate.specs.Checks.{checked}
-use Rattle.guest_cpu.proofs.Terms.{AllocError, Bool, Err, None, Ok, Option, Result, Some, ap, cond, false, inl, inr, refl, sym, true, ℕ, ◌+◌, ◌∙◌, ◌≡◌, ◌≢◌, cases_Bool, Heap, Instr, Ecall, execute, permitted, Cause, AssertFailed, BadAccess, BadInstruction, allocation, call, free, Effect, Ends, Fails, Machine, Wants, register, does, instruction, word_at, Allocate, Free, Nothing, Request, is_refused, request_of, call_buffer, instruction_at, touched, touched_by, GuestPages, fetched, or_bad, limits_of, under, Met, Standing, Turn, turn_to, MetStays, Turned, meeting, meeting_by, meeting_of, sends}
+use Rattle.guest_cpu.proofs.Terms.{AllocError, Bool, None, Option, Result, Some, ap, cond, false, inl, inr, refl, sym, true, ℕ, ◌+◌, ◌∙◌, ◌≡◌, ◌≢◌, cases_Bool, Heap, Instr, Ecall, row, execute, permitted, Cause, AssertFailed, BadAccess, BadInstruction, allocation, call, free, Effect, Ends, Fails, Machine, Wants, register, does, instruction, word_at, Allocate, Free, Nothing, Request, is_refused, request_of, call_buffer, instruction_at, touched, touched_by, GuestPages, fetched, or_bad, limits_of, under, Met, Standing, Turn, turn_to, MetStays, Turned, meeting, meeting_by, meeting_of, sends}
 use Rattle.guest_cpu.specs.declared.event.Met.TheVariants as met
 
 -- a call that has no memory to change

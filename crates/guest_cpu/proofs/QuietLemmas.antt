@@ -1,6 +1,7 @@
 -- Instructions that are no calls, as turns of a guest.
+use Rattle.std.proofs.Common.{Ok}
 use Rattle.rv_exec.proofs.QuickLemmas.{ran_none}
-use Rattle.guest_cpu.proofs.Terms.{Bool, List, None, Ok, Option, add-zero, ap, arith, refl, subst, suc, sym, zero, ℕ, ◌+◌, ◌-◌, ◌<◌, ◌≡◌, ◌≤◌, Heap, Env, Line, Regs, GuestPages, flat, IsStep, Ran, limits_of, Core, AreCounted, Standing, Turn, counting, machine_of, standing, turn, Keeps, Turned, recorded}
+use Rattle.guest_cpu.proofs.Terms.{Bool, List, None, Option, add-zero, ap, arith, refl, subst, suc, sym, zero, ℕ, ◌+◌, ◌-◌, ◌<◌, ◌≡◌, ◌≤◌, Heap, Env, Line, Regs, GuestPages, flat, IsStep, Ran, limits_of, Core, AreCounted, Standing, Turn, counting, machine_of, standing, turn, Keeps, Turned, recorded}
 use Rattle.guest_cpu.specs.Quiet.{core_after, RanOn}
 use Rattle.guest_cpu.proofs.CpuLemmas.{Goes, goes_on}
 use Rattle.guest_cpu.proofs.StepTurns.{stepped, with_regs}

@@ -1,7 +1,6 @@
 -- The turns of a guest are a served run.
-use Rattle.guest_cpu.proofs.Terms.{Bool, List, None, Option, Some, [], ap, append-nil, cond, false, leb, length, length-append, refl, subst, sym, true, ℕ, ◌++◌, ◌+◌, ◌∙◌, ◌∷◌, ◌≡◌, same_Some, option_map, Ask, Choice, is_allowed, is_defined, Heap, Env, Instr, BadFree, frees, allocates, allocated, allocation, chooses, Chooses, Effect, Emits, Ends, Fails, Goes, Machine, Wants, after, does, Allocate, Free, Grant, Guest, Limits, Nothing, Path, Request, does_with, grant, granted, guest_of, is_refused, listed, longer, request_of, served_next, serves, instruction_at, touched, Event, Turn, moved, turn, turn_of, turn_to, written_with}
+use Rattle.guest_cpu.proofs.Terms.{Bool, List, None, Option, Some, [], ap, append-nil, cond, false, leb, length, length-append, refl, subst, sym, true, ℕ, ◌++◌, ◌+◌, ◌∙◌, ◌∷◌, ◌≡◌, same_Some, option_map, Ask, Choice, is_allowed, is_defined, Heap, Env, Instr, BadFree, frees, allocates, allocated, allocation, chooses, Chooses, Effect, Emits, Ends, Fails, Goes, Machine, Wants, after, does, Allocate, Free, Grant, Guest, Limits, Nothing, Path, Request, does_with, grant, granted, guest_of, is_refused, listed, longer, request_of, served_next, serves, instruction_at, touched, Event, Turn, moved, turn, turn_of, turn_to, written_with, Follows, TurnsServe, standing_of}
 use Rattle.guest_cpu.specs.declared.event.Event.TheVariants as event
-use Rattle.guest_cpu.specs.Serving.{standing_of, Follows, TurnsServe}
 
 -- one more instruction, by what the allocator answers and what it does
 next_by : (limits : Limits) (env : Env) (path : Path) (given : Option Grant) (e : Effect) → path.state.ended ≡ None → grant env (guest_of path) ≡ given → serves limits env None (guest_of path) ≡ e

@@ -1,5 +1,6 @@
 -- What a step leaves, as a turn.
-use Rattle.guest_cpu.proofs.Terms.{Bool, Err, List, None, Ok, Result, Some, ap, refl, ℕ, ◌∙◌, ◌≡◌, ◌≢◌, Heap, Instr, Ecall, Store, store_size, Area, Cause, Regs, length-little_bytes, GuestPages, flat, fetched, Leaves, StepsTo, limits_of, Core, counting, machine_of, standing, stored_by, Turned, Wrote, meeting, meeting_of}
+use Rattle.std.proofs.Common.{Err, Ok}
+use Rattle.guest_cpu.proofs.Terms.{Bool, List, None, Result, Some, ap, refl, ℕ, ◌∙◌, ◌≡◌, ◌≢◌, Heap, Instr, Ecall, Store, store_size, Area, Cause, Regs, length-little_bytes, GuestPages, flat, fetched, Leaves, StepsTo, limits_of, Core, counting, machine_of, standing, stored_by, Turned, Wrote, meeting, meeting_of}
 use Rattle.guest_cpu.specs.declared.event.Met.TheVariants as met
 use Rattle.guest_cpu.proofs.MeetLemmas.{meets_instr}
 

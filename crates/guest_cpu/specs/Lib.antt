@@ -10,3 +10,6 @@ pub mod Cpus
 pub mod Running
 pub mod Serving
 pub mod Quiet
+pub mod Runs
+pub mod Writing
+pub mod Laws

@@ -1,7 +1,6 @@
 -- A recv that takes an item.
 use Rattle.std.specs.Prelude.{ℕ, ◌+◌, length, take, Option}
-use Rattle.rx_io.specs.declared.bytes.Item.{Item}
-use Rattle.guest_cpu.specs.Terms.{received, Machine, register, Range, buffer}
+use Rattle.guest_cpu.specs.Terms.{Item, received, Machine, register, Range, buffer}
 use Rattle.guest_cpu.specs.Standing.{Standing, Live, with_range}
 
 -- the bytes that a recv writes of an item

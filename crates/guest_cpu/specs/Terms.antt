@@ -1,5 +1,6 @@
 -- The words that this crate's definitions are written in: those of crates below, and types of its code.
 pub use Rattle.std.specs.declared.alloc.AllocError.{AllocError}
+pub use Rattle.rx_io.specs.declared.bytes.Item.{Item}
 pub use Rattle.block_book.specs.declared.choice.Ask.{Ask}
 pub use Rattle.block_book.specs.declared.choice.Choice.{Choice}
 pub use Rattle.block_book.specs.Answer.{bytes_asked, has_replaced, insert_live, is_calloc, is_defined, live_blocks, live_with, replaced, same_ask, size_at, without_live, without_replaced}
@@ -7,6 +8,8 @@ unfoldable pub use Rattle.block_book.specs.Answer.{is_allowed, is_block, is_clea
 pub use Rattle.block_book.specs.Block.{live_block}
 pub use Rattle.block_book.specs.Heap.{Heap, IsHeap, SameEnds, empty_heap, is_live_at, most_blocks, with_block, without_block}
 pub use Rattle.alloc_env.specs.declared.env.Env.{Env}
+pub use Rattle.alloc_env.specs.Serving.{Served, in_place_of, served_over}
+unfoldable pub use Rattle.alloc_env.specs.Serving.{served_ask, served_block, served_free}
 pub use Rattle.cow_pages.specs.declared.frame_copy.TheConstants.{PAGE}
 pub use Rattle.cow_pages.specs.declared.store.TheConstants.{MAX_SLOTS}
 pub use Rattle.cow_pages.specs.Pages.{IsLawful, IsMade, Pages, Space, slot_at}
@@ -15,7 +18,8 @@ pub use Rattle.page_line.specs.Line.{IsLine, Line, base_without_oldest, count_tr
 pub use Rattle.rv_isa.specs.declared.instr.Instr.{Instr}
 pub use Rattle.rv_isa.specs.declared.instr.Instr.TheVariants.{Ecall, Store}
 pub use Rattle.rv_isa.specs.Meaning.{store_size}
-unfoldable pub use Rattle.rv_isa.specs.Meaning.{displaced}
+unfoldable pub use Rattle.rv_isa.specs.Meaning.{displaced, word_sum}
+unfoldable pub use Rattle.rv_isa.specs.Table.{base_op, branch_op, branch_row, imm_op, imm_row, op_row, reg_op, row, system_row}
 pub use Rattle.elf_image.specs.declared.image.Image.{Image}
 pub use Rattle.elf_image.specs.Image.{base, heap_end, heap_start, memory_of, stack_top}
 pub use Rattle.elf_image.specs.Memory.{Area, bytes_at, each_covered, execute, put_bytes, read, write}
@@ -23,14 +27,14 @@ unfoldable pub use Rattle.elf_image.specs.Memory.{permitted}
 pub use Rattle.run_history.specs.declared.answer.Cause.{Cause}
 pub use Rattle.run_history.specs.declared.answer.Cause.TheVariants.{AssertFailed, BadAccess, BadFree, BadInstruction, Hang}
 pub use Rattle.run_history.specs.declared.regs.Regs.{Regs}
-pub use Rattle.run_history.specs.Call.{allocation, answered, call, chooses, free, kept_bytes, kept_count, may_send, set_count}
+pub use Rattle.run_history.specs.Call.{allocation, answered, call, chooses, connections_after, free, kept_bytes, kept_count, may_send, set_count}
 unfoldable pub use Rattle.run_history.specs.Call.{allocated, freed, received, set_bytes}
-pub use Rattle.run_history.specs.Machine.{Chooses, Effect, Emits, Ends, Fails, Goes, Machine, Wants, register, with_register}
-unfoldable pub use Rattle.run_history.specs.Machine.{start_machine}
+pub use Rattle.run_history.specs.Machine.{Chooses, Effect, Emits, Ends, Fails, Goes, Machine, State, Wants, register, with_register}
+unfoldable pub use Rattle.run_history.specs.Machine.{start, start_machine}
 pub use Rattle.run_history.specs.Repeating.{repeated}
 pub use Rattle.run_history.specs.Run.{after, word_at}
 unfoldable pub use Rattle.run_history.specs.Run.{does, instruction}
-pub use Rattle.run_history.specs.Served.{Allocate, Free, Grant, Guest, IsLaidOut, Limits, Nothing, Path, Request, does_with, granted, guest_of, is_refused, listed, longer, request_of}
+pub use Rattle.run_history.specs.Served.{Allocate, AsksFor, FailsBy, Free, Grant, Guest, IsLaidOut, Limits, Nothing, Override, Path, Request, does_with, env_at, granted, guest_of, is_refused, listed, longer, origin, planned_next, request_of}
 unfoldable pub use Rattle.run_history.specs.Served.{grant, served_next, serves}
 pub use Rattle.run_history.specs.Touching.{Range, buffer, call_buffer, touched_by}
 unfoldable pub use Rattle.run_history.specs.Touching.{instruction_at, touched}

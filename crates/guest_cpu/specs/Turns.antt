@@ -1,5 +1,5 @@
 -- An instruction of a guest, by its parts: what it has beside its memory, and the pages of its memory.
-use Rattle.std.specs.Prelude.{◌≡◌, ℕ, ◌+◌, ◌≤◌, List, length, Option, Some, None, Result, Ok, Err, Contains, slice_index}
+use Rattle.std.specs.Prelude.{◌≡◌, ℕ, ◌+◌, ◌<◌, ◌≤◌, List, length, Option, Some, None, Result, Ok, Err, Contains, slice_index}
 use Rattle.guest_cpu.specs.Terms.{AllocError, SameEnds, Range, Puts, GuestPages, blank_span, flat, Event, Met, Question}
 use Rattle.guest_cpu.specs.declared.guest_core.Core.{Core}
 use Rattle.guest_cpu.specs.declared.event.Event.TheVariants as event
@@ -51,6 +51,13 @@ HasHeap core space = Contains space.spans (blank_span core.book.start core.book.
 abbrev pub Lasts : Result (Option Event) AllocError → Option ℕ → Option ℕ → Type 0
 Lasts (Ok (Some (event.Exits code))) old new = new ≡ Some code
 Lasts _ old new = new ≡ old
+
+-- what an instruction in an environment keeps, beside where it leads: one that is no event comes within the budget
+pub record KeepsTurn (budget : ℕ) (old : Core) (result : Result (Option Event) AllocError) (new : Core) : Type 0 where
+  pub keeps : Keeps old new
+  pub rises : Rises old result new
+  pub within : result ≡ Ok None → old.marks.since < budget
+  pub lasts : Lasts result old.ended new.ended
 
 -- a guest that runs as recorded ends itself by an exit alone
 abbrev pub RecordedLasts : Result (Option Question) AllocError → Option ℕ → Option ℕ → Type 0

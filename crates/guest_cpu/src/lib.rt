@@ -6,7 +6,7 @@
 //! `run_to_event` serves a session and its trials, `run_recorded` a replay.
 //! The latter has no budget, no environment and no rule.
 //! A flag of a page says that a byte of it was written, and not that it differs.
-//! What whole calls do to the run that a guest is, the laws of `guest_runs` say.
+//! What whole calls do to the run that a guest is, `laws` say.
 #![tactic(auto)]
 
 mod calling;

@@ -1,10 +1,10 @@
 // A recv that takes an item.
-ghost use Rattle.std.specs.Prelude.{◌≡◌, ◌-◌, ◌^◌, ◌<◌, true, length, slice_index};
+ghost use Rattle.std.specs.Prelude.{◌≡◌, ◌^◌, ◌<◌, true, length, slice_index};
 ghost use Rattle.elf_image.specs.Memory.{permitted, put_bytes};
 ghost use Rattle.guest_space.specs.Space.{flat};
 ghost use Rattle.guest_space.specs.Windows.{AreWindows};
 ghost use Rattle.run_history.specs.Touching.{buffer};
-ghost use Rattle.guest_cpu.specs.Standing.{standing, machine_of, AreCounted};
+ghost use Rattle.guest_cpu.specs.Standing.{standing, machine_of, CanCount};
 ghost use Rattle.guest_cpu.specs.Receiving.{taken_standing, received_range};
 ghost use Rattle.guest_cpu.specs.Turns.{Wrote, Keeps};
 
@@ -16,8 +16,7 @@ use rx_io::Item;
 pub fn receive(core: &mut Core, space: &mut GuestSpace, windows: &mut Windows, item: &Item)
     requires writable { permitted 2 (flat space.old) (slice_index core.old.regs.x 10) (slice_index core.old.regs.x 11) ≡ true }
     requires short { length item.now.bytes < 2 ^ 32 }
-    requires counts { AreCounted core.old.marks }
-    requires room { core.old.marks.steps < 2 ^ 64 - 1 }
+    requires counts { CanCount core.old.marks }
     requires holds { AreWindows space.old windows.old }
     ensures holds { AreWindows space.new windows.new }
     ensures state { standing core.new (flat space.new) ≡ taken_standing item.now (standing core.old (flat space.old)) }

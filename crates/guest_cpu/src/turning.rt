@@ -1,10 +1,10 @@
 // One instruction of a guest, and one in an environment.
-ghost use Rattle.std.specs.Prelude.{◌≡◌, ◌+◌, ◌<◌, Ok, None};
+ghost use Rattle.std.specs.Prelude.{◌≡◌, ◌+◌};
 ghost use Rattle.guest_space.specs.Space.{flat};
 ghost use Rattle.guest_space.specs.Windows.{AreWindows};
 ghost use Rattle.rv_exec.specs.Stepping.{limits_of};
 ghost use Rattle.guest_cpu.specs.Standing.{standing, CanCount, turn};
-ghost use Rattle.guest_cpu.specs.Turns.{TurnsBy, Keeps, Rises, Lasts, MetLasts, MetStays, HasHeap};
+ghost use Rattle.guest_cpu.specs.Turns.{TurnsBy, Keeps, KeepsTurn, Rises, MetLasts, MetStays, HasHeap};
 ghost use Rattle.guest_cpu.specs.Meeting.{meeting};
 
 use crate::Event;
@@ -71,10 +71,7 @@ pub fn advance<R: AccessRule, L: Ledger>(
     requires holds { AreWindows space.old windows.old }
     ensures holds { AreWindows space.new windows.new }
     ensures turned { TurnsBy Event.Emits (turn (limits_of budget (R.rule rule.now)) env (standing core.old (flat space.old))) core.old space.old result core.new space.new }
-    ensures keeps { Keeps core.old core.new }
-    ensures rises { Rises core.old result core.new }
-    ensures within { result ≡ Ok None → core.old.marks.since < budget }
-    ensures lasts { Lasts result core.old.ended core.new.ended }
+    ensures keeps { KeepsTurn budget core.old result core.new }
     ensures counted { steps.new + core.old.marks.steps ≡ steps.old + core.new.marks.steps }
 {
     if core.marks.since >= u64::from(budget) {

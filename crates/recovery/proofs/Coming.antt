@@ -1,7 +1,7 @@
 -- A trial comes to its result.
 use Rattle.reply_ledger.specs.Trials as ledgers
 use Rattle.session_notes.specs.declared.episode.Tried.TheVariants as tried
-use Rattle.recovery.proofs.Terms.{List, Some, ap, arith, drop, false, inl, inr, subst, sym, true, ℕ, ◌++◌, ◌∙◌, ◌≡◌, is_some, replicate, Send, Choice, Env, Log, Ledger, Cause, AsksFor, FailsBy, Path, Served, CpuState, standing_of, GoesOn, IsSilent, Writes, served_on, received, Tried, survives, trial_comes, IsCheckpoint, everywhere, ComesTo, IsUnharmed, CanGoOn, Failure, items_of, pieces_of, HasCome, IsAsking, IsJudged, IsTrying, KeepsSaved}
+use Rattle.recovery.proofs.Terms.{List, Some, ap, arith, drop, false, inl, inr, subst, sym, true, ℕ, ◌++◌, ◌∙◌, ◌≡◌, is_some, replicate, Send, Choice, Env, Log, Ledger, Cause, AsksFor, FailsBy, Path, Served, CpuState, GoesOn, IsSilent, standing_of, Writes, served_on, received, Tried, survives, trial_comes, IsCheckpoint, everywhere, ComesTo, IsUnharmed, CanGoOn, Failure, items_of, pieces_of, HasCome, IsAsking, IsJudged, IsTrying, KeepsSaved}
 use Rattle.recovery.proofs.Joining.{Beside, covers_now, now_covers, now_covers_before}
 use Rattle.recovery.proofs.Running.{unharmed_still, can_still, wrote_on}
 

@@ -1,6 +1,6 @@
 -- Which checkpoints stand: one lemma for each event.
 use Rattle.std.specs.Option.{option_map}
-use Rattle.recovery.proofs.Terms.{Bool, IfSome, List, None, Option, Some, [], ap, append_assoc, arith, cond, drop, false, length, refl, subst, suc, sym, take, true, zero, ℕ, ◌&&◌, ◌++◌, ◌+◌, ◌-◌, ◌<◌, ◌∙◌, ◌∷◌, ◌≡◌, lt-leb, length-map, map-append, same_Some, IsSomeAnd, map, nat_le, replicate, slice_get, sum, Item, Entry, Checkpoint, Checkpoints, checkpoint_of, checkpoints_of, from_newest, has_room, kept, line, saved_in_ring, without_newer, Saved, Slots, with_whole_oldest, count_true, Log, Ledger, Image, base, AsksFor, Override, Path, Served, origin, CpuState, standing_of, Standing, writes_more, Writes, served_on, served_same, served_with, items_in, Chapter, Rules, Survivor, entries_of, chained_at, Recovery, Trial, survivor_in, taken_in, KeepsRing, is_due, is_due_after, AreRinged, AreWritten, HasHandled, HasRing, HasWritten, IsRinged, Keeping, Stand, first_stands, handle, handled, is_far, keeping_by, may_stand, stand_of, stands_of, stay, whole_oldest}
+use Rattle.recovery.proofs.Terms.{Bool, IfSome, List, None, Option, Some, [], ap, append_assoc, arith, cond, drop, false, length, refl, subst, suc, sym, take, true, zero, ℕ, ◌&&◌, ◌++◌, ◌+◌, ◌-◌, ◌<◌, ◌∙◌, ◌∷◌, ◌≡◌, lt-leb, length-map, map-append, same_Some, IsSomeAnd, map, nat_le, replicate, slice_get, sum, Item, Entry, Checkpoint, Checkpoints, checkpoint_of, checkpoints_of, from_newest, has_room, kept, line, saved_in_ring, without_newer, Saved, Slots, with_whole_oldest, count_true, Log, Ledger, Image, base, AsksFor, Override, Path, Served, origin, writes_more, CpuState, standing_of, Standing, Writes, served_on, served_same, served_with, items_in, Chapter, Rules, Survivor, entries_of, chained_at, Recovery, Trial, survivor_in, taken_in, KeepsRing, is_due, is_due_after, AreRinged, AreWritten, HasHandled, HasRing, HasWritten, IsRinged, Keeping, Stand, first_stands, handle, handled, is_far, keeping_by, may_stand, stand_of, stands_of, stay, whole_oldest}
 use Rattle.recovery.proofs.Mirrors.{from_map}
 
 -- as slots they have room exactly where they may stand

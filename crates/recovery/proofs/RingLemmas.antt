@@ -1,7 +1,7 @@
 -- The ring of a session's checkpoints, one lemma for each event of a session.
 use Rattle.run_history.specs.Machine as M
 use Rattle.ckpt_ring.proofs.KeptLemmas.{longest_end_drops}
-use Rattle.recovery.proofs.Terms.{Bool, IfSome, List, None, Option, Some, [], ap, append-nil, arith, drop, false, inl, inr, length, length-drop, refl, subst, suc, sym, take, true, zero, ℕ, ◌++◌, ◌+◌, ◌-◌, ◌<◌, ◌^◌, ◌∙◌, ◌∷◌, ◌≡◌, ◌≤◌, both_ways, le-leb, lt-leb, length-map, length-take-le, none-some, slice_get_within, IsSomeAnd, map, replicate, slice_get, slice_get-drop, Item, Entry, Env, Checkpoint, Checkpoints, checkpoint_of, checkpoints_of, has_room, kept, saved_in_ring, Saved, Slots, newest_slot, with_whole_oldest, without_newer_slots, count_true, Log, Ledger, Image, base, no_connections_may, may_send, AsksFor, Limits, Override, Path, Served, origin, CpuState, with_live, standing_of, Live, Standing, runs_start, writes_more, writes_none, writes_on, Writes, served_same, items_in, KeepsItems, KeepsReplies, Rules, Carries, asks_under_all, chained_adopt, AreChained, AreCheckpoints, plan_of_trial, AreKept, CanGoOn, HasFailed, IsKept, taken_in, KeepsSaved, Brings, KeepsRing, is_due_after}
+use Rattle.recovery.proofs.Terms.{Bool, IfSome, List, None, Option, Some, [], ap, append-nil, arith, drop, false, inl, inr, length, length-drop, refl, subst, suc, sym, take, true, zero, ℕ, ◌++◌, ◌+◌, ◌-◌, ◌<◌, ◌^◌, ◌∙◌, ◌∷◌, ◌≡◌, ◌≤◌, both_ways, le-leb, lt-leb, length-map, length-take-le, none-some, slice_get_within, IsSomeAnd, map, replicate, slice_get, slice_get-drop, Item, Entry, Env, Checkpoint, Checkpoints, checkpoint_of, checkpoints_of, has_room, kept, saved_in_ring, Saved, Slots, newest_slot, with_whole_oldest, without_newer_slots, count_true, Log, Ledger, Image, base, no_connections_may, may_send, AsksFor, Limits, Override, Path, Served, origin, runs_start, writes_more, writes_none, writes_on, CpuState, with_live, standing_of, Live, Standing, Writes, served_same, items_in, KeepsItems, KeepsReplies, Rules, Carries, asks_under_all, chained_adopt, AreChained, AreCheckpoints, plan_of_trial, AreKept, CanGoOn, HasFailed, IsKept, taken_in, KeepsSaved, Brings, KeepsRing, is_due_after}
 use Rattle.recovery.proofs.Mirrors.{Mirrors, mirrors_none, mirrors_push, mirrors_later, mirrors_earlier, mirrors_as}
 use Rattle.recovery.proofs.Chains.{chained_on, chained_with, chained_take, are_take, kept_take, kept_drop, kept_with}
 

@@ -3,7 +3,7 @@ use Rattle.item_log.specs.Log as logs
 use Rattle.reply_ledger.specs.Trials as ledgers
 use Rattle.run_history.specs.Run.{does}
 use Rattle.guest_cpu.specs.Receiving.{received_range, taken_standing, live_with_item}
-use Rattle.guest_runs.proofs.TakeLemmas.{takes_write, asks_wants}
+use Rattle.guest_cpu.proofs.TakeLemmas.{takes_write, asks_wants}
 use Rattle.session_notes.specs.declared.episode.Tried.TheVariants as tried
 use Rattle.session_history.specs.Passing.{CoversBefore}
 use Rattle.session_history.proofs.Passing.{all_until, until_grown}

@@ -1,7 +1,7 @@
 -- Where a trial begins.
 use Rattle.reply_ledger.specs.Trials as ledgers
 use Rattle.trials.proofs.Agreeing.{checkpoint_unharmed}
-use Rattle.recovery.proofs.Terms.{Bool, List, None, Option, Some, [], ap, append-nil, arith, drop, false, length, length-append, length-drop, refl, subst, suc, sym, take, true, zero, ℕ, ◌++◌, ◌+◌, ◌-◌, ◌<◌, ◌∙◌, ◌∷◌, ◌≡◌, ◌≤◌, take-append_seam, drop-append-le, length-map, take-append-le, none-some, same_Some, slice_get_within, IsSomeAnd, option_map, replicate, slice_get, Send, Entry, Env, Checkpoint, checkpoint_of, checkpoints_of, from_newest, Saved, Slots, restored, count_true, Log, Ledger, begun, discarded, Image, Limits, Path, Served, CpuState, standing_of, Standing, writes_none, Writes, served_grows, Grows, served_same, Bounds, KeepsReplies, Rules, chained_at, AreCheckpoints, IsCheckpoint, everywhere, IsUnharmed, AreKept, FailedAt, Failure, IsKept, items_of, pieces_of, taken_in, IsTrying, KeepsLedger, KeepsSaved}
+use Rattle.recovery.proofs.Terms.{Bool, List, None, Option, Some, [], ap, append-nil, arith, drop, false, length, length-append, length-drop, refl, subst, suc, sym, take, true, zero, ℕ, ◌++◌, ◌+◌, ◌-◌, ◌<◌, ◌∙◌, ◌∷◌, ◌≡◌, ◌≤◌, take-append_seam, drop-append-le, length-map, take-append-le, none-some, same_Some, slice_get_within, IsSomeAnd, option_map, replicate, slice_get, Send, Entry, Env, Checkpoint, checkpoint_of, checkpoints_of, from_newest, Saved, Slots, restored, count_true, Log, Ledger, begun, discarded, Image, Limits, Path, Served, writes_none, CpuState, standing_of, Standing, Writes, served_grows, Grows, served_same, Bounds, KeepsReplies, Rules, chained_at, AreCheckpoints, IsCheckpoint, everywhere, IsUnharmed, AreKept, FailedAt, Failure, IsKept, items_of, pieces_of, taken_in, IsTrying, KeepsLedger, KeepsSaved}
 
 -- what holds of each checkpoint holds of the one at an index
 pub kept_at : (rules : Rules) (entries : List Entry) (log : Log) (ledger : Ledger) (ring : List Path) (index : ℕ) (checkpoint : Path) → AreKept rules entries log ledger ring → slice_get ring index ≡ Some checkpoint → IsKept rules entries log ledger checkpoint

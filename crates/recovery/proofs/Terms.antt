@@ -12,8 +12,8 @@ pub use Rattle.reply_ledger.proofs.StandsLemmas.{agree-append}
 pub use Rattle.run_history.proofs.Connections.{OpenWithin, no_connections_may, within_after}
 pub use Rattle.run_history.proofs.Outputs.{prefix_sent, prefix_trans, sent_to-append, sent_to-more}
 pub use Rattle.run_history.proofs.Serves.{IsUsed, map_some, served_follows, served_next_more, serves_to}
-pub use Rattle.guest_runs.proofs.RunLemmas.{runs_start, runs_write}
-pub use Rattle.guest_runs.proofs.WritingLemmas.{writes_more, writes_none, writes_on, writes_then}
+pub use Rattle.guest_cpu.proofs.RunLemmas.{runs_start, runs_write}
+pub use Rattle.guest_cpu.proofs.WritingLemmas.{writes_more, writes_none, writes_on, writes_then}
 pub use Rattle.session_history.proofs.Asked.{Later, next_grows, served_grows}
 pub use Rattle.session_history.proofs.Growing.{Grows, between_append, between_wider}
 pub use Rattle.session_history.proofs.Paths.{served_on, served_same, served_with}

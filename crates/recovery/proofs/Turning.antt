@@ -2,7 +2,7 @@
 use Rattle.reply_ledger.specs.Trials as ledgers
 use Rattle.guest_cpu.specs.declared.event.Event.TheVariants as event
 use Rattle.session_notes.specs.declared.episode.Tried.TheVariants as tried
-use Rattle.recovery.proofs.Terms.{AllocError, Bool, List, None, Option, Some, [], ap, append_assoc, arith, length, refl, subst, sym, ℕ, ◌++◌, ◌<◌, ◌∙◌, ◌∷◌, ◌≡◌, ◌≤◌, Err, IsSome, Ok, Result, Send, Choice, Heap, Env, Log, IsOpened, Ledger, NotBefore, times_of, discarded, trial_sends, Cause, AsksFor, FailsBy, Path, Event, CpuState, live_of, standing_of, Standing, GoesOn, IsSilent, served_on, Tried, trial_serves, everywhere, Failure, IsUnder, items_of, HasCome, HasStopped, IsAsking, IsJudged, IsLater, IsLaterIf, IsTrying, SendsBy, TurnsBy, KeepsLedger, KeepsSaved}
+use Rattle.recovery.proofs.Terms.{AllocError, Bool, List, None, Option, Some, [], ap, append_assoc, arith, length, refl, subst, sym, ℕ, ◌++◌, ◌<◌, ◌∙◌, ◌∷◌, ◌≡◌, ◌≤◌, Err, IsSome, Ok, Result, Send, Choice, Heap, Env, Log, IsOpened, Ledger, NotBefore, times_of, discarded, trial_sends, Cause, AsksFor, FailsBy, Path, Event, CpuState, live_of, GoesOn, IsSilent, standing_of, Standing, served_on, Tried, trial_serves, everywhere, Failure, IsUnder, items_of, HasCome, HasStopped, IsAsking, IsJudged, IsLater, IsLaterIf, IsTrying, SendsBy, TurnsBy, KeepsLedger, KeepsSaved}
 use Rattle.recovery.proofs.Running.{Ran, ran_on, goes_silently, SendsOn, ran_sends}
 use Rattle.recovery.proofs.Coming.{fails_here, exits_past}
 use Rattle.recovery.proofs.Sending.{sends_opened, sends_later, sends_same, sends_other}

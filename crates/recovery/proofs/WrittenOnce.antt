@@ -1,5 +1,5 @@
 -- What a survivor's run fixes: the pages that it wrote before its requests, and the checkpoints that stand behind them.
-use Rattle.guest_runs.proofs.WritingOnce.{writes_once}
+use Rattle.guest_cpu.proofs.WritingOnce.{writes_once}
 use Rattle.recovery.proofs.Terms.{Bool, IfSome, List, Option, Some, [], ap, arith, cond, false, get_or, inl, inr, length, refl, subst, sym, true, ℕ, ◌++◌, ◌+◌, ◌-◌, ◌<◌, ◌∙◌, ◌∷◌, ◌≡◌, slice_get-get_or, replicate, Item, Entry, from_newest, count_true, Image, base, AsksFor, Limits, Override, Path, Served, origin, Writes, Later, served_on, items_in, Rules, Survivor, asks_under_all, Before, Behind, Compared, Equal, compare, start_taken, asks_on, IsCheckpoint, AreWritten, HasWritten, Keeping, Stand, first_stands, handle, handled, is_far, may_stand, stay, whole_oldest}
 use Rattle.recovery.specs.Laws.{OneNumber, OneRing, SameNumbers}
 

@@ -35,11 +35,11 @@ pub use Rattle.rv_exec.specs.Stepping.{limits_of}
 pub use Rattle.guest_cpu.specs.declared.event.Event.{Event}
 pub use Rattle.guest_cpu.specs.declared.marks.Marks.{Marks}
 pub use Rattle.guest_cpu.specs.Cpus.{CpuState, IsFreshCpu, live_of, with_live}
+pub use Rattle.guest_cpu.specs.Runs.{GoesOn, IsBounded, IsSilent, TakesOn}
 pub use Rattle.guest_cpu.specs.Serving.{Adds, standing_of}
 pub use Rattle.guest_cpu.specs.Standing.{Live, Standing, Turn, live_after, marks_of, with_range}
 unfoldable pub use Rattle.guest_cpu.specs.Standing.{turn}
-pub use Rattle.guest_runs.specs.Runs.{GoesOn, IsBounded, IsSilent, TakesOn}
-pub use Rattle.guest_runs.specs.Writing.{RunsWriting, TakesWriting, Writes, writes}
+pub use Rattle.guest_cpu.specs.Writing.{RunsWriting, TakesWriting, Writes, writes}
 pub use Rattle.session_history.specs.Heeding.{Bounds, LimitEvents, LimitItems, TooLong, events_of, heeded, items_in, received, refusal}
 unfoldable pub use Rattle.session_history.specs.Heeding.{heeded_behind}
 pub use Rattle.session_history.specs.Keeping.{AreSendable, IsSendable, KeepsItems, KeepsReplies, may_pass}

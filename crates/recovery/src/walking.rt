@@ -186,7 +186,7 @@ impl<R: AccessRule> Recoverable<R> {
     ///
     /// Where a trial was adopted, the guest stands where that trial has come, on its checkpoint; the allocator's answers
     /// since the checkpoint stand in `own`, and its sends are the survivor's in the replies. The pages that the trial's run writes since
-    /// then (`writes` of `guest_runs`) are those that the guest counts as written. Where none survived, the guest may stand
+    /// then (`writes` of `guest_cpu`) are those that the guest counts as written. Where none survived, the guest may stand
     /// anywhere. What was passed stays as it is. `steps` counts the instructions of all trials.
     ///
     /// # Errors

@@ -7,8 +7,8 @@ pub use Rattle.std.proofs.lemmas.Option.{none-some, same_Some}
 pub use Rattle.std.specs.Prelude.{All, IfOk, IfSome, IsErrOf, IsSome, MatchOption, is_some, option_map, replicate, slice_get, slice_set, sum, unwrap_or, ◌&&◌, ◌==◌, ◌||◌, ◌≢◌}
 pub use Rattle.rx_io.proofs.Composing.{rose_later}
 pub use Rattle.links.proofs.Growing.{grew_more, grew_nothing, tells_nothing, tells_then}
-pub use Rattle.guest_runs.proofs.RunLemmas.{runs_serve, runs_start, runs_write}
-pub use Rattle.guest_runs.proofs.TakeLemmas.{asks_wants, takes_write}
+pub use Rattle.guest_cpu.proofs.RunLemmas.{runs_serve, runs_start, runs_write}
+pub use Rattle.guest_cpu.proofs.TakeLemmas.{asks_wants, takes_write}
 pub use Rattle.session_history.proofs.Endings.{broken_account, ending_account, ending_none, ending_piece, events_in-given}
 pub use Rattle.session_history.proofs.Heeding.{events_of-append, passed_in-took}
 pub use Rattle.session_history.proofs.Paths.{served_on, served_same, served_with}

@@ -38,11 +38,11 @@ pub use Rattle.rv_exec.specs.Stepping.{limits_of}
 pub use Rattle.guest_cpu.specs.declared.event.Event.{Event}
 pub use Rattle.guest_cpu.specs.Cpus.{CpuState, IsFreshCpu, live_of, with_live}
 pub use Rattle.guest_cpu.specs.Receiving.{live_with_item, received_range, taken_standing}
+pub use Rattle.guest_cpu.specs.Runs.{GoesOn, IsBounded, IsSilent, TakesOn}
 pub use Rattle.guest_cpu.specs.Serving.{standing_of}
 pub use Rattle.guest_cpu.specs.Standing.{Live, Standing, marks_of, with_range}
 unfoldable pub use Rattle.guest_cpu.specs.Standing.{turn}
-pub use Rattle.guest_runs.specs.Runs.{GoesOn, IsBounded, IsSilent, TakesOn}
-pub use Rattle.guest_runs.specs.Writing.{RunsWriting, Writes}
+pub use Rattle.guest_cpu.specs.Writing.{RunsWriting, Writes}
 pub use Rattle.session_history.specs.declared.ends.SessionBreak.{SessionBreak}
 pub use Rattle.session_history.specs.declared.ends.SessionEnd.{SessionEnd}
 pub use Rattle.session_history.specs.declared.ends.Stop.{Stop}

@@ -3,7 +3,7 @@ use Rattle.item_log.specs.Log as logs
 use Rattle.reply_ledger.specs.Inside as I
 use Rattle.reply_ledger.specs.Shows as S
 use Rattle.reply_ledger.specs.Ledger as ledgers
-use Rattle.guest_runs.specs.Laws.{IsStart}
+use Rattle.guest_cpu.specs.Laws.{IsStart}
 use Rattle.std.specs.Option.{unwrap_or}
 use Rattle.run_history.specs.Machine as M
 use Rattle.session_history.specs.Heeding as H

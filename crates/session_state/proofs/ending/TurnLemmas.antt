@@ -4,7 +4,7 @@ use Rattle.session_history.specs.declared.ends.SessionEnd.TheVariants as session
 use Rattle.guest_cpu.specs.declared.event.Event.TheVariants as step
 use Rattle.guest_cpu.specs.Running.{RunsBy}
 use Rattle.session_state.proofs.Lemmas.{held_by, held_of, answers_as, broken_running, run_asks, run_exits, run_fails}
-use Rattle.session_state.proofs.Terms.{AllocError, Bool, Err, List, Ok, Result, ap, arith, cond, inl, inr, ltb, refl, subst, sym, ℕ, ◌+◌, ◌<◌, ◌∙◌, ◌≡◌, ◌≤◌, IfOk, slice_get, Seen, Choice, Heap, Env, Plain, Saved, Image, Cause, Path, env_at, limits_of, Event, CpuState, live_of, with_live, Standing, turn, runs_serve, runs_write, RunsWriting, Stop, items_in, Rules, rules_of, SessionState, env_of, KeepsOldest, keeping_of, IsBetween, IsBrokenOff, IsEnding, IsFailing, IsWaitingFor, Since, entries, ComesBetween, GoesFurther, HasRun, HasSameFrame, IsAdoptedLater}
+use Rattle.session_state.proofs.Terms.{AllocError, Bool, Err, List, Ok, Result, ap, arith, cond, inl, inr, ltb, refl, subst, sym, ℕ, ◌+◌, ◌<◌, ◌∙◌, ◌≡◌, ◌≤◌, IfOk, slice_get, Seen, Choice, Heap, Env, Plain, Saved, Image, Cause, Path, env_at, limits_of, Event, runs_serve, runs_write, CpuState, live_of, with_live, Standing, turn, RunsWriting, Stop, items_in, Rules, rules_of, SessionState, env_of, KeepsOldest, keeping_of, IsBetween, IsBrokenOff, IsEnding, IsFailing, IsWaitingFor, Since, entries, ComesBetween, GoesFurther, HasRun, HasSameFrame, IsAdoptedLater}
 
 module _ {R : Type 0} where
   -- how a guest runs in an environment, by the session that it is of

@@ -1,5 +1,5 @@
 use Rattle.guest_cpu.specs.Cpus.{live_of}
-use Rattle.guest_runs.proofs.Asking.{asks_here}
+use Rattle.guest_cpu.proofs.Asking.{asks_here}
 use Rattle.session_tests.proofs.guests_tests.runs_to_request.Goals as goal
 
 pub returns-in-Asks-clause-asks : goal.returns-in-Asks-clause-asks

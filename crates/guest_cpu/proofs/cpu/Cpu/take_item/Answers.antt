@@ -1,5 +1,4 @@
-use Rattle.guest_cpu.proofs.Terms.{subst, ◌≡◌, flat, machine_of, CpuState, cpu_state, live_of}
-use Rattle.guest_cpu.specs.Receiving.{live_with_item, received_range}
+use Rattle.guest_cpu.proofs.Terms.{subst, ◌≡◌, flat, machine_of, live_with_item, received_range, CpuState, cpu_state, live_of}
 use Rattle.guest_cpu.proofs.RangeLemmas.{wants_permitted}
 use Rattle.guest_cpu.proofs.CpuLemmas.{moved_cpu}
 use Rattle.guest_cpu.proofs.cpu.Cpu.take_item.Goals as goal

@@ -1,5 +1,0 @@
-use Rattle.guest_runs.proofs.TakeLemmas.{takes_write}
-use Rattle.guest_runs.proofs.laws.takes_write.Goals as goal
-
-pub returns : goal.returns
-returns c = takes_write

@@ -1,5 +1,0 @@
-use Rattle.guest_runs.proofs.WritingOnce.{writes_once}
-use Rattle.guest_runs.proofs.laws.writes_once.Goals as goal
-
-pub returns : goal.returns
-returns c = writes_once

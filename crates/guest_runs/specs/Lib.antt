@@ -1,4 +1,0 @@
-pub mod Terms
-pub mod Runs
-pub mod Writing
-pub mod Laws
