@@ -18,9 +18,10 @@ With --code the sessions are those of a few programs that go where code and memo
 segment of code or to half of an instruction, load and store across pages, and store into pages that a checkpoint shares.
 
 With --self no rx is run: whole sessions of the second engine are checked against what each of them promises, and counted. Every third
-one is diagnosed.
+one is diagnosed. With --hosts none is run either: hosts of the second engine are killed within a call, and the next one takes over by the
+report of the one before and by how many bytes each client has; or one stands by, and goes on by the record. rx does neither yet.
 
-usage: compare_runs.py ((--sessions [--no-files | --no-recovery] | --diagnose) [--wild] [--long] | --code | --self) [--no-guard]
+usage: compare_runs.py ((--sessions [--no-files | --no-recovery] | --diagnose) [--wild] [--long] | --code | --self | --hosts) [--no-guard]
                        [--runs N] [--seed N] [RX]
 RX is the built rx, crates/rx/out/rx unless it is given.
 """
@@ -29,7 +30,7 @@ import argparse
 import os
 import sys
 
-from second import beside_rx, code_programs, self_check
+from second import beside_rx, code_programs, self_check, takeover_check
 
 HERE = os.path.dirname(os.path.abspath(__file__))
 
@@ -41,6 +42,7 @@ def words_of(words):
     what.add_argument("--diagnose", action="store_true")
     what.add_argument("--code", action="store_true")
     what.add_argument("--self", action="store_true", dest="alone")
+    what.add_argument("--hosts", action="store_true")
     lacks = parser.add_mutually_exclusive_group()
     lacks.add_argument("--no-files", action="store_true")
     lacks.add_argument("--no-recovery", action="store_true")
@@ -60,6 +62,8 @@ def main(words):
     asked = words_of(words)
     if asked.alone:
         return self_check.check(asked.runs, asked.seed)
+    if asked.hosts:
+        return takeover_check.check(asked.runs, asked.seed)
     rx = beside_rx.Rx(os.path.abspath(asked.rx), not asked.no_recovery, not asked.no_recovery and not asked.no_files, not asked.no_guard)
     if asked.code:
         return code_programs.compare(rx)

@@ -15,7 +15,8 @@ from second.trunk import Refused, frame, payloads
 
 ENDS = ("Finished", "Exited", "GaveUp", "InputRefused", "MessageTooLong", "LimitItems", "LimitEvents")
 STATUSES = {
-    "Finished": 0, "ElfRefused": 3, "AsmRefused": 3, "RecordRefused": 3, "Mismatch": 3, "TooLarge": 3, "InputRefused": 4,
+    "Finished": 0, "ElfRefused": 3, "AsmRefused": 3, "RecordRefused": 3, "ReportRefused": 3, "CountsRefused": 3, "Mismatch": 3, "Short": 3,
+    "TooLarge": 3, "InputRefused": 4,
     "MessageTooLong": 4, "GaveUp": 5, "LimitItems": 6, "LimitEvents": 6, "ReadFault": 7, "WriteFault": 8, "FileFault": 9}
 
 

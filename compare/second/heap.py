@@ -94,6 +94,10 @@ class Heap:
         self.blocks.insert(i, block)
         self.place_of[block.at] = start
 
+    def adopt(self, at, size):
+        """Takes a live block as it stands."""
+        self.put(at, at + reserved(size), Block(at, size, True))
+
     def index(self, at):
         return bisect.bisect_left(self.starts, self.place_of[at])
 

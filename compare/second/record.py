@@ -21,6 +21,9 @@ MOST_STEPS, MOST_TAKEN = 1 << 63, 1 << 20
 # The window is in MiB. A line is a choice; of version 1 it has no ask.
 Reading = collections.namedtuple("Reading", "version window frame lines steps taken")
 
+# What stands in a record that may lack its last lines: `finish` is (steps, taken), or None.
+Unfinished = collections.namedtuple("Unfinished", "version window frame lines finish")
+
 
 class RecordRefused(Exception):
     """The record has no reading; the argument is the first line that isn't of its form."""
@@ -79,24 +82,51 @@ def is_possible(choice):
     return choice.zeroed or choice.ask is None or choice.ask.call != CALLOC
 
 
-def read_record(text):
+def lines_of(text):
+    """The lines, each with its line feed; the last one may lack it."""
     lines = text.split(b"\n")
-    lines = [line + b"\n" for line in lines[:-1]] + ([lines[-1]] if lines[-1] else [])
+    return [line + b"\n" for line in lines[:-1]] + ([lines[-1]] if lines[-1] else [])
+
+
+def head_of(lines):
+    """Version, window and framing of the first line."""
     head = HEAD.fullmatch(lines[0]) if lines else None
     if not head or int(head.group(2)) > 64:
         raise RecordRefused(1)
-    version, choices = int(head.group(1)), []
+    return int(head.group(1)), int(head.group(2)), head.group(3).decode()
+
+
+def finish_of(line):
+    """What a last line says, or None."""
+    last = LAST.fullmatch(line)
+    steps, taken = map(int, last.groups()) if last else (MOST_STEPS, 0)
+    return (steps, taken) if steps < MOST_STEPS and taken <= MOST_TAKEN else None
+
+
+def read_record(text):
+    read = read_unfinished(text)
+    lines = lines_of(text)
+    if read.finish is None:
+        # a line without its line feed isn't of its form either
+        raise RecordRefused(len(lines) if not text.endswith(b"\n") else len(lines) + 1)
+    return Reading(*read[:4], *read.finish)
+
+
+def read_unfinished(text):
+    """The same of a record whose session was stopped at any moment. A line without its line feed isn't looked at, but behind the last line."""
+    lines = lines_of(text)
+    head, choices = head_of(lines), []
     for number, line in enumerate(lines[1:], 2):
-        choice, last = choice_of(line, version), LAST.fullmatch(line)
+        choice, finish = choice_of(line, head[0]), finish_of(line)
         if choice:
             choices.append(choice)
-        elif last and int(last.group(1)) < MOST_STEPS and int(last.group(2)) <= MOST_TAKEN:
+        elif finish:
             if len(lines) > number:
                 raise RecordRefused(number + 1)
-            return Reading(version, int(head.group(2)), head.group(3).decode(), choices, int(last.group(1)), int(last.group(2)))
-        else:
+            return Unfinished(*head, choices, finish)
+        elif line.endswith(b"\n"):
             raise RecordRefused(number)
-    raise RecordRefused(len(lines) + 1)
+    return Unfinished(*head, choices, None)
 
 
 def without_asks(reading):

@@ -1,11 +1,29 @@
-"""The text of a report, in both forms.
+"""The text of a report, in both forms, and what stands in one.
 
 Written from the form of the report. An episode has point, cause, pc and tries; a try has checkpoint, environment and result.
 """
 
+import collections
 import json
+import re
+
+from second.heap import ENVIRONMENTS
+from second.record import lines_of
 
 TEXT, JSON = "text", "json"
+SURVIVED = "survived"
+
+Try = collections.namedtuple("Try", "checkpoint environment result")
+Episode = collections.namedtuple("Episode", "point cause pc tries")
+
+# The episodes of which a trial survived, the one behind them of which none did, if there is one, and whether the last line is there
+Read = collections.namedtuple("Read", "form adopted failed ended")
+
+CAUSE = r"BadAccess|BadJump|BadInstruction|AssertFailed (?:0|[1-9][0-9]{0,9})|Hang|BadFree|BadCall"
+NUMBER = "(0|[1-9][0-9]*)"
+FAILURE = re.compile("failure %s point %s cause (%s) at ([0-9a-f]{8})\n" % (NUMBER, NUMBER, CAUSE))
+TRY = re.compile("try %s checkpoint %s env (%s) result (survived|Contradicts|Behind|%s)\n" % (NUMBER, NUMBER, "|".join(ENVIRONMENTS), CAUSE))
+END = re.compile("end ([0-9]+) taken %s steps %s\n" % (NUMBER, NUMBER))
 
 
 def compact(value):
@@ -36,3 +54,92 @@ def end_text(status, taken, steps, form):
     if form == TEXT:
         return b"end %d taken %d steps %d\n" % (status, taken, steps)
     return compact({"end": status, "taken": taken, "steps": steps})
+
+
+# ---- readings
+
+
+class ReportRefused(Exception):
+    """The report has no reading; the argument is the first line that isn't in its place."""
+
+
+class Reader:
+    """What was read so far of a report."""
+
+    def __init__(self, form):
+        self.form, self.adopted, self.failed, self.ended = form, [], None, False
+
+    def line(self, line):
+        """Takes a line with its line feed. Whether it is in its place."""
+        if self.ended:
+            return False
+        if self.is_end(line):
+            self.ended = True
+            return True
+        if self.form == JSON:
+            return self.failed is None and self.whole(line)
+        return self.failure(line) if self.failed is None else self.tried(line)
+
+    def is_end(self, line):
+        if self.form == TEXT:
+            found = END.fullmatch(line)
+            return bool(found) and int(found.group(1)) < 256 and found.group(1) == str(int(found.group(1)))
+        value = object_of(line)
+        return set(value) == {"end", "steps", "taken"} and compact(value) == line.encode() and value["end"] < 256
+
+    def rises(self, point):
+        return not self.adopted or self.adopted[-1].point < point
+
+    def failure(self, line):
+        found = FAILURE.fullmatch(line)
+        if not found or int(found.group(1)) != len(self.adopted) or not self.rises(int(found.group(2))):
+            return False
+        self.failed = Episode(int(found.group(2)), found.group(3), int(found.group(4), 16), [])
+        return True
+
+    def tried(self, line):
+        found = TRY.fullmatch(line)
+        if not found or int(found.group(1)) != len(self.failed.tries):
+            return False
+        self.failed.tries.append(Try(int(found.group(2)), found.group(3), found.group(4)))
+        if found.group(4) == SURVIVED:
+            self.adopted.append(self.failed)
+            self.failed = None
+        return True
+
+    def whole(self, line):
+        """An episode that stands in one line, of which the last trial survived, or none."""
+        value = object_of(line)
+        if set(value) != {"failure", "point", "cause", "pc", "tries"}:
+            return False
+        tries = [Try(t["checkpoint"], t["env"], t["result"]) for t in value["tries"]]
+        episode = Episode(value["point"], value["cause"], int(value["pc"], 16), tries)
+        survived = [t.result == SURVIVED for t in tries]
+        if episode_text(len(self.adopted), episode, JSON) != line.encode() or not self.rises(episode.point) or any(survived[:-1]):
+            return False
+        if any(survived):
+            self.adopted.append(episode)
+        else:
+            self.failed = episode
+        return True
+
+
+def object_of(line):
+    try:
+        value = json.loads(line)
+    except ValueError:
+        return {}
+    return value if isinstance(value, dict) else {}
+
+
+def read_report(text):
+    """A report, also of a session that was stopped at any moment. A line without its line feed isn't looked at, but behind the last line."""
+    lines = [line.decode("latin-1") for line in lines_of(text)]
+    forms = [form for form in (TEXT, JSON) if lines and lines[0].encode() == head_text(form)]
+    if not forms:
+        raise ReportRefused(1)
+    reader = Reader(forms[0])
+    for number, line in enumerate(lines[1:], 2):
+        if line.endswith("\n") and not reader.line(line) or not line.endswith("\n") and reader.ended:
+            raise ReportRefused(number)
+    return Read(reader.form, reader.adopted, reader.failed, reader.ended)

@@ -16,14 +16,13 @@ from second.instructions import Failure
 from second.items import Items, LINE, MOST_EVENTS, MOST_ITEMS
 from second.machine import MIB, Machine
 from second.outside import FileFault, ReadFault, WriteFault
+from second.report import Episode, SURVIVED, Try
 from second.trunk import Refused
 
 KEPT_FOR = 4  # how many items after the point an environment stays in force
-SURVIVED, CONTRADICTS, BEHIND = "survived", "Contradicts", "Behind"
+CONTRADICTS, BEHIND = "Contradicts", "Behind"
 EVER = 1 << 64
 
-Try = collections.namedtuple("Try", "checkpoint environment result")
-Episode = collections.namedtuple("Episode", "point cause pc tries")
 Checkpoint = collections.namedtuple("Checkpoint", "machine pages")  # pages written since the checkpoint before it
 
 
