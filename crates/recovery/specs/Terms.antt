@@ -46,7 +46,7 @@ pub use Rattle.session_history.specs.Keeping.{AreSendable, IsSendable, KeepsItem
 pub use Rattle.session_history.specs.Lawful.{Chapter, Rules, Survivor, entries_of}
 pub use Rattle.session_history.specs.Opened.{opens}
 pub use Rattle.session_history.specs.Passing.{AreBetween, AreInOrder, Covers, IsFeasible, passed_in, until}
-pub use Rattle.session_history.specs.Serving.{Carries}
+pub use Rattle.session_history.specs.Serving.{Carries, first_survivor, starting_path}
 pub use Rattle.session_notes.specs.declared.episode.Episode.{Episode}
 pub use Rattle.session_notes.specs.declared.episode.Tried.{Tried}
 pub use Rattle.session_notes.specs.declared.episode.Try.{Try}

@@ -57,7 +57,7 @@ pub use Rattle.session_history.specs.Lawful.{Chapter, IsDuePiece, LeavesNothing,
 pub use Rattle.session_history.specs.Opened.{closes, is_gone, is_open, opens}
 pub use Rattle.session_history.specs.Owing.{IsDueBy, IsMadeDue, IsOwed, IsPassed, Latest, Moment, OwesNothing, Stands, behind, journal, latest, place_at, received_before}
 pub use Rattle.session_history.specs.Passing.{AreBetween, AreInOrder, passed_in}
-pub use Rattle.session_history.specs.Serving.{Ending, IsSoundBefore, Serving, ending_at, first_survivor, moment_of}
+pub use Rattle.session_history.specs.Serving.{Ending, IsSoundBefore, Serving, ending_at, first_survivor, moment_of, starting_path}
 pub use Rattle.link_gate.specs.declared.heard.HearFault.{HearFault}
 pub use Rattle.link_gate.specs.declared.heard.Heard.{Heard}
 pub use Rattle.link_gate.specs.declared.pass_fault.PassFault.{PassFault}
