@@ -71,7 +71,7 @@ pub use Rattle.trials.specs.Episodes.{AreRecovered, IsRecovery, Recovery, adopte
 pub use Rattle.trials.specs.Tables.{Trial, survivor_in, table}
 pub use Rattle.recovery.specs.declared.recovering.Recovered.{Recovered}
 pub use Rattle.recovery.specs.declared.walking.Adopted.{Adopted}
-pub use Rattle.recovery.specs.Handling.{AreRinged, HasHandled, HasRing, HaveRings, Keeping, Stand, alone, first_stands, handle, is_far, keeping_by, stands_of}
+pub use Rattle.recovery.specs.Handling.{AreRinged, HasHandled, HasRing, HaveRings, Keeping, Stand, alone, handle, is_far, keeping_by, stands_of, starting_stands}
 pub use Rattle.recovery.specs.Recovering.{HasAdoptedRun, HasRecovery, HasToRecover, KeepsSlots, LeavesRun, recovery_of}
 pub use Rattle.recovery.specs.Rings.{AreBehind, Brings, IsInForce, KeepsRing, SavesIf, ring_if}
 pub use Rattle.recovery.specs.Sessions.{CanGoOn, Failure, taken_in}
