@@ -57,7 +57,7 @@ pub use Rattle.session_history.specs.Lawful.{Chapter, IsDuePiece, LeavesNothing,
 pub use Rattle.session_history.specs.Opened.{closes, is_gone, is_open, opens}
 pub use Rattle.session_history.specs.Owing.{IsDueBy, IsMadeDue, IsOwed, IsPassed, Latest, Moment, OwesNothing, Stands, behind, journal, latest, place_at, received_before}
 pub use Rattle.session_history.specs.Passing.{AreBetween, AreInOrder, passed_in}
-pub use Rattle.session_history.specs.Serving.{Ending, IsSoundBefore, Serving, ending_at, first_survivor, moment_of}
+pub use Rattle.session_history.specs.Serving.{Ending, IsSoundBefore, Serving, ending_at, first_survivor, moment_of, starting_path}
 pub use Rattle.link_gate.specs.declared.heard.HearFault.{HearFault}
 pub use Rattle.link_gate.specs.declared.heard.Heard.{Heard}
 pub use Rattle.link_gate.specs.declared.pass_fault.PassFault.{PassFault}
@@ -71,7 +71,7 @@ pub use Rattle.trials.specs.Episodes.{AreRecovered, IsRecovery, Recovery, adopte
 pub use Rattle.trials.specs.Tables.{Trial, survivor_in, table}
 pub use Rattle.recovery.specs.declared.recovering.Recovered.{Recovered}
 pub use Rattle.recovery.specs.declared.walking.Adopted.{Adopted}
-pub use Rattle.recovery.specs.Handling.{AreRinged, HasHandled, HasRing, HaveRings, Keeping, Stand, alone, first_stands, handle, is_far, keeping_by, stands_of}
+pub use Rattle.recovery.specs.Handling.{AreRinged, HasHandled, HasRing, HaveRings, Keeping, Stand, alone, handle, is_far, keeping_by, stands_of, starting_stands}
 pub use Rattle.recovery.specs.Recovering.{HasAdoptedRun, HasRecovery, HasToRecover, KeepsSlots, LeavesRun, recovery_of}
 pub use Rattle.recovery.specs.Rings.{AreBehind, Brings, IsInForce, KeepsRing, SavesIf, ring_if}
 pub use Rattle.recovery.specs.Sessions.{CanGoOn, Failure, taken_in}

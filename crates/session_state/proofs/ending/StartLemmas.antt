@@ -9,7 +9,7 @@ use Rattle.run_history.specs.Machine as M
 use Rattle.session_history.specs.Heeding as H
 use Rattle.session_history.proofs.Accounts.{nothing_is_sound}
 use Rattle.session_state.proofs.Lemmas.{in_force_by, none_noted, tells_none}
-use Rattle.session_state.proofs.Terms.{Bool, List, None, Option, [], ap, arith, drop, false, inl, length, refl, subst, suc, sym, take, true, zero, ℕ, ◌*◌, ◌++◌, ◌+◌, ◌-◌, ◌/◌, ◌∙◌, ◌∷◌, ◌≡◌, ◌≤◌, replicate, slice_get, Send, tells_nothing, Grew, IsFresh, Seen, Heap, Checkpoints, Framing, Ledger, no_replies, Image, no_connections, origin, CpuState, standing_of, Standing, runs_start, served_same, serving_first, Bounds, items_in, nothing_before, KeepsReplies, Rules, Stands, CanGive, Try, Noted, Shown, recovered_first, in_force_none, handled_first, alone, keeping_by, stands_of, KeepsRing, keeping_for, rules_of, IsBegun, SessionState, AreTables, IsTrimmed, keeping_of, IsBetween, Since, Story, told_since, HasSameFrame, IsCounted, MayServe, StaysKnown}
+use Rattle.session_state.proofs.Terms.{Bool, List, None, Option, [], ap, arith, drop, false, inl, length, refl, subst, suc, sym, take, true, zero, ℕ, ◌*◌, ◌++◌, ◌+◌, ◌-◌, ◌/◌, ◌∙◌, ◌∷◌, ◌≡◌, ◌≤◌, replicate, slice_get, Send, tells_nothing, Grew, IsFresh, Seen, Heap, Checkpoints, Framing, Ledger, no_replies, Image, no_connections, origin, CpuState, standing_of, Standing, runs_start, served_same, serving_first, Bounds, items_in, nothing_before, KeepsReplies, Rules, Stands, CanGive, Try, Noted, Shown, recovered_first, in_force_none, handled_first, none_followed, alone, keeping_by, stands_of, KeepsRing, keeping_for, rules_of, IsBegun, SessionState, AreTables, IsTrimmed, keeping_of, IsBetween, Since, Story, told_since, HasSameFrame, IsCounted, MayServe, StaysKnown}
 use Rattle.session_state.proofs.ending.LeavingLemmas.{start_trimmed}
 
 -- the story of no event
@@ -111,7 +111,7 @@ module _ {R : Type 0} where
             events = begun.no_events;
             phases_are = fresh;
           };
-          saved = record { paths = origin image ∷ []; ring = keeps; early = (omega (arith, begun.none_recorded), tt); requests = inl (handled_first rules image (keeping_by ring.capacity session.options.every cpu.slots) [] (first_story image).survivor (stands_of cpu.slots.saved) stands); in_force = in_force_by begun.plain begun.until_none (in_force_none 0); past = inl (let none : session.until ≡ 0 = begun.until_none in omega (arith, none)) };
+          saved = record { paths = origin image ∷ []; ring = keeps; early = (omega (arith, begun.none_recorded), tt); requests = inl (handled_first rules image (keeping_by ring.capacity session.options.every cpu.slots) [] [] (first_story image).survivor (stands_of cpu.slots.saved) (none_followed rules image (keeping_by ring.capacity session.options.every cpu.slots) refl).0 stands); in_force = in_force_by begun.plain begun.until_none (in_force_none 0); past = inl (let none : session.until ≡ 0 = begun.until_none in omega (arith, none)) };
           passed = record { replies = subst (λ (ledger : Ledger). KeepsReplies rules.bounds [] None [] ledger) (sym begun.replies) (first_replies session.options.frame session.options.max_items session.options.max_events); no_trial = ap (λ (ledger : Ledger). ledger.trial) begun.replies; done = λ send stands due. absurd due };
           latest = λ last found. absurd (let no : ⊥ = cc in no);
         };
