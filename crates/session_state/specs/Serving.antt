@@ -431,8 +431,8 @@ module _ {R : Type 0} where
     pub one : new.cpu.slots.live.steps ≡ old.cpu.slots.live.steps + 1
 
   -- what a send makes of it
-  pub record KeepsSending (before seen : Seen) (old new : SessionState R) (result : Result (Unit {0}) Stop) : Type 0 where
-    pub link : LinkPasses before seen new.replies result
+  pub record KeepsSending (first seen : Seen) (old new : SessionState R) (result : Result (Unit {0}) Stop) : Type 0 where
+    pub link : LinkPasses first seen new.replies result
     pub until : new.until ≡ old.until
     pub options : new.options ≡ old.options
     pub before : new.before ≡ old.before
