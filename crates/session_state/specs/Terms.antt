@@ -9,6 +9,7 @@ pub use Rattle.links.specs.declared.journal.Entry.{Entry}
 pub use Rattle.links.specs.declared.journal.LinkEvent.{LinkEvent}
 pub use Rattle.links.specs.Links.{Coming, Counts, Grew, HasEnded, IsFresh, IsNext, Phases, Refuses, Tells, Told, events_in}
 pub use Rattle.links.specs.Seen.{Seen, but_given}
+pub use Rattle.block_book.specs.declared.block.Block.{Block}
 pub use Rattle.block_book.specs.declared.choice.Choice.{Choice}
 pub use Rattle.block_book.specs.Heap.{Heap}
 pub use Rattle.alloc_env.specs.declared.env.Env.{Env}
@@ -51,7 +52,7 @@ pub use Rattle.session_history.specs.Answering.{HasAnswerCause}
 pub use Rattle.session_history.specs.Ends.{AtBreak, AtEnd, EndsBy, HandedLast, HasNoEnding, IsEnd, IsEnded, IsLastRefused, IsWaiting, OwesNothingAtEnd, ShowsSession, StandsAt, StaysKnown, TakesAtEnd, WasAsked, answer_of, before_end, break_answer}
 pub use Rattle.session_history.specs.Giving.{AreDuePieces, AreFronts, AreGiven, HasHanded, IsClosing, IsReady, Passes, PassesRest, then_entries}
 pub use Rattle.session_history.specs.Hearing.{IsHeard, IsHeeded, IsUnheeded, closing_of}
-pub use Rattle.session_history.specs.Heeding.{AreHeeded, Bounds, Unheeded, events_of, heeded, items_in, nothing_before, received}
+pub use Rattle.session_history.specs.Heeding.{AreHeeded, Before, Bounds, Unheeded, events_of, heeded, items_in, nothing_before, received}
 pub use Rattle.session_history.specs.Keeping.{AreSendable, IsSendable, KeepsItems, KeepsPhases, KeepsReplies}
 pub use Rattle.session_history.specs.Lawful.{Chapter, IsDuePiece, LeavesNothing, Rules, Survivor, entries_of, gone_on, is_closed_by, is_closing, moves, place_of, then_entry}
 pub use Rattle.session_history.specs.Opened.{closes, is_gone, is_open, opens}
