@@ -11,7 +11,7 @@ use Rattle.session_history.specs.Heeding as H
 use Rattle.session_history.proofs.Accounts.{nothing_is_sound}
 use Rattle.session_state.specs.declared.options.Options.{Options}
 use Rattle.session_state.proofs.Lemmas.{in_force_by, none_noted, tells_none}
-use Rattle.session_state.proofs.Terms.{Bool, List, None, Option, [], ap, arith, drop, false, inl, inr, length, refl, subst, suc, sym, take, true, zero, ℕ, ◌*◌, ◌++◌, ◌+◌, ◌-◌, ◌/◌, ◌<◌, ◌∙◌, ◌∷◌, ◌≡◌, ◌≤◌, replicate, slice_get, Send, tells_nothing, Grew, IsFresh, Seen, Heap, Checkpoints, Framing, Ledger, no_replies, Image, no_connections, origin, CpuState, standing_of, Standing, runs_start, served_same, serving_first, Bounds, items_in, nothing_before, KeepsReplies, Rules, Stands, CanGive, Try, Noted, Shown, recovered_first, in_force_none, handled_first, alone, keeping_by, stands_of, KeepsRing, keeping_for, rules_in, rules_of, IsBegun, SessionState, AreTables, IsTrimmed, keeping_of, IsBetween, Since, Story, told_since, GoesFurther, HasSameFrame, HasServedLink, HasServedOn, IsCounted, MayServe, StaysKnown, outcome_of, rules_by, Answer, Stop, HasWatched, LeavesBy, ◌^◌, Path}
+use Rattle.session_state.proofs.Terms.{Bool, List, None, Option, [], ap, arith, drop, false, inl, inr, length, refl, subst, suc, sym, take, true, zero, ℕ, ◌*◌, ◌++◌, ◌+◌, ◌-◌, ◌/◌, ◌<◌, ◌∙◌, ◌∷◌, ◌≡◌, ◌≤◌, replicate, slice_get, Send, tells_nothing, Grew, IsFresh, Seen, Heap, Checkpoints, Framing, Ledger, no_replies, Image, no_connections, origin, CpuState, standing_of, Standing, runs_start, served_same, serving_first, items_in, nothing_before, KeepsReplies, Rules, Stands, CanGive, Try, Noted, Shown, recovered_first, in_force_none, handled_first, alone, keeping_by, stands_of, KeepsRing, keeping_for, rules_in, rules_of, IsBegun, SessionState, AreTables, IsTrimmed, keeping_of, IsBetween, Since, Story, told_since, GoesFurther, HasSameFrame, HasServedLink, HasServedOn, IsCounted, MayServe, StaysKnown, outcome_of, rules_by, Answer, HasWatched, LeavesBy, ◌^◌, Path}
 use Rattle.session_state.proofs.ending.KnownLemmas.{known_same}
 use Rattle.session_state.proofs.ending.LeavingLemmas.{start_trimmed}
 use Rattle.session_state.proofs.recovering.TableLemmas.{watched_kept}
@@ -193,13 +193,6 @@ module _ {R : Type 0} where
       (subst (λ (l : logs.Log). KeepsRing rules image [] [] (origin image) (origin image ∷ []) after.cpu after.ring l after.replies) (sym log)
       (subst (λ (l : Ledger). KeepsRing rules image [] [] (origin image) (origin image ∷ []) after.cpu after.ring session.log l) (sym replies) keeps))
       (origin image) (ap (slice_get (origin image ∷ [])) (let none : length (origin image ∷ []) - 1 ≡ 0 = omega arith in none)) first recorded (omega (arith, sends))
-
-  pub starts_counted : {image : Image} {session after : SessionState R} → IsBegun image session.options session.cpu.rule session → after ≡ record session { cpu = after.cpu; ring = after.ring } → after.cpu.slots.live ≡ session.cpu.slots.live → IsCounted after
-  unfolding M.start M.start_machine
-  starts_counted begun same live = record {
-    taken = ap (λ (s : SessionState R). s.taken) same ∙ (begun.no_items ∙ sym (ap (λ (s : Standing). s.guest.machine.taken) (live ∙ begun.cpu.live_is)));
-    steps = ap (λ (s : SessionState R). s.steps) same ∙ (begun.no_steps ∙ sym (ap (λ (s : Standing). s.steps) (live ∙ begun.cpu.live_is)));
-  }
 
   pub frame_then : {old mid new : SessionState R} → HasSameFrame old mid → HasSameFrame mid new → HasSameFrame old new
   frame_then first second = record { options = second.options ∙ first.options; rule = second.rule ∙ first.rule; before = second.before ∙ first.before; hold = second.hold ∙ first.hold }

@@ -1,4 +1,4 @@
-use Rattle.rx_engine.proofs.Terms.{ap, rules, subst, sym, ◌∙◌, Seen, Ledger, CanGive, Options, counted_same, unnoted_passing, passing_serves, serves_then, handled_same, comes_between, guest_frame, same_rules, guest_oldest, oldest_then, passed_oldest, going_can, going_told, rules_by, IsGoing, IsWaitingFor}
+use Rattle.rx_engine.proofs.Terms.{ap, rules, subst, sym, ◌∙◌, Seen, Ledger, CanGive, counted_same, unnoted_passing, passing_serves, serves_then, handled_same, comes_between, guest_frame, same_rules, guest_oldest, oldest_then, passed_oldest, going_can, going_told, rules_by, IsGoing, IsWaitingFor}
 use Rattle.rx_engine.proofs.session.Session.receive.Goals as goal
 
 pub take-requires : goal.take-requires

@@ -1,7 +1,7 @@
 use Rattle.session_history.specs.declared.ends.SessionBreak.TheVariants as session_break
 use Rattle.session_history.specs.declared.ends.Stop.TheVariants as stop
 use Rattle.session_state.specs.Serving.{end_of}
-use Rattle.rx_engine.proofs.Terms.{Err, None, Some, ap, refl, rules, sym, ℕ, ◌+◌, ◌∙◌, ◌≡◌, Seen, Options, note_answered, unnoted_passing, adopted_serves, asking_notes, episode_stopped, memory_serves, noting_serves, passing_serves, unnoted_serves, lost_counts, lost_then, if_ok, comes_between, comes_lost, ends_adopted, failing_told, gives_same, goes_adopted, lost_behind, missed_episode, noted_episode, one_more, passed_adopted, passed_counted, passed_frame, oldest_then, passed_oldest, going_can, going_told, still_takes, keeping_of, rules_by, SessionState, Since}
+use Rattle.rx_engine.proofs.Terms.{Err, None, Some, ap, refl, rules, sym, ℕ, ◌+◌, ◌∙◌, ◌≡◌, Seen, note_answered, unnoted_passing, adopted_serves, asking_notes, episode_stopped, memory_serves, noting_serves, passing_serves, unnoted_serves, lost_counts, lost_then, if_ok, comes_between, comes_lost, ends_adopted, failing_told, gives_same, goes_adopted, lost_behind, missed_episode, noted_episode, one_more, passed_adopted, passed_counted, passed_frame, oldest_then, passed_oldest, going_can, going_told, still_takes, keeping_of, rules_by, SessionState, Since}
 use Rattle.rx_engine.proofs.session.Session.recover.Goals as goal
 
 pub returns-in-Err-clause-turns : goal.returns-in-Err-clause-turns

@@ -1,7 +1,7 @@
 use Rattle.session_history.specs.declared.ends.Stop.TheVariants.{Breaks, Ends}
 use Rattle.session_history.specs.declared.ends.Stop.{Stop}
 use Rattle.session_history.specs.Ends.{StaysKnown}
-use Rattle.rx_engine.proofs.Terms.{Err, ap, arith, refl, subst, sym, ◌+◌, ◌-◌, ◌∙◌, ◌≡◌, Seen, Rules, CanGive, served_off, known_same, known_then, left_by, answers_broken, answers_finished, notes_broken, notes_finished, between_counted, between_fits, between_lost, between_under, frame_then, lost_all, lost_beside, lost_last, lost_then, cause_then, stops_under, watched_kept, same_rules, turned_smaller, LeavesBy, keeping_of, HasWatched, IsBetween, IsCounted, IsFinishing, StopsBy, TakesBy, TrimsAt, TrimsBy, UnlessBroken, outcome_of, rules_by, SessionState, Since}
+use Rattle.rx_engine.proofs.Terms.{Err, ap, arith, refl, subst, sym, ◌+◌, ◌-◌, ◌∙◌, ◌≡◌, Seen, Rules, CanGive, served_off, known_same, known_then, left_by, answers_broken, answers_finished, notes_broken, notes_finished, between_counted, between_fits, between_lost, between_under, frame_then, lost_all, lost_beside, lost_last, lost_then, turned_smaller, cause_then, stops_under, watched_kept, same_rules, LeavesBy, keeping_of, HasWatched, IsCounted, IsFinishing, StopsBy, TakesBy, TrimsAt, TrimsBy, UnlessBroken, outcome_of, rules_by, SessionState, IsBetween, Since}
 use Rattle.rx_engine.proofs.session.Session.serve_on.Goals as goal
 
 pub turns-init : goal.turns-init
@@ -107,8 +107,8 @@ finish-requires g c =
       image = image;
       began = behind;
       is = (stops_under image behind (g.K.Link.seen c.turn.new.link) c.turn.new.self (Ends c.in-Err-Ends.end) (sym then)
-        (subst (λ why. StopsBy here image behind (g.K.Link.seen c.turn.new.link) c.turn.new.self why) c.in-Err-Ends.field-0-is
-        (c.in-Err-Ends.ensures.turns image (record since { lost = since.lost + c.turns.invariant.lost }) (since.lost + (lost_then c.turns.invariant.lost c.turns.self.cpu.slots.live.steps c.turn.new.self.steps (g.W.Watch.ran c.turn.new.watch + c.turns.steps) (g.W.Watch.ran c.turns.watch + c.turn.new.steps))) (between_under (sym same) (c.turns.invariant.stands image since c.requires.is)) (lost_beside since.lost c.turns.invariant.lost c.turns.self.cpu.slots.live.steps c.turn.new.self.steps (g.W.Watch.ran c.turn.new.watch + c.turns.steps) (g.W.Watch.ran c.turns.watch + c.turn.new.steps) c.in-Err-Ends.ensures.least)))).0;
+          (subst (λ why. StopsBy here image behind (g.K.Link.seen c.turn.new.link) c.turn.new.self why) c.in-Err-Ends.field-0-is
+          (c.in-Err-Ends.ensures.turns image (record since { lost = since.lost + c.turns.invariant.lost }) (since.lost + (lost_then c.turns.invariant.lost c.turns.self.cpu.slots.live.steps c.turn.new.self.steps (g.W.Watch.ran c.turn.new.watch + c.turns.steps) (g.W.Watch.ran c.turns.watch + c.turn.new.steps))) (between_under (sym same) (c.turns.invariant.stands image since c.requires.is)) (lost_beside since.lost c.turns.invariant.lost c.turns.self.cpu.slots.live.steps c.turn.new.self.steps (g.W.Watch.ran c.turn.new.watch + c.turns.steps) (g.W.Watch.ran c.turns.watch + c.turn.new.steps) c.in-Err-Ends.ensures.least)))).0;
       gives = subst (λ (why : Stop). UnlessBroken {X = Unit {0}} (Err why) (CanGive (g.K.Link.seen c.turn.new.link) c.turn.new.self.replies)) c.in-Err-Ends.field-0-is c.in-Err-Ends.ensures.keeps.link.gives;
     }
 

@@ -1,5 +1,4 @@
-use Rattle.session_state.specs.Options.{AreInRange}
-use Rattle.rx_engine.proofs.Terms.{ap, arith, subst, sym, ◌+◌, ◌∙◌, ◌≡◌, Ledger, CanGive, between_under, counted_begun, same_rules, saved_frame, served_begun, starts_between, starts_giving, starts_trimmed, rules_by, SessionState, told_since}
+use Rattle.rx_engine.proofs.Terms.{ap, arith, subst, sym, ◌∙◌, ◌≡◌, Ledger, CanGive, between_under, counted_begun, served_begun, starts_between, starts_giving, starts_trimmed, same_rules, saved_frame, AreInRange, rules_by, SessionState, told_since}
 use Rattle.rx_engine.proofs.session.Session.serve_watched.Goals as goal
 
 pub serve_on-requires : goal.serve_on-requires
