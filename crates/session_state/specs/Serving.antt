@@ -14,7 +14,7 @@ use Rattle.session_state.specs.Terms.{AllocError, IoFault, Rose, Send, Entry, Co
 use Rattle.session_state.specs.Sessions.{SessionState, IsBegun}
 use Rattle.session_state.specs.Recovered.{Outcome, IsNoteFault, HasWatched, FailsAtChoices}
 use Rattle.session_state.specs.Leaving.{keeping_of, IsHandled, IsRecorded, IsTrimmed, IsCutShort, KeepsOldest, HoldsCheckpoints, LeavesBy}
-use Rattle.session_state.specs.Options.{rules_in, keeping_for}
+use Rattle.session_state.specs.Options.{AreInRange, rules_in, keeping_for}
 use Rattle.session_state.specs.Standing.{Since, Story, entries, moment, sends, then_story, IsTold, AnswersFor, HasPassed, HasPassedDue, IsGoing, IsBetween, IsAsking, IsWaitingFor, IsFailing, IsEnding, IsBrokenOff, HasNotedMore, HasMissed}
 
 -- a fault of passing breaks a session off so
@@ -537,13 +537,14 @@ module _ {R : Type 0} where
 
 module _ {R : Type 0} where
   -- A session stands between two events of its guest, for some image, since some time, where its notes and its watch tell this; and it may be served on from
-  -- there: all is given up and recorded that no trial needs.
+  -- there: all is given up and recorded that no trial needs, and its options are in their ranges.
   pub record StandsServing (rules : Rules) (seen : Seen) (noted : Noted) (tables : Option (List (List Try))) (session : SessionState R) : Type 0 where
     pub image : Image
     pub began : Since
     pub is : IsBetween rules image (record began { noted = noted; tables = tables }) seen session
     pub may : MayServe seen session.replies
     pub trimmed : IsTrimmed session
+    pub in_range : AreInRange session.options
 
   -- A session that stood so has served a link on, and answers so: why it stopped; what it leaves, by one telling of it, since each time since which it stood so; and
   -- what its link and its notes show. So many instructions were counted beside those that were lost before: those of the run where it stood, and those that it did

@@ -5,12 +5,13 @@ use Rattle.reply_ledger.specs.Shows as S
 use Rattle.reply_ledger.specs.Ledger as ledgers
 use Rattle.guest_cpu.specs.Laws.{IsStart}
 use Rattle.std.specs.Option.{unwrap_or}
+use Rattle.std.proofs.lemmas.Nat.{mul-le}
 use Rattle.run_history.specs.Machine as M
 use Rattle.session_history.specs.Heeding as H
 use Rattle.session_history.proofs.Accounts.{nothing_is_sound}
 use Rattle.session_state.specs.declared.options.Options.{Options}
 use Rattle.session_state.proofs.Lemmas.{in_force_by, none_noted, tells_none}
-use Rattle.session_state.proofs.Terms.{Answer, AreTables, Bool, Bounds, CanGive, Checkpoints, CpuState, Framing, Grew, HasSameFrame, HasServedLink, HasServedOn, HasWatched, Heap, Image, IsBegun, IsBetween, IsCounted, IsFresh, IsTrimmed, KeepsReplies, KeepsRing, LeavesBy, Ledger, List, MayServe, None, Noted, Option, Rules, Seen, Send, SessionState, Shown, Since, Standing, Stands, StaysKnown, Stop, Story, Try, [], alone, ap, arith, drop, false, handled_first, in_force_none, inl, items_in, keeping_by, keeping_for, keeping_of, length, no_connections, no_replies, none_followed, nothing_before, origin, outcome_of, recovered_first, refl, replicate, rules_by, rules_in, rules_of, runs_start, served_same, serving_first, slice_get, standing_of, stands_of, subst, suc, sym, take, tells_nothing, told_since, true, zero, ℕ, ◌*◌, ◌++◌, ◌+◌, ◌-◌, ◌/◌, ◌∙◌, ◌∷◌, ◌≡◌, ◌≤◌}
+use Rattle.session_state.proofs.Terms.{Answer, AreTables, Bool, Bounds, CanGive, Checkpoints, CpuState, Framing, GoesFurther, Grew, HasSameFrame, HasServedLink, HasServedOn, HasWatched, Heap, Image, IsBegun, IsBetween, IsCounted, IsFresh, IsTrimmed, KeepsReplies, KeepsRing, LeavesBy, Ledger, List, MayServe, None, Noted, Option, Path, Rules, Seen, Send, SessionState, Shown, Since, Standing, Stands, StaysKnown, Stop, Story, Try, [], alone, ap, arith, drop, false, handled_first, in_force_none, inl, inr, items_in, keeping_by, keeping_for, keeping_of, length, no_connections, no_replies, none_followed, nothing_before, origin, outcome_of, recovered_first, refl, replicate, rules_by, rules_in, rules_of, runs_start, served_same, serving_first, slice_get, standing_of, stands_of, subst, suc, sym, take, tells_nothing, told_since, true, zero, ℕ, ◌*◌, ◌++◌, ◌+◌, ◌-◌, ◌/◌, ◌<◌, ◌^◌, ◌∙◌, ◌∷◌, ◌≡◌, ◌≤◌}
 use Rattle.session_state.proofs.ending.KnownLemmas.{known_same}
 use Rattle.session_state.proofs.ending.LeavingLemmas.{start_trimmed}
 use Rattle.session_state.proofs.recovering.TableLemmas.{watched_kept}
@@ -54,8 +55,12 @@ first_replies framing max_items max_events = record {
 abbrev pub lost_then : ℕ → ℕ → ℕ → ℕ → ℕ → ℕ
 lost_then lost live steps before after = (lost + live + after) - (steps + before)
 
-pub lost_counts : (base lost live steps before after : ℕ) → steps + before ≤ after + live → base + lost_then lost live steps before after + steps + before ≡ base + lost + live + after
-lost_counts base lost live steps before after least = omega (arith, least)
+pub lost_counts : (lost live steps before after : ℕ) → steps + before ≤ after + live → lost_then lost live steps before after + steps + before ≡ lost + live + after
+lost_counts lost live steps before after least = omega (arith, least)
+
+-- the same beside those of before
+pub lost_beside : (base lost live steps before after : ℕ) → steps + before ≤ after + live → base + lost_then lost live steps before after + steps + before ≡ base + lost + live + after
+lost_beside base lost live steps before after least = omega (arith, least)
 
 -- and with what the watch has counted: before the first turn, where the session had done some already, before this one, and behind it
 pub lost_all : (old first lost live steps before after began ran later : ℕ) → began + before + old ≡ ran + first + (lost + live) → steps + (later + before) ≤ ran + after + live
@@ -139,8 +144,11 @@ module _ {R : Type 0} where
       (starts_saved permits begun fresh (keeps (rules_of session.options (permits session.cpu.rule))) live stands))
 
   -- the counts of a session between two events are its guest's
-  pub between_steps : {rules : Rules} {image : Image} {began : Since} {seen : Seen} {session : SessionState R} → IsBetween rules image began seen session → session.steps ≡ session.cpu.slots.live.steps
-  between_steps b = b.going.answers.steps ∙ sym (ap (λ (s : Standing). s.steps) b.going.goes.guest)
+  pub between_counted : {rules : Rules} {image : Image} {began : Since} {seen : Seen} {session : SessionState R} → IsBetween rules image began seen session → IsCounted session
+  between_counted b = record {
+    taken = b.going.answers.taken ∙ sym (ap (λ (s : Standing). s.guest.machine.taken) b.going.goes.guest);
+    steps = b.going.answers.steps ∙ sym (ap (λ (s : Standing). s.steps) b.going.goes.guest);
+  }
 
   -- with another number that is the same
   pub between_lost : {rules : Rules} {image : Image} (began : Since) {seen : Seen} {session : SessionState R} {lost : ℕ} → began.lost ≡ lost → IsBetween rules image began seen session → IsBetween rules image (record began { lost = lost }) seen session
@@ -154,6 +162,7 @@ module _ {R : Type 0} where
     pub may : MayServe seen new.replies
     pub frame : HasSameFrame old new
     pub known : StaysKnown before.coming seen.coming
+    pub marked : IsCounted new
     pub trimmed : IsTrimmed new
     pub keeping : keeping_of new ≡ keeping_of old
     pub counted : last + old.steps ≡ first + (lost + new.cpu.slots.live.steps)
@@ -184,13 +193,6 @@ module _ {R : Type 0} where
       (subst (λ (l : logs.Log). KeepsRing rules image [] [] (origin image) (origin image ∷ []) after.cpu after.ring l after.replies) (sym log)
       (subst (λ (l : Ledger). KeepsRing rules image [] [] (origin image) (origin image ∷ []) after.cpu after.ring session.log l) (sym replies) keeps))
       (origin image) (ap (slice_get (origin image ∷ [])) (let none : length (origin image ∷ []) - 1 ≡ 0 = omega arith in none)) first recorded (omega (arith, sends))
-
-  pub starts_counted : {image : Image} {session after : SessionState R} → IsBegun image session.options session.cpu.rule session → after ≡ record session { cpu = after.cpu; ring = after.ring } → after.cpu.slots.live ≡ session.cpu.slots.live → IsCounted after
-  unfolding M.start M.start_machine
-  starts_counted begun same live = record {
-    taken = ap (λ (s : SessionState R). s.taken) same ∙ (begun.no_items ∙ sym (ap (λ (s : Standing). s.guest.machine.taken) (live ∙ begun.cpu.live_is)));
-    steps = ap (λ (s : SessionState R). s.steps) same ∙ (begun.no_steps ∙ sym (ap (λ (s : Standing). s.steps) (live ∙ begun.cpu.live_is)));
-  }
 
   pub frame_then : {old mid new : SessionState R} → HasSameFrame old mid → HasSameFrame mid new → HasSameFrame old new
   frame_then first second = record { options = second.options ∙ first.options; rule = second.rule ∙ first.rule; before = second.before ∙ first.before; hold = second.hold ∙ first.hold }
@@ -224,3 +226,27 @@ module _ {R : Type 0} where
   counted_begun ran last later first {rules = rules} {before = before} {seen = seen} {shown = shown} {now = now} {tables_before = tables_before} {tables = tables} {old = old} {new = new} {answered = answered} {done = done} none h =
       let same : (ran + last + done) - (later + first) ≡ (ran + last) - (later + first) = omega (arith, none) in
       subst (λ n. HasServedLink rules before seen shown now n tables_before tables old new answered) same h
+
+  -- Its guest has done few instructions: so many come between two items, and so many items.
+  pub between_fits : {rules : Rules} {image : Image} {began : Since} {seen : Seen} {session : SessionState R} → rules.limits.budget ≤ 2 ^ 24 → rules.bounds.max_items ≤ 2 ^ 20 → IsBetween rules image began seen session → session.cpu.slots.live.steps < 18446744073709551616
+  between_fits {rules = rules} budget items b =
+      let now : Path = b.going.story.survivor.now in
+      let few : now.state.machine.taken ≤ 2 ^ 20 = let most = b.going.goes.few in omega (arith, most, items) in
+      let product : now.state.machine.taken * (rules.limits.budget + 1) ≤ 2 ^ 20 * (2 ^ 24 + 1) = mul-le now.state.machine.taken (rules.limits.budget + 1) (2 ^ 20) (2 ^ 24 + 1) few (omega (arith, budget)) in
+      let live = ap (λ (s : Standing). s.steps) b.going.goes.guest in
+      let since = b.going.goes.bounded.since in
+      let steps = b.going.goes.bounded.steps in
+      omega (arith, live, since, steps, product, budget)
+
+  -- What is left to do gets less: of failures, or of instructions before the next one.
+  pub turned_smaller : (old mid new : SessionState R) → mid.options ≡ old.options → mid.cpu.slots.live.steps < 18446744073709551616 → GoesFurther mid new
+      → (old.options.max_items + 5 - new.until) * 18446744073709551617 + (18446744073709551616 - new.cpu.slots.live.steps) < (old.options.max_items + 5 - mid.until) * 18446744073709551617 + (18446744073709551616 - mid.cpu.slots.live.steps)
+  turned_smaller old mid new options fits (inl further) =
+      let same : old.options.max_items + 5 - new.until ≡ old.options.max_items + 5 - mid.until = ap (λ n. old.options.max_items + 5 - n) further.0 in
+      subst (λ n. n * 18446744073709551617 + (18446744073709551616 - new.cpu.slots.live.steps) < (old.options.max_items + 5 - mid.until) * 18446744073709551617 + (18446744073709551616 - mid.cpu.slots.live.steps)) (sym same)
+      (let later = further.1 in omega (arith, later, fits))
+  turned_smaller old mid new options fits (inr adopted) =
+      let most : mid.options.max_items ≡ old.options.max_items = ap (λ o. o.max_items) options in
+      let past = adopted.past in
+      let high = adopted.most in
+      omega (arith, past, high, most)

@@ -1,17 +1,19 @@
 use Rattle.session_history.specs.declared.ends.Stop.TheVariants.{Breaks, Ends}
 use Rattle.session_history.specs.declared.ends.Stop.{Stop}
 use Rattle.session_history.specs.Ends.{StaysKnown}
-use Rattle.rx_engine.proofs.Terms.{Err, ap, arith, refl, subst, sym, ◌+◌, ◌-◌, ◌∙◌, ◌≡◌, Seen, Rules, CanGive, served_off, known_same, known_then, left_by, answers_broken, answers_finished, notes_broken, notes_finished, between_lost, between_steps, between_under, frame_then, lost_all, lost_counts, lost_last, lost_then, cause_then, stops_under, watched_kept, same_rules, LeavesBy, keeping_of, HasWatched, IsBetween, IsCounted, IsFinishing, StopsBy, TakesBy, TrimsAt, TrimsBy, UnlessBroken, outcome_of, rules_by, SessionState, Since}
+use Rattle.rx_engine.proofs.Terms.{Err, ap, arith, refl, subst, sym, ◌+◌, ◌-◌, ◌∙◌, ◌≡◌, Seen, Rules, CanGive, served_off, known_same, known_then, left_by, answers_broken, answers_finished, notes_broken, notes_finished, between_counted, between_fits, between_lost, between_under, frame_then, lost_all, lost_beside, lost_last, lost_then, turned_smaller, cause_then, stops_under, watched_kept, same_rules, LeavesBy, keeping_of, HasWatched, IsCounted, IsFinishing, StopsBy, TakesBy, TrimsAt, TrimsBy, UnlessBroken, outcome_of, rules_by, SessionState, IsBetween, Since}
 use Rattle.rx_engine.proofs.session.Session.serve_on.Goals as goal
 
 pub turns-init : goal.turns-init
 turns-init g c =
-    let stood = between_steps c.requires.is in
+    let marked : IsCounted c.args.self.now = between_counted c.requires.is in
+    let stood = marked.steps in
     record {
       stands = λ image began is. between_lost (record began { noted = (g.N.Notes.shown c.args.notes.now).told; tables = g.W.Watch.tables c.args.watch.now }) (let none : began.lost ≡ began.lost + 0 = omega arith in none) is;
       may = c.requires.may;
       frame = record { options = refl; rule = refl; before = refl; hold = refl };
       known = known_same refl;
+      marked = marked;
       trimmed = c.requires.trimmed;
       keeping = refl;
       lost = 0;
@@ -33,6 +35,12 @@ turn-requires g c =
       is = between_under (sym same) (c.turns.invariant.stands c.requires.image c.requires.began c.requires.is);
     }
 
+pub turns-smaller : goal.turns-smaller
+turns-smaller g c =
+    let ranges = c.requires.in_range in
+    turned_smaller c.args.self.now c.turns.self c.turn.new.self c.turns.invariant.frame.options
+    (between_fits {rules = rules_by g.R.AccessRule.rule c.args.self.now} ranges.few_budget ranges.few_items (c.turns.invariant.stands c.requires.image c.requires.began c.requires.is)) c.in-Ok.ensures.keeps.later
+
 pub turns-preserved : goal.turns-preserved
 turns-preserved g c =
     let same = same_rules g.R.AccessRule.rule c.turns.invariant.frame in
@@ -41,10 +49,11 @@ turns-preserved g c =
     let all : g.W.Watch.ran c.args.watch.now + c.turn.new.steps + c.args.self.now.steps ≡ g.W.Watch.ran c.turn.new.watch + c.args.steps.now + ((lost_then c.turns.invariant.lost c.turns.self.cpu.slots.live.steps c.turn.new.self.steps (g.W.Watch.ran c.turn.new.watch + c.turns.steps) (g.W.Watch.ran c.turns.watch + c.turn.new.steps)) + c.turn.new.self.steps) = (lost_all c.args.self.now.steps c.args.steps.now c.turns.invariant.lost c.turns.self.cpu.slots.live.steps c.turn.new.self.steps c.turns.steps c.turn.new.steps (g.W.Watch.ran c.args.watch.now) (g.W.Watch.ran c.turns.watch) (g.W.Watch.ran c.turn.new.watch) c.turns.invariant.counted c.in-Ok.ensures.least) in
     let steps = marked.steps in
     record {
-      stands = λ image began is. between_under same (c.in-Ok.ensures.turns image (record began { lost = began.lost + c.turns.invariant.lost }) (began.lost + (lost_then c.turns.invariant.lost c.turns.self.cpu.slots.live.steps c.turn.new.self.steps (g.W.Watch.ran c.turn.new.watch + c.turns.steps) (g.W.Watch.ran c.turns.watch + c.turn.new.steps))) (between_under (sym same) (c.turns.invariant.stands image began is)) (lost_counts began.lost c.turns.invariant.lost c.turns.self.cpu.slots.live.steps c.turn.new.self.steps (g.W.Watch.ran c.turn.new.watch + c.turns.steps) (g.W.Watch.ran c.turns.watch + c.turn.new.steps) c.in-Ok.ensures.least));
+      stands = λ image began is. between_under same (c.in-Ok.ensures.turns image (record began { lost = began.lost + c.turns.invariant.lost }) (began.lost + (lost_then c.turns.invariant.lost c.turns.self.cpu.slots.live.steps c.turn.new.self.steps (g.W.Watch.ran c.turn.new.watch + c.turns.steps) (g.W.Watch.ran c.turns.watch + c.turn.new.steps))) (between_under (sym same) (c.turns.invariant.stands image began is)) (lost_beside began.lost c.turns.invariant.lost c.turns.self.cpu.slots.live.steps c.turn.new.self.steps (g.W.Watch.ran c.turn.new.watch + c.turns.steps) (g.W.Watch.ran c.turns.watch + c.turn.new.steps) c.in-Ok.ensures.least));
       frame = frame_then c.turns.invariant.frame c.in-Ok.ensures.keeps.frame;
       known = known_then (g.K.Link.seen c.args.link.now).coming (g.K.Link.seen c.turns.link).coming (g.K.Link.seen c.turn.new.link).coming c.turns.invariant.known c.in-Ok.ensures.keeps.link.known;
       may = record { takes = c.in-Ok.ensures.keeps.link.takes; gives = c.in-Ok.ensures.keeps.link.gives };
+      marked = marked;
       trimmed = c.in-Ok.ensures.keeps.trimmed c.turns.invariant.trimmed;
       keeping = c.in-Ok.ensures.keeps.keeping ∙ c.turns.invariant.keeping;
       lost = (lost_then c.turns.invariant.lost c.turns.self.cpu.slots.live.steps c.turn.new.self.steps (g.W.Watch.ran c.turn.new.watch + c.turns.steps) (g.W.Watch.ran c.turns.watch + c.turn.new.steps));
@@ -77,7 +86,7 @@ returns-in-Err-Breaks-clause-served g c = record {
         let behind : Since = record since { noted = (g.N.Notes.shown c.turn.new.notes).told; tables = g.W.Watch.tables c.turn.new.watch; lost = since.lost + (lost_then c.turns.invariant.lost c.turns.self.cpu.slots.live.steps c.turn.new.self.steps (g.W.Watch.ran c.turn.new.watch + c.turns.steps) (g.W.Watch.ran c.turns.watch + c.turn.new.steps)) } in
         let off = stops_under image behind (g.K.Link.seen c.turn.new.link) c.turn.new.self (Breaks c.in-Err-Breaks.why) same
         (subst (λ why. StopsBy here image behind (g.K.Link.seen c.turn.new.link) c.turn.new.self why) c.in-Err-Breaks.field-0-is
-        (c.in-Err-Breaks.ensures.turns image (record since { lost = since.lost + c.turns.invariant.lost }) (since.lost + (lost_then c.turns.invariant.lost c.turns.self.cpu.slots.live.steps c.turn.new.self.steps (g.W.Watch.ran c.turn.new.watch + c.turns.steps) (g.W.Watch.ran c.turns.watch + c.turn.new.steps))) (between_under (sym same) (c.turns.invariant.stands image since is)) (lost_counts since.lost c.turns.invariant.lost c.turns.self.cpu.slots.live.steps c.turn.new.self.steps (g.W.Watch.ran c.turn.new.watch + c.turns.steps) (g.W.Watch.ran c.turns.watch + c.turn.new.steps) c.in-Err-Breaks.ensures.least))) in
+        (c.in-Err-Breaks.ensures.turns image (record since { lost = since.lost + c.turns.invariant.lost }) (since.lost + (lost_then c.turns.invariant.lost c.turns.self.cpu.slots.live.steps c.turn.new.self.steps (g.W.Watch.ran c.turn.new.watch + c.turns.steps) (g.W.Watch.ran c.turns.watch + c.turn.new.steps))) (between_under (sym same) (c.turns.invariant.stands image since is)) (lost_beside since.lost c.turns.invariant.lost c.turns.self.cpu.slots.live.steps c.turn.new.self.steps (g.W.Watch.ran c.turn.new.watch + c.turns.steps) (g.W.Watch.ran c.turns.watch + c.turn.new.steps) c.in-Err-Breaks.ensures.least))) in
         let all = (lost_all c.args.self.now.steps c.args.steps.now c.turns.invariant.lost c.turns.self.cpu.slots.live.steps c.turn.new.self.steps c.turns.steps c.turn.new.steps (g.W.Watch.ran c.args.watch.now) (g.W.Watch.ran c.turns.watch) (g.W.Watch.ran c.turn.new.watch) c.turns.invariant.counted c.in-Err-Breaks.ensures.least) in
         watched_kept (λ telling. LeavesBy the_rules image began.noted_before.unnoted (g.N.Notes.shown c.turn.new.notes).told.unnoted telling c.turn.new.self (Breaks c.in-Err-Breaks.why)) (c.in-Err-Breaks.ensures.keeps.keeping ∙ c.turns.invariant.keeping)
         (served_off (λ telling. LeavesBy the_rules image began.noted_before.unnoted (g.N.Notes.shown c.turn.new.notes).told.unnoted telling c.turn.new.self (Breaks c.in-Err-Breaks.why)) behind {first = first} off.0 off.1
@@ -98,8 +107,8 @@ finish-requires g c =
       image = image;
       began = behind;
       is = (stops_under image behind (g.K.Link.seen c.turn.new.link) c.turn.new.self (Ends c.in-Err-Ends.end) (sym then)
-        (subst (λ why. StopsBy here image behind (g.K.Link.seen c.turn.new.link) c.turn.new.self why) c.in-Err-Ends.field-0-is
-        (c.in-Err-Ends.ensures.turns image (record since { lost = since.lost + c.turns.invariant.lost }) (since.lost + (lost_then c.turns.invariant.lost c.turns.self.cpu.slots.live.steps c.turn.new.self.steps (g.W.Watch.ran c.turn.new.watch + c.turns.steps) (g.W.Watch.ran c.turns.watch + c.turn.new.steps))) (between_under (sym same) (c.turns.invariant.stands image since c.requires.is)) (lost_counts since.lost c.turns.invariant.lost c.turns.self.cpu.slots.live.steps c.turn.new.self.steps (g.W.Watch.ran c.turn.new.watch + c.turns.steps) (g.W.Watch.ran c.turns.watch + c.turn.new.steps) c.in-Err-Ends.ensures.least)))).0;
+          (subst (λ why. StopsBy here image behind (g.K.Link.seen c.turn.new.link) c.turn.new.self why) c.in-Err-Ends.field-0-is
+          (c.in-Err-Ends.ensures.turns image (record since { lost = since.lost + c.turns.invariant.lost }) (since.lost + (lost_then c.turns.invariant.lost c.turns.self.cpu.slots.live.steps c.turn.new.self.steps (g.W.Watch.ran c.turn.new.watch + c.turns.steps) (g.W.Watch.ran c.turns.watch + c.turn.new.steps))) (between_under (sym same) (c.turns.invariant.stands image since c.requires.is)) (lost_beside since.lost c.turns.invariant.lost c.turns.self.cpu.slots.live.steps c.turn.new.self.steps (g.W.Watch.ran c.turn.new.watch + c.turns.steps) (g.W.Watch.ran c.turns.watch + c.turn.new.steps) c.in-Err-Ends.ensures.least)))).0;
       gives = subst (λ (why : Stop). UnlessBroken {X = Unit {0}} (Err why) (CanGive (g.K.Link.seen c.turn.new.link) c.turn.new.self.replies)) c.in-Err-Ends.field-0-is c.in-Err-Ends.ensures.keeps.link.gives;
     }
 
@@ -127,7 +136,7 @@ returns-in-Err-Ends-clause-served g c = record {
         let behind : Since = record since { noted = (g.N.Notes.shown c.turn.new.notes).told; tables = g.W.Watch.tables c.turn.new.watch; lost = since.lost + (lost_then c.turns.invariant.lost c.turns.self.cpu.slots.live.steps c.turn.new.self.steps (g.W.Watch.ran c.turn.new.watch + c.turns.steps) (g.W.Watch.ran c.turns.watch + c.turn.new.steps)) } in
         let stops = stops_under image behind (g.K.Link.seen c.turn.new.link) c.turn.new.self (Ends c.in-Err-Ends.end) (sym then)
         (subst (λ why. StopsBy here image behind (g.K.Link.seen c.turn.new.link) c.turn.new.self why) c.in-Err-Ends.field-0-is
-        (c.in-Err-Ends.ensures.turns image (record since { lost = since.lost + c.turns.invariant.lost }) (since.lost + (lost_then c.turns.invariant.lost c.turns.self.cpu.slots.live.steps c.turn.new.self.steps (g.W.Watch.ran c.turn.new.watch + c.turns.steps) (g.W.Watch.ran c.turns.watch + c.turn.new.steps))) (between_under (sym same) (c.turns.invariant.stands image since is)) (lost_counts since.lost c.turns.invariant.lost c.turns.self.cpu.slots.live.steps c.turn.new.self.steps (g.W.Watch.ran c.turn.new.watch + c.turns.steps) (g.W.Watch.ran c.turns.watch + c.turn.new.steps) c.in-Err-Ends.ensures.least))) in
+        (c.in-Err-Ends.ensures.turns image (record since { lost = since.lost + c.turns.invariant.lost }) (since.lost + (lost_then c.turns.invariant.lost c.turns.self.cpu.slots.live.steps c.turn.new.self.steps (g.W.Watch.ran c.turn.new.watch + c.turns.steps) (g.W.Watch.ran c.turns.watch + c.turn.new.steps))) (between_under (sym same) (c.turns.invariant.stands image since is)) (lost_beside since.lost c.turns.invariant.lost c.turns.self.cpu.slots.live.steps c.turn.new.self.steps (g.W.Watch.ran c.turn.new.watch + c.turns.steps) (g.W.Watch.ran c.turns.watch + c.turn.new.steps) c.in-Err-Ends.ensures.least))) in
         let finishing : IsFinishing later first (g.K.Link.seen c.turn.new.link) stops.0.story c.in-Err-Ends.end = record {
           asked = stops.1;
           takes = subst (λ (why : Stop). TakesBy {X = Unit {0}} (g.K.Link.seen c.turn.new.link).takes (Err why)) c.in-Err-Ends.field-0-is c.in-Err-Ends.ensures.keeps.link.takes;
