@@ -1,0 +1,5 @@
+pub mod Following
+pub mod Reaching
+pub mod Standing
+pub mod Followed
+pub mod Laws
