@@ -31,7 +31,8 @@ use Rattle.session_state.proofs.standing.CheckpointLemmas.{HasSameSide}
 use Rattle.std.proofs.lemmas.List.{map-append}
 use Rattle.follow.proofs.Terms.{List, None, Option, Some, [], ap, append-nil, arith, cond, inl, inr, length, length-append, ltb, refl, subst, sym, take, ℕ, ◌++◌, ◌+◌, ◌-◌, ◌<◌, ◌∙◌, ◌∷◌, ◌≡◌, ◌≤◌, ◌⊎◌, Image, Env, Plain, AsksFor, Limits, Override, Path, Served, env_at, origin, later_of, serves_to, served_on, steps_later, taken_later, items_in, passed_in, received, Rules, plan_of, count_of, held, Handed, HasReached, Stand, AsksForMore, HasFollowed, heard_alone, rules_behind}
 use Rattle.session_following.specs.Following.{came_before, plan_up_to, rules_after}
-use Rattle.session_following.specs.Followed.{IsFollowing, SendsHeld, followed_before, held_count, rules_following}
+use Rattle.session_following.specs.Followed.{IsFollowing, followed_before, rules_following}
+use Rattle.session_following.specs.Sending.{held_count, with_held}
 use Rattle.session_following.specs.Reaching.{HasNotReached, IsNotReached}
 use Rattle.session_following.specs.Standing.{HasJustBegun, story_alone}
 use Rattle.session_following.proofs.Based.{SaysAs, replies_after, same_items, says_itself}
@@ -154,7 +155,7 @@ module _ {R : Type 0} where
 
   -- it sent: its ledger has the send, and as much of it as clients have is passed
   pub sent_following : {rules : Rules} {image : Image} {handed : Handed} {events : List LinkEvent} {now to : Path} {began : Since} {phases : Phases} {old new : SessionState R} (send : Send) → rules.bounds.before ≡ nothing_before → IsFollowing rules image handed events now began phases old
-      → HasSameSide old new → to.choices ≡ now.choices → new.choices ≡ old.choices → to.state.sends ≡ now.state.sends ++ send ∷ [] → IsCounted new → IsOpened old.replies send.conn → IsSendable send → SendsHeld handed.counts now.state.sends old.replies send new.replies
+      → HasSameSide old new → to.choices ≡ now.choices → new.choices ≡ old.choices → to.state.sends ≡ now.state.sends ++ send ∷ [] → IsCounted new → IsOpened old.replies send.conn → IsSendable send → new.replies ≡ with_held old.replies send (held_count handed.counts now.state.sends send)
       → GoesOn rules.limits (items_in (rules_following rules handed events now).bounds []) (plan_up_to (plan_of handed.episodes) now.state.machine.taken) now to
       → Writes rules.limits (items_in (rules_following rules handed events now).bounds []) old.cpu.base now old.cpu.written to new.cpu.written → to.state.ended ≡ None → new.cpu.slots.live ≡ standing_of to
       → IsFollowing rules image handed events to began phases new
@@ -162,10 +163,11 @@ module _ {R : Type 0} where
       let here : Rules = rules_following rules handed events now in
       let what : Before = followed_before handed events to in
       let keeps : KeepsReplies (rules_after here what).bounds [] None (now.state.sends ++ send ∷ []) new.replies =
-      sent_is_held here what handed.counts now.state.sends old.replies new.replies send (sym (append-nil (events_in (heard_alone events)))) refl (ap (held handed.counts) sent) known sendable f.stands.replies how in
-      let beside = held_beside handed.counts now.state.sends send how in
-      ran_following [] alone f side beside.first (used ∙ sym (append-nil now.choices)) (chosen ∙ sym (append-nil old.choices)) counted goes wrote lives stands
-      (subst (λ (all : List Send). KeepsReplies (rules_following rules handed events to).bounds [] None all new.replies) (sym sent) keeps) (beside.trial ∙ f.stands.no_trial)
+      subst (KeepsReplies (rules_after here what).bounds [] None (now.state.sends ++ send ∷ [])) (sym how)
+      (sent_is_held here what handed.counts now.state.sends old.replies send (sym (append-nil (events_in (heard_alone events)))) refl (ap (held handed.counts) sent) known sendable f.stands.replies) in
+      let beside = held_beside old.replies send (held_count handed.counts now.state.sends send) in
+      ran_following [] alone f side (ap (λ (l : Ledger). l.first) how ∙ beside.first) (used ∙ sym (append-nil now.choices)) (chosen ∙ sym (append-nil old.choices)) counted goes wrote lives stands
+      (subst (λ (all : List Send). KeepsReplies (rules_following rules handed events to).bounds [] None all new.replies) (sym sent) keeps) (ap (λ (l : Ledger). l.trial) how ∙ (beside.trial ∙ f.stands.no_trial))
 
 -- one event more
 module _ (rules : Rules) (handed : Handed) (events : List LinkEvent) (now : Path) (event : LinkEvent) where

@@ -11,19 +11,19 @@ use Rattle.reply_ledger.proofs.ShowsLemmas.{bytes_of-stamped_of, shows-passed, s
 use Rattle.session_history.specs.Opened.{is_open, opens}
 use Rattle.session_history.specs.Keeping.{AreSendable, IsSendable, KeepsReplies}
 use Rattle.session_history.specs.Heeding.{Before, events_of}
-use Rattle.session_history.specs.Terms.{Ledger, Send, sent_to}
+use Rattle.session_history.specs.Terms.{Ledger, Prefix, Send, sent_to}
 use Rattle.link_gate.proofs.KeepLemmas.{known-changed, next_of}
 use Rattle.link_gate.proofs.ReplyLemmas.{sendable_then}
-use Rattle.std.proofs.lemmas.Bool.{eq-eqb, true≢false}
-use Rattle.std.proofs.lemmas.List.{length-take-le}
+use Rattle.std.proofs.lemmas.Bool.{eq-eqb, eqb-false, eqb-true, true≢false}
+use Rattle.std.proofs.lemmas.List.{length-take, length-take-le}
 use Rattle.std.proofs.lemmas.Grind.{flat_map-append}
 use Rattle.std.proofs.Math.Seq.{drop-append_seam, take-length}
 use Rattle.std.specs.Prelude.{is_some}
 use Rattle.follow.proofs.Terms.{Bool, List, None, Option, Some, [], ap, append-nil, append_assoc, arith, cond, drop, eqb, false, inl, inr, length, length-append, refl, subst, sym, take, true, ℕ, ◌++◌, ◌+◌, ◌-◌, ◌<◌, ◌∙◌, ◌∷◌, ◌≡◌, ◌≤◌, ◌⊎◌, cases_lt, take-append-drop, take-append-le, take_all, sent_to-append, sent_to-more, count_of, held, held_behind, Rules, passed_in}
-use Rattle.std.proofs.Common.{length-drop}
+use Rattle.std.proofs.Common.{length-drop, min}
 use Rattle.follow.proofs.Fronts.{held_is_front, part_behind}
 use Rattle.session_following.specs.Following.{rules_after}
-use Rattle.session_following.specs.Followed.{SendsHeld}
+use Rattle.session_following.specs.Sending.{held_count, with_held}
 use Rattle.session_following.specs.Laws.{HeldGrows, SentIsHeld}
 use Rattle.session_following.proofs.Based.{only_had, same_heeded, same_open}
 
@@ -166,17 +166,44 @@ nothing [] none = refl
 nothing (byte ∷ bytes) none = absurd (omega (arith, none))
 
 pub sent_is_held : SentIsHeld
-sent_is_held rules what counts sends ledger next send same before after known sendable keeps (inl none) =
-    subst (KeepsReplies (rules_after rules what).bounds [] None (sends ++ send ∷ [])) (sym none.1)
-    (sent_unheld rules what same counts send before after (nothing (take (count_of counts send.conn - length (sent_to send.conn sends)) send.bytes) none.0) known sendable keeps)
-sent_is_held rules what counts sends ledger next send same before after known sendable keeps (inr some) =
-    subst (KeepsReplies (rules_after rules what).bounds [] None (sends ++ send ∷ [])) (sym some.1) (sent_held rules what same counts send before after some.0 known sendable keeps)
+sent_is_held rules what counts sends ledger send same before after known sendable keeps = of (eqb (held_count counts sends send) 0) refl
+  where
+    left : ℕ
+    left = count_of counts send.conn - length (sent_to send.conn sends)
+
+    of : (none : Bool) → eqb (held_count counts sends send) 0 ≡ none
+        → KeepsReplies (rules_after rules what).bounds [] None (sends ++ send ∷ []) (cond none (with_send ledger send) (with_passed (with_send ledger send) send.conn (held_count counts sends send) send.taken))
+    of true is = sent_unheld rules what same counts send before after (nothing (take left send.bytes) (eqb-true (held_count counts sends send) 0 is)) known sendable keeps
+    of false is =
+        let some : held_count counts sends send ≡ 0 → ⊥ = eqb-false (held_count counts sends send) 0 is in
+        elim (cases_lt (count_of counts send.conn) (length (sent_to send.conn sends))) [
+          | inl less ↦ absurd (some (let none : left ≡ 0 = omega (arith, less) in ap (λ (k : ℕ). length (take k send.bytes)) none))
+          | inr covered ↦ sent_held rules what same counts send before after covered known sendable keeps
+        ]
 
 -- it gives up none, and no trial is under way that wasn't
 pub record StaysBeside (old new : Ledger) : Type 0 where
   pub first : new.first ≡ old.first
   pub trial : new.trial ≡ old.trial
 
-pub held_beside : (counts : List (ℕ × ℕ)) (sends : List Send) {old new : Ledger} (send : Send) → SendsHeld counts sends old send new → StaysBeside old new
-held_beside counts sends send (inl none) = record { first = ap (λ (l : Ledger). l.first) none.1; trial = ap (λ (l : Ledger). l.trial) none.1 }
-held_beside counts sends send (inr some) = record { first = ap (λ (l : Ledger). l.first) some.1; trial = ap (λ (l : Ledger). l.trial) some.1 }
+pub held_beside : (old : Ledger) (send : Send) (count : ℕ) → StaysBeside old (with_held old send count)
+held_beside old send count = of (eqb count 0)
+  where
+    of : (none : Bool) → StaysBeside old (cond none (with_send old send) (with_passed (with_send old send) send.conn count send.taken))
+    of true = record { first = refl; trial = refl }
+    of false = record { first = refl; trial = refl }
+
+-- as many are held as the count has left, or all
+pub held_is_least : (counts : List (ℕ × ℕ)) (sends : List Send) (send : Send) → held_count counts sends send ≡ min (count_of counts send.conn - length (sent_to send.conn sends)) (length send.bytes)
+held_is_least counts sends send = length-take (count_of counts send.conn - length (sent_to send.conn sends)) send.bytes
+
+-- so many of a send's bytes fit behind what was passed of those before it
+pub held_fits : (old new : Ledger) (conn : ℕ) (bytes : List ℕ) (taken : ℕ) {count : ℕ} → new ≡ with_send old (record { conn = conn; bytes = bytes; taken = taken }) → Prefix (passed_to old conn) (sent_to conn old.kept) → count ≤ length bytes
+    → length (passed_to new conn) + count ≤ length (sent_to conn new.kept)
+held_fits old new conn bytes taken {count = count} is front few =
+    let send : Send = record { conn = conn; bytes = bytes; taken = taken } in
+    let passed : length (passed_to new conn) ≡ length (passed_to old conn) = ap (λ (l : Ledger). length (passed_to l conn)) is in
+    let sent : length (sent_to conn new.kept) ≡ length (sent_to conn old.kept) + length bytes =
+    ap (λ (l : Ledger). length (sent_to conn l.kept)) is ∙ (ap length (one_sent old.kept send) ∙ length-append (sent_to conn old.kept) bytes) in
+    let part : length (sent_to conn old.kept) ≡ length (passed_to old conn) + length front.0 = ap length (sym front.1) ∙ length-append (passed_to old conn) front.0 in
+    omega (arith, passed, sent, part, few)

@@ -1,11 +1,10 @@
 -- A session that follows another host's run.
-use Rattle.std.specs.Prelude.{◌≡◌, ◌⊎◌, ℕ, ◌+◌, ◌-◌, ◌≤◌, List, length, take}
-use Rattle.reply_ledger.specs.Ledger.{with_passed, with_send}
-use Rattle.session_history.specs.Terms.{Image, Ledger, LinkEvent, Path, Phases, Send, env_at, events_in, sent_to}
+use Rattle.std.specs.Prelude.{◌≡◌, ◌+◌, List}
+use Rattle.session_history.specs.Terms.{Image, LinkEvent, Path, Phases, env_at, events_in}
 use Rattle.session_history.specs.Heeding.{Before, items_in}
 use Rattle.session_history.specs.Lawful.{Rules}
 use Rattle.follow.specs.Plans.{plan_of}
-use Rattle.follow.specs.Held.{count_of, held}
+use Rattle.follow.specs.Held.{held}
 use Rattle.follow.specs.Handed.{Handed}
 use Rattle.follow.specs.Following.{heard_alone}
 use Rattle.session_state.specs.Sessions.{SessionState}
@@ -31,13 +30,3 @@ pub record IsFollowing {R : Type 0} (rules : Rules) (image : Image) (handed : Ha
   pub until : session.until ≡ now.state.machine.taken + 1
   pub before : HasNotReached rules.limits (items_in rules.bounds (heard_alone events)) image handed now
   pub asked : HasAskedBefore rules image handed events
-
--- how many bytes of a send clients have, behind other sends
-abbrev pub held_count : List (ℕ × ℕ) → List Send → Send → ℕ
-held_count counts sends send = length (take (count_of counts send.conn - length (sent_to send.conn sends)) send.bytes)
-
--- A ledger with one more send. As much of it as clients have is passed, with the number of items that were taken.
-abbrev pub SendsHeld : List (ℕ × ℕ) → List Send → Ledger → Send → Ledger → Type 0
-SendsHeld counts sends old send new =
-    ((held_count counts sends send ≡ 0) × (new ≡ with_send old send))
-    ⊎ ((length (sent_to send.conn sends) ≤ count_of counts send.conn) × (new ≡ with_passed (with_send old send) send.conn (held_count counts sends send) send.taken))

@@ -11,7 +11,7 @@ use Rattle.follow.specs.Held.{count_of, held}
 use Rattle.follow.specs.Handed.{Handed}
 use Rattle.session_following.specs.Following.{plan_up_to, rules_after}
 use Rattle.session_following.specs.Reaching.{HasNotReached}
-use Rattle.session_following.specs.Followed.{SendsHeld}
+use Rattle.session_following.specs.Sending.{held_count, with_held}
 
 -- Up to a count of items the plan up to it says the same as the whole one, and behind it Plain.
 abbrev pub UpToIsExact : Type 0
@@ -26,9 +26,9 @@ HeldGrows =
 -- A ledger beside a journal that has just begun, before which as much was passed as is held of the sends, is one with a send more, once as much of that is passed as is held of it.
 abbrev pub SentIsHeld : Type 0
 SentIsHeld =
-    (rules : Rules) (what : Before) (counts : List (ℕ × ℕ)) (sends : List Send) (ledger next : Ledger) (send : Send) → what.events ≡ events_of rules.bounds [] →
-    rules.bounds.before.had ≡ held counts sends → what.had ≡ held counts (sends ++ send ∷ []) → IsOpened ledger send.conn → IsSendable send → KeepsReplies rules.bounds [] None sends ledger → SendsHeld counts sends ledger send next →
-    KeepsReplies (rules_after rules what).bounds [] None (sends ++ send ∷ []) next
+    (rules : Rules) (what : Before) (counts : List (ℕ × ℕ)) (sends : List Send) (ledger : Ledger) (send : Send) → what.events ≡ events_of rules.bounds [] →
+    rules.bounds.before.had ≡ held counts sends → what.had ≡ held counts (sends ++ send ∷ []) → IsOpened ledger send.conn → IsSendable send → KeepsReplies rules.bounds [] None sends ledger →
+    KeepsReplies (rules_after rules what).bounds [] None (sends ++ send ∷ []) (with_held ledger send (held_count counts sends send))
 
 -- A run that hasn't reached what was handed over hasn't with more items either.
 abbrev pub NotReachedStays : Type 0

@@ -1,5 +1,6 @@
 pub mod Following
 pub mod Reaching
 pub mod Standing
+pub mod Sending
 pub mod Followed
 pub mod Laws

@@ -5,3 +5,6 @@
 #![tactic(auto)]
 
 pub mod laws;
+mod sending;
+
+pub use sending::note_held;
