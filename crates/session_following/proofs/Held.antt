@@ -39,7 +39,7 @@ pub held_then : HeldGrows
 held_then counts sends send = held_append counts [] sends (send ∷ [])
 
 -- the first bytes of a list, as many as the first bytes are
-take_taken : (n : ℕ) (bytes : List ℕ) → take (length (take n bytes)) bytes ≡ take n bytes
+pub take_taken : (n : ℕ) (bytes : List ℕ) → take (length (take n bytes)) bytes ≡ take n bytes
 take_taken n bytes =
     elim (cases_lt n (length bytes)) [
       | inl few ↦ ap (λ (k : ℕ). take k bytes) (length-take-le n bytes (omega (arith, few)))

@@ -7,3 +7,4 @@ pub mod Reaching
 pub mod Rebased
 pub mod Steps
 pub mod Following
+pub mod Moving

@@ -2,5 +2,6 @@ pub mod Following
 pub mod Reaching
 pub mod Standing
 pub mod Sending
+pub mod Moving
 pub mod Followed
 pub mod Laws
