@@ -8,3 +8,4 @@ pub mod Rebased
 pub mod Steps
 pub mod Following
 pub mod Moving
+pub mod Answered

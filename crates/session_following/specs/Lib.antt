@@ -5,3 +5,4 @@ pub mod Sending
 pub mod Moving
 pub mod Followed
 pub mod Laws
+pub mod Answers

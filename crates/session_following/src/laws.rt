@@ -1,5 +1,6 @@
 //! Laws of a session that follows, each as the contract of a function that does nothing.
 ghost use Rattle.session_following.specs.Laws.{UpToIsExact, HeldGrows, SentIsHeld, NotReachedStays};
+ghost use Rattle.session_following.specs.Answers.{NeitherIsSaid, FilesAndClients};
 
 /// Up to a count of items the plan up to it says the same as the whole one.
 pub fn up_to_is_exact()
@@ -19,4 +20,14 @@ pub fn sent_is_held()
 /// A run that hasn't reached what was handed over hasn't with more items either.
 pub fn not_reached_stays()
     ensures { NotReachedStays }
+{}
+
+/// A second host that takes over says neither that the files are of another run, nor that clients have more than was sent.
+pub fn neither_is_said()
+    ensures { NeitherIsSaid }
+{}
+
+/// Where a run has reached what the files tell, and no client has more than it sent, it has reached all that was handed over.
+pub fn files_and_clients()
+    ensures { FilesAndClients }
 {}
