@@ -90,11 +90,11 @@ with_env t = record {
 
 module _ (rules : Rules) (image : Image) (handed : Handed) (events : List LinkEvent) (now : Path) (alone : rules.bounds.before ≡ nothing_before) where
   -- it heard these items
-  items_following : items_in (rules_following rules handed events now).bounds [] ≡ items_in rules.bounds (heard_alone events)
+  pub items_following : items_in (rules_following rules handed events now).bounds [] ≡ items_in rules.bounds (heard_alone events)
   items_following = same_items rules (heard_alone events) (followed_before handed events now) (sym (events_alone rules.bounds (heard_alone events) alone))
 
   -- a run up to there is one under the plan of the report
-  whole_following : (to : Path) → Served rules.limits (items_in (rules_following rules handed events now).bounds []) (plan_up_to (plan_of handed.episodes) to.state.machine.taken) (origin image) to
+  pub whole_following : (to : Path) → Served rules.limits (items_in (rules_following rules handed events now).bounds []) (plan_up_to (plan_of handed.episodes) to.state.machine.taken) (origin image) to
       → Served rules.limits (items_in rules.bounds (heard_alone events)) (plan_of handed.episodes) (origin image) to
   whole_following to served =
       let plan : List Override = plan_of handed.episodes in

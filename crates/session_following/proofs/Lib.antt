@@ -9,3 +9,5 @@ pub mod Steps
 pub mod Following
 pub mod Moving
 pub mod Answered
+pub mod Meets
+pub mod Released
