@@ -1,9 +1,9 @@
 -- A second host that takes over says neither that the files are of another run, nor that clients have more.
-use Rattle.session_history.specs.Terms.{Path, Prefix}
-use Rattle.follow.proofs.Terms.{List, None, Option, Some, ap, arith, inl, inr, subst, sym, ◌<◌, ◌∙◌, ◌≡◌, ◌≤◌, IfSome, Stand, HasReached, Finish, IsStuck, IsFollowed, IsTakeover, Takeover, stopped, plan_in}
+use Rattle.session_history.specs.Terms.{Path}
+use Rattle.follow.proofs.Terms.{Option, Some, arith, inl, inr, subst, ◌<◌, ◌≡◌, IfSome, Stand, Finish, IsFollowed, IsTakeover, Takeover, stopped, plan_in}
 use Rattle.follow.proofs.Agreed.{answers_agree, stuck_has_reached}
 use Rattle.follow.proofs.Reached.{follows_before}
-use Rattle.session_following.specs.Answers.{EndsEarly, FilesAndClients, IsAtFinish, IsShort, IsUnlike, NeitherIsSaid, OtherAnswer, OtherPlace}
+use Rattle.session_following.specs.Answers.{EndsEarly, FilesAndClients, IsShort, IsUnlike, NeitherIsSaid, OtherAnswer, OtherPlace}
 use Rattle.session_following.specs.Reaching.{IsNotReached}
 
 -- before it is released it has fewer instructions than the record's last line

@@ -3,14 +3,12 @@ use Rattle.item_log.specs.Log as logs
 use Rattle.reply_ledger.specs.Shows.{Shows}
 use Rattle.session_history.specs.Opened.{closes, is_gone, is_open, opens}
 use Rattle.session_history.specs.Keeping.{KeepsItems, KeepsPhases, KeepsReplies, phase_after}
-use Rattle.session_history.specs.Serving.{Carries}
 use Rattle.session_history.specs.Heeding.{Before, events_of, heeded}
-use Rattle.session_history.specs.Passing.{Covers, IsFeasible}
 use Rattle.session_history.proofs.Heeding.{heeded-alike, items_in-alike}
 use Rattle.std.proofs.lemmas.Bool.{true≢false}
 use Rattle.std.specs.Prelude.{◌&&◌}
 use Rattle.session_history.specs.Terms.{Entry, Item, LinkEvent, Send, sent_to, Phases, Log, Ledger}
-use Rattle.follow.proofs.Terms.{Bool, List, None, [], ap, append-nil, false, length, not, refl, subst, sym, take, true, ℕ, ◌∙◌, ◌≡◌, ◌≤◌, Image, Override, Path, Served, origin, AreInOrder, Rules, items_in, passed_in, received}
+use Rattle.follow.proofs.Terms.{List, None, [], ap, append-nil, false, length, not, subst, sym, take, ℕ, ◌∙◌, ◌≡◌, ◌≤◌, Image, Override, Path, Served, origin, Rules, items_in, passed_in}
 use Rattle.session_following.specs.Following.{rules_after}
 
 module _ (rules : Rules) (entries : List Entry) (what : Before) (same : what.events ≡ events_of rules.bounds entries) where

@@ -1,21 +1,17 @@
 -- What each step makes of a session that follows.
 use Rattle.links.specs.declared.journal.Entry.TheVariants as entry
-use Rattle.guest_cpu.specs.declared.event.Event.TheVariants as step
-use Rattle.guest_cpu.specs.Cpus.{live_of}
-use Rattle.guest_cpu.specs.Runs.{GoesOn, IsSilent}
+use Rattle.guest_cpu.specs.Runs.{GoesOn}
 use Rattle.guest_cpu.specs.Serving.{standing_of}
-use Rattle.guest_cpu.specs.Writing.{RunsWriting, Writes}
+use Rattle.guest_cpu.specs.Writing.{Writes}
 use Rattle.links.proofs.Journaled.{events_in-append}
 use Rattle.links.specs.Links.{Phases}
 use Rattle.links.specs.Seen.{Seen}
 use Rattle.block_book.specs.declared.choice.Choice.{Choice}
-use Rattle.reply_ledger.specs.Ledger.{IsOpened, with_passed, with_send}
+use Rattle.reply_ledger.specs.Ledger.{IsOpened}
 use Rattle.session_history.specs.Heeding.{Before, events_of, nothing_before}
 use Rattle.session_history.specs.Keeping.{IsSendable, KeepsItems, KeepsPhases, KeepsReplies}
 use Rattle.session_history.specs.Lawful.{Survivor}
-use Rattle.session_history.specs.Opened.{is_gone}
-use Rattle.session_history.specs.Serving.{starting_path}
-use Rattle.session_history.specs.Terms.{Entry, Item, Ledger, LinkEvent, Send, events_in, sent_to}
+use Rattle.session_history.specs.Terms.{Entry, Item, Ledger, LinkEvent, Send, events_in}
 use Rattle.session_history.proofs.Asked.{TookOne, asks_takes}
 use Rattle.session_history.proofs.Heeding.{events_alone, items_in-alike, none_had}
 use Rattle.trials.proofs.Asking.{asks_under_all}
@@ -29,7 +25,7 @@ use Rattle.session_state.specs.Standing.{IsGoing, IsHearing, Since, Story, entri
 use Rattle.session_state.proofs.events.HearLemmas.{HasSameRun}
 use Rattle.session_state.proofs.standing.CheckpointLemmas.{HasSameSide}
 use Rattle.std.proofs.lemmas.List.{map-append}
-use Rattle.follow.proofs.Terms.{List, None, Option, Some, [], ap, append-nil, arith, cond, inl, inr, length, length-append, ltb, refl, subst, sym, take, ℕ, ◌++◌, ◌+◌, ◌-◌, ◌<◌, ◌∙◌, ◌∷◌, ◌≡◌, ◌≤◌, ◌⊎◌, Image, Env, Plain, AsksFor, Limits, Override, Path, Served, env_at, origin, later_of, serves_to, served_on, steps_later, taken_later, items_in, passed_in, received, Rules, plan_of, count_of, held, Handed, HasReached, Stand, AsksForMore, HasFollowed, heard_alone, rules_behind}
+use Rattle.follow.proofs.Terms.{List, None, [], ap, append-nil, arith, cond, inl, inr, length, length-append, ltb, refl, subst, sym, ℕ, ◌++◌, ◌+◌, ◌<◌, ◌∙◌, ◌∷◌, ◌≡◌, ◌≤◌, ◌⊎◌, Image, Env, Plain, AsksFor, Limits, Override, Path, Served, env_at, origin, later_of, serves_to, items_in, passed_in, received, Rules, plan_of, held, Handed, HasReached, Stand, HasFollowed, heard_alone, rules_behind}
 use Rattle.session_following.specs.Following.{came_before, plan_up_to, rules_after}
 use Rattle.session_following.specs.Followed.{IsFollowing, followed_before, rules_following}
 use Rattle.session_following.specs.Sending.{held_count, with_held}

@@ -19,7 +19,7 @@ use Rattle.std.proofs.lemmas.List.{length-take, length-take-le}
 use Rattle.std.proofs.lemmas.Grind.{flat_map-append}
 use Rattle.std.proofs.Math.Seq.{drop-append_seam, take-length}
 use Rattle.std.specs.Prelude.{is_some}
-use Rattle.follow.proofs.Terms.{Bool, List, None, Option, Some, [], ap, append-nil, append_assoc, arith, cond, drop, eqb, false, inl, inr, length, length-append, refl, subst, sym, take, true, ℕ, ◌++◌, ◌+◌, ◌-◌, ◌<◌, ◌∙◌, ◌∷◌, ◌≡◌, ◌≤◌, ◌⊎◌, cases_lt, take-append-drop, take-append-le, take_all, sent_to-append, sent_to-more, count_of, held, held_behind, Rules, passed_in}
+use Rattle.follow.proofs.Terms.{Bool, List, None, [], ap, append-nil, append_assoc, arith, cond, drop, eqb, false, inl, inr, length, length-append, refl, subst, sym, take, true, ℕ, ◌++◌, ◌+◌, ◌-◌, ◌∙◌, ◌∷◌, ◌≡◌, ◌≤◌, cases_lt, take-append-drop, take-append-le, take_all, sent_to-append, sent_to-more, count_of, held, held_behind, Rules, passed_in}
 use Rattle.std.proofs.Common.{length-drop, min}
 use Rattle.follow.proofs.Fronts.{held_is_front, part_behind}
 use Rattle.session_following.specs.Following.{rules_after}

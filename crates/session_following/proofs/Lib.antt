@@ -11,3 +11,4 @@ pub mod Moving
 pub mod Answered
 pub mod Meets
 pub mod Released
+pub mod Hearing

@@ -1,12 +1,10 @@
 -- A session that follows meets what the parts of an ordinary one ask for: it stands between two events of its guest, or waits for an item; and a send may be noted.
-use Rattle.guest_cpu.specs.Serving.{standing_of}
 use Rattle.links.specs.Links.{Grew, Phases}
 use Rattle.links.specs.Seen.{Seen}
 use Rattle.reply_ledger.specs.Ledger.{IsOpened, NotBefore, times_of}
 use Rattle.reply_ledger.specs.Shows.{Shows}
 use Rattle.run_history.specs.Call.{may_send}
 use Rattle.link_gate.specs.Passing.{AreStampedBy}
-use Rattle.session_history.specs.Heeding.{nothing_before}
 use Rattle.session_history.specs.Terms.{Send}
 use Rattle.recovery.specs.Watching.{TellsMore}
 use Rattle.recovery.proofs.Sending.{between_behind, times_low}

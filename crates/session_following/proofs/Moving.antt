@@ -5,15 +5,14 @@ use Rattle.guest_cpu.specs.Serving.{standing_of}
 use Rattle.guest_cpu.specs.Standing.{Standing}
 use Rattle.run_history.specs.Machine.{start, start_machine}
 use Rattle.block_book.specs.declared.choice.Choice.{Choice}
-use Rattle.session_history.specs.Heeding.{Before}
 use Rattle.session_history.specs.Terms.{LinkEvent, Send, events_in, sent_to}
-use Rattle.std.proofs.Common.{min, suc}
-use Rattle.std.proofs.lemmas.List.{length-take, map-append}
-use Rattle.follow.proofs.Terms.{List, Option, Some, [], ap, append-nil, arith, length, refl, sym, take, ℕ, ◌++◌, ◌+◌, ◌-◌, ◌∙◌, ◌∷◌, ◌≡◌, Env, Image, Override, Path, env_at, origin, plan_of, count_of, held, Handed, heard_alone}
+use Rattle.std.proofs.Common.{suc}
+use Rattle.std.proofs.lemmas.List.{map-append}
+use Rattle.follow.proofs.Terms.{List, [], ap, append-nil, arith, length, refl, sym, take, ℕ, ◌++◌, ◌+◌, ◌-◌, ◌∙◌, ◌∷◌, ◌≡◌, Env, Image, Override, Path, env_at, origin, plan_of, count_of, held, Handed, heard_alone}
 use Rattle.session_following.specs.Following.{came_before, plan_up_to}
 use Rattle.session_following.specs.Followed.{followed_before}
 use Rattle.session_following.specs.Sending.{held_count}
-use Rattle.session_following.specs.Moving.{before_heard, before_moved, before_released, before_sent, before_start, before_took, moved_on, path_at}
+use Rattle.session_following.specs.Moving.{before_heard, before_moved, before_sent, before_start, before_took, moved_on, path_at}
 use Rattle.session_following.proofs.Held.{held_then, take_taken}
 
 -- a run is the one that stands there, sent that and used those answers

@@ -1,11 +1,9 @@
 -- A run that follows stood nowhere before where it had reached what was handed over: so it stays as it goes on, and as more items come.
 use Rattle.std.proofs.Common.{suc, zero}
 use Rattle.std.proofs.lemmas.Option.{option_and_then_some, same_Some}
-use Rattle.links.specs.declared.journal.Entry.TheVariants as entry
-use Rattle.session_history.specs.Heeding.{events_of}
-use Rattle.session_history.specs.Terms.{Entry, serve}
+use Rattle.session_history.specs.Terms.{serve}
 use Rattle.trials.proofs.Results.{asks_on, ended_on, fails_on}
-use Rattle.follow.proofs.Terms.{List, None, Option, Some, [], ap, append-nil, arith, inl, inr, length, length-append, map, refl, subst, sym, ℕ, ◌++◌, ◌+◌, ◌<◌, ◌∙◌, ◌∷◌, ◌≡◌, ◌≤◌, ◌⊎◌, cases_lt, Item, LinkEvent, Image, AsksFor, Limits, Override, Path, Served, env_at, origin, planned_next, later_of, served_on, served_same, served_with, serves_to, taken_later, steps_later, items_in, received, Rules, plan_of, AtExit, AtFailure, AtRequest, Handed, HasReached, Stand, AsksForMore, heard_alone}
+use Rattle.follow.proofs.Terms.{List, Some, [], ap, arith, inl, inr, length, length-append, refl, subst, sym, ℕ, ◌++◌, ◌+◌, ◌<◌, ◌∙◌, ◌∷◌, ◌≡◌, ◌≤◌, ◌⊎◌, cases_lt, Item, LinkEvent, Image, Limits, Override, Path, Served, env_at, origin, planned_next, later_of, served_on, served_with, serves_to, taken_later, Rules, plan_of, AtExit, AtFailure, AtRequest, Handed, HasReached, Stand, AsksForMore}
 use Rattle.session_following.specs.Reaching.{HasAskedBefore, HasNotReached, IsNotReached}
 use Rattle.session_following.specs.Laws.{NotReachedStays}
 use Rattle.session_following.proofs.Planned.{goes_to, same_steps}

@@ -6,7 +6,7 @@ use Rattle.session_history.specs.Heeding.{Before, events_of}
 use Rattle.session_history.specs.Keeping.{KeepsReplies}
 use Rattle.session_history.specs.Lawful.{Survivor}
 use Rattle.session_history.specs.Opened.{opens}
-use Rattle.session_history.specs.Serving.{IsSoundBefore, first_survivor, starting_path}
+use Rattle.session_history.specs.Serving.{IsSoundBefore, starting_path}
 use Rattle.session_history.specs.Terms.{Entry, Item, LinkEvent, Send}
 use Rattle.session_history.proofs.Sessions.{serving_first}
 use Rattle.trials.proofs.Recovered.{timed_from}
@@ -17,7 +17,7 @@ use Rattle.session_state.specs.Leaving.{HandlesRequests, keeping_of}
 use Rattle.session_state.specs.Recovered.{AreTables, spent}
 use Rattle.session_state.specs.Sessions.{SessionState}
 use Rattle.session_state.specs.Standing.{AnswersFor, GoesWith, HasPassedDue, IsGoing, IsTold, IsWaitingFor, Since, Story}
-use Rattle.follow.proofs.Terms.{List, None, Option, Some, [], ap, append-nil, arith, inl, inr, length, refl, subst, sym, ℕ, ◌++◌, ◌+◌, ◌<◌, ◌∙◌, ◌∷◌, ◌≡◌, ◌≤◌, ◌⊎◌, served_same, AsksFor, Image, Override, Path, Served, origin, Rules, held, items_in, received}
+use Rattle.follow.proofs.Terms.{List, None, [], ap, arith, length, refl, subst, sym, ℕ, ◌++◌, ◌+◌, ◌<◌, ◌∙◌, ◌≡◌, ◌≤◌, ◌⊎◌, served_same, AsksFor, Image, Override, Path, Served, origin, Rules, held, items_in, received}
 use Rattle.session_following.specs.Following.{came_before, rules_after}
 use Rattle.session_following.specs.Standing.{HasJustBegun, begun_story, story_alone}
 use Rattle.session_following.proofs.Based.{SaysAs, items_after, phases_after_all, same_events, same_heeded}

@@ -1,5 +1,4 @@
 -- Where a session that follows is released: the environment of the report that is in force then; and a release at an exit of its guest.
-use Rattle.item_log.specs.Log as logs
 use Rattle.session_history.specs.declared.ends.SessionEnd.TheVariants as session_end
 use Rattle.session_history.specs.declared.ends.Stop.TheVariants as stop
 use Rattle.guest_cpu.specs.Runs.{GoesOn, IsSilent}
@@ -9,27 +8,24 @@ use Rattle.links.specs.Links.{Grew}
 use Rattle.links.specs.Seen.{Seen}
 use Rattle.session_history.specs.Heeding.{Before, events_of, nothing_before}
 use Rattle.session_history.specs.Keeping.{KeepsItems, KeepsReplies}
-use Rattle.session_history.specs.Lawful.{Survivor}
-use Rattle.session_history.specs.Serving.{IsSoundBefore, first_survivor, starting_path}
 use Rattle.session_history.specs.Terms.{Item, Ledger, LinkEvent, Send, events_in}
 use Rattle.trials.proofs.Recovered.{timed_from}
 use Rattle.recovery.specs.Rings.{IsInForce}
-use Rattle.recovery.specs.Handling.{stands_of}
 use Rattle.recovery.specs.Watching.{TellsMore}
 use Rattle.session_state.specs.Leaving.{keeping_of}
 use Rattle.session_state.specs.Recovered.{AreTables}
 use Rattle.session_state.specs.Serving.{IsCounted}
 use Rattle.session_state.specs.Sessions.{SessionState}
-use Rattle.session_state.specs.Standing.{IsEnding, IsTold, Since, Story, entries, unwatched}
+use Rattle.session_state.specs.Standing.{IsEnding, IsTold, Since}
 use Rattle.session_state.proofs.guest.GuestLemmas.{answers_for, none_lost, none_noted, received_is}
 use Rattle.session_state.proofs.recovering.TableLemmas.{tables_here, told_unwatched}
 use Rattle.session_state.proofs.standing.CheckpointLemmas.{HasSameSide, saved_on}
 use Rattle.session_state.proofs.standing.HeldLemmas.{requests_on}
 use Rattle.std.proofs.lemmas.Bool.{le-ltb}
-use Rattle.follow.proofs.Terms.{Bool, List, None, Option, Some, [], ap, append-nil, arith, cond, inl, inr, length, ltb, refl, subst, sym, ℕ, ◌++◌, ◌+◌, ◌<◌, ◌∙◌, ◌∷◌, ◌≡◌, ◌≤◌, ◌⊎◌, cases_lt, IsSome, Image, Plain, AsksFor, Override, Path, Served, env_at, origin, served_on, served_same, items_in, received, Rules, plan_of, held, AtExit, Handed, HasReached, HasFollowed, heard_alone, rules_behind}
-use Rattle.session_following.specs.Following.{came_before, plan_up_to, rules_after}
-use Rattle.session_following.specs.Followed.{IsFollowing, followed_before, rules_following}
-use Rattle.session_following.specs.Standing.{begun_story, story_alone}
+use Rattle.follow.proofs.Terms.{Bool, List, None, Some, [], ap, append-nil, arith, cond, inl, inr, ltb, refl, subst, sym, ℕ, ◌+◌, ◌<◌, ◌∙◌, ◌∷◌, ◌≡◌, ◌≤◌, ◌⊎◌, cases_lt, IsSome, Image, Plain, AsksFor, Override, Path, Served, env_at, origin, served_on, items_in, Rules, plan_of, held, AtExit, Handed, HasReached, HasFollowed, heard_alone, rules_behind}
+use Rattle.session_following.specs.Following.{came_before, plan_up_to}
+use Rattle.session_following.specs.Followed.{IsFollowing, rules_following}
+use Rattle.session_following.specs.Standing.{begun_story}
 use Rattle.session_following.proofs.Based.{SaysAs, items_after, replies_after}
 use Rattle.session_following.proofs.Following.{items_following, whole_following}
 use Rattle.session_following.proofs.Handled.{handled_after}
@@ -81,8 +77,7 @@ module _ {R : Type 0} where
       let a = answers_for {story = begun_story here image} {to = to} [] f.stands.answers side.recorded (silent.choices ∙ sym (append-nil now.choices)) (chosen ∙ sym (append-nil old.choices)) counted stands in
       let whole : Served rules.limits (items_in rules.bounds (heard_alone events)) plan (origin image) to =
       subst (λ (its : List Item). Served rules.limits its plan (origin image) to) (items_following rules image handed events now alone) (says_now here image items under plan to says served) in
-      let to_now = whole_following rules image handed events now alone now f.stands.sound.carries.served in
-      (
+      let to_now = whole_following rules image handed events now alone now f.stands.sound.carries.served in (
         record {
           ran = whole;
           stand = AtExit there;

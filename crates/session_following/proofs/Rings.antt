@@ -1,12 +1,11 @@
 -- The checkpoints of a session that has just begun, with all before it that another one's journal brought, under a plan that says the same up to there.
-use Rattle.elf_image.specs.Image as images
 use Rattle.session_history.specs.Opened.{opens}
 use Rattle.session_history.specs.Heeding.{Before, events_of}
 use Rattle.session_history.specs.Terms.{Entry, Item, Log, Ledger}
 use Rattle.session_history.specs.Serving.{Carries}
 use Rattle.session_history.specs.Passing.{AreBetween, Covers, IsFeasible}
 use Rattle.session_history.proofs.Passing.{in_order_wider}
-use Rattle.trials.specs.Chains.{AreChained, AreCheckpoints}
+use Rattle.trials.specs.Chains.{AreChained}
 use Rattle.trials.proofs.Chained.{chained_from}
 use Rattle.guest_cpu.specs.Cpus.{CpuState}
 use Rattle.guest_cpu.specs.Writing.{Writes}
@@ -14,7 +13,7 @@ use Rattle.ckpt_ring.specs.Rings.{Checkpoints}
 use Rattle.recovery.specs.Sessions.{AreKept, CanGoOn}
 use Rattle.recovery.specs.Rings.{KeepsRing}
 use Rattle.std.specs.Prelude.{IfSome, replicate, slice_get}
-use Rattle.follow.proofs.Terms.{Bool, List, Option, [], ap, append-nil, false, length, refl, subst, sym, ℕ, ◌∙◌, ◌∷◌, ◌≡◌, ◌≤◌, served_on, served_same, Send, Image, Override, Path, Served, origin, AreInOrder, Rules, held, items_in, passed_in, received}
+use Rattle.follow.proofs.Terms.{List, [], ap, false, length, subst, sym, ℕ, ◌∙◌, ◌∷◌, ◌≡◌, ◌≤◌, served_on, served_same, Send, Image, Override, Path, Served, origin, AreInOrder, Rules, held, items_in, passed_in, received}
 use Rattle.follow.proofs.Fronts.{held_is_in_time}
 use Rattle.follow.proofs.Stamps.{held_is_in_order}
 use Rattle.session_following.specs.Following.{rules_after}

@@ -1,11 +1,11 @@
 -- Why a session that follows isn't released: its run isn't that of the record and the report, or hasn't sent what clients have.
-use Rattle.std.specs.Prelude.{◌≡◌, ◌⊎◌, ℕ, ◌<◌, ◌≤◌, List, Option, None, Some, IfSome, length}
+use Rattle.std.specs.Prelude.{◌≡◌, ◌⊎◌, ℕ, ◌<◌, ◌≤◌, List, None, Some, IfSome, length}
 use Rattle.session_history.specs.Terms.{Item, Limits, Path, Prefix, output}
 use Rattle.follow.specs.Terms.{last_or}
 use Rattle.follow.specs.Plans.{plan_of}
 use Rattle.follow.specs.Held.{count_of}
 use Rattle.follow.specs.Handed.{Finish, Handed, HasReached, IsPastFailure, IsStuck, Stand}
-use Rattle.follow.specs.Takeover.{IsFollowed, IsTakeover, Takeover, heard_first, plan_in}
+use Rattle.follow.specs.Takeover.{IsFollowed, IsTakeover, Takeover, heard_first}
 use Rattle.session_following.specs.Reaching.{IsNotReached}
 
 -- A run that stands there has reached all that record and report tell: it is past the last episode, had each answer of the record, and stands at or behind its

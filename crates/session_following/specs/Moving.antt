@@ -1,5 +1,5 @@
 -- What came before a session that follows, behind each of its steps: what its code has at hand tells it.
-use Rattle.std.specs.Prelude.{ℕ, ◌+◌, List, [], ◌∷◌, ◌++◌, Some, option_map, take}
+use Rattle.std.specs.Prelude.{ℕ, ◌+◌, List, [], ◌∷◌, ◌++◌, option_map, take}
 use Rattle.links.specs.declared.journal.Entry.TheVariants as entry
 use Rattle.alloc_env.specs.declared.env.Env.{Env}
 use Rattle.guest_cpu.specs.Standing.{Standing}
