@@ -5,3 +5,4 @@ pub mod GiveLemmas
 pub mod CatchLemmas
 pub mod ServeLemmas
 pub mod KeptLemmas
+pub mod LawLemmas

@@ -5,3 +5,4 @@ pub mod Missing
 pub mod Giving
 pub mod Serving
 pub mod Running
+pub mod Laws

@@ -10,6 +10,7 @@ mod following;
 mod giving;
 mod hearing;
 mod kept;
+pub mod laws;
 mod missing;
 mod serving;
 
