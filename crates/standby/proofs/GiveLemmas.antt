@@ -16,15 +16,15 @@ use Rattle.standby.proofs.Terms.{Bool, List, None, Option, Some, [], ap, append-
 
 -- where two lists make none, neither is there
 pub before_none : (sends others : List Send) → sends ++ others ≡ [] → sends ≡ []
-before_none [] others no = refl
-before_none (send ∷ sends) others no = absurd (cc)
+before_none [] others same = refl
+before_none (send ∷ sends) others same = absurd (cc)
 
 behind_none : (sends others : List Send) → sends ++ others ≡ [] → others ≡ []
-behind_none [] others no = no
-behind_none (send ∷ sends) others no = absurd (cc)
+behind_none [] others same = same
+behind_none (send ∷ sends) others same = absurd (cc)
 
-one_or_none : {conn : ℕ} {bytes : List ℕ} {stamp : ℕ} → one_send conn bytes stamp ≡ [] → ⊥
-one_or_none {conn = conn} {bytes = bytes} {stamp = stamp} no = let nothing : (the Send (record { conn = conn; bytes = bytes; taken = stamp })) ∷ [] ≡ [] = no in absurd (cc)
+one_or_none : {send : Send} → send ∷ [] ≡ [] → ⊥
+one_or_none same = absurd (cc)
 
 -- no event is new behind one piece
 gave_none : (entries : List Entry) (conn : ℕ) (bytes : List ℕ) (gone : Bool) → NoneTook entries (entries ++ entry.Gave conn bytes gone ∷ [])
@@ -125,7 +125,7 @@ module _ {recording : Recorded} {began : Told} {seen : Seen} {entries : List Ent
       is_front = ([], append-nil (one_send conn bytes stamp));
       given = λ sends given. subst (λ (l : List Entry). AreGivenInPart (sends ++ one_send conn bytes stamp) (pieces_in l)) (sym (append-nil entries))
           (giving.Unbegun sends (pieces_in entries) (record { conn = conn; bytes = bytes; taken = stamp }) given);
-      none = λ no. absurd (one_or_none no);
+      none = λ same. absurd (one_or_none same);
       fault = fault;
       takes = takes;
     }
@@ -138,7 +138,7 @@ module _ {recording : Recorded} {began : Told} {seen : Seen} {entries : List Ent
       is_front = ([], append-nil (one_send conn bytes stamp));
       given = λ sends given. subst (AreGivenInPart (sends ++ one_send conn bytes stamp)) (sym (pieces_in-gave entries conn (byte ∷ front) false))
           (giving.Begun sends (pieces_in entries) (record { conn = conn; bytes = bytes; taken = stamp }) (byte ∷ front) given (sym (had.gone conn) ∙ is) whole);
-      none = λ no. absurd (one_or_none no);
+      none = λ same. absurd (one_or_none same);
       fault = fault;
       takes = takes;
     }
@@ -180,8 +180,8 @@ cut_then {recording = recording} {began = began} {now = now} {entries = entries}
       is_front = (other.is_front.0, append_assoc dues other.front other.is_front.0 ∙ ap (λ (s : List Send). dues ++ s) other.is_front.1);
       given = λ sends given. subst (λ (l : List Entry). AreGivenInPart (sends ++ (dues ++ other.front)) (pieces_in l)) same
           (subst (λ (s : List Send). AreGivenInPart s (pieces_in ((entries ++ one.more) ++ other.more))) (append_assoc sends dues other.front) (other.given (sends ++ dues) (one.given sends given)));
-      none = λ no sends given. subst (λ (l : List Entry). AreGiven sends (pieces_in l)) same
-          (other.none (behind_none dues other.front no) sends (subst (λ (s : List Send). AreGiven s (pieces_in (entries ++ one.more))) (ap (λ (d : List Send). sends ++ d) (before_none dues other.front no) ∙ append-nil sends) (one.given sends given)));
+      none = λ nothing sends given. subst (λ (l : List Entry). AreGiven sends (pieces_in l)) same
+          (other.none (behind_none dues other.front nothing) sends (subst (λ (s : List Send). AreGiven s (pieces_in (entries ++ one.more))) (ap (λ (d : List Send). sends ++ d) (before_none dues other.front nothing) ∙ append-nil sends) (one.given sends given)));
       fault = other.fault;
       takes = other.takes;
     }
@@ -339,7 +339,7 @@ cut_none_given {began = began} {seen = seen} {entries = entries} {dues = dues} h
   is_front = (dues, refl);
   given = λ sends given. subst (λ (s : List Send). AreGivenInPart s (pieces_in (entries ++ []))) (sym (append-nil sends))
       (subst (λ (l : List Entry). AreGivenInPart sends (pieces_in l)) (sym (append-nil entries)) (giving.All sends (pieces_in entries) given));
-  none = λ no sends given. subst (λ (l : List Entry). AreGiven sends (pieces_in l)) (sym (append-nil entries)) given;
+  none = λ nothing sends given. subst (λ (l : List Entry). AreGiven sends (pieces_in l)) (sym (append-nil entries)) given;
   fault = fault;
   takes = takes;
 }

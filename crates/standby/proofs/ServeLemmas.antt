@@ -349,7 +349,7 @@ module _ {image : Image} {recorded : Recorded} {budget : ℕ} {counts : List (�
           is_front = (cut.is_front.0, append_assoc (dues ++ is.given.later) cut.front cut.is_front.0 ∙ ap (λ (s : List Send). (dues ++ is.given.later) ++ s) cut.is_front.1 ∙ append_assoc dues is.given.later (send ∷ []));
           given = cut.given (dues ++ is.given.later) is.given.given;
           but_last = elim (none_or_it cut.front send cut.is_front) [
-            | inl none ↦ inr (is.given.later, (send, (refl, cut.none none (dues ++ is.given.later) is.given.given)))
+            | inl none ↦ inr (is.given.later, send, refl, cut.none none (dues ++ is.given.later) is.given.given)
             | inr all ↦ inl (inr (ap (λ (s : List Send). (dues ++ is.given.later) ++ s) all ∙ append_assoc dues is.given.later (send ∷ [])))
           ];
         };
