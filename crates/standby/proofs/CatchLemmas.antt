@@ -6,13 +6,11 @@ use Rattle.replay.proofs.Terms.{heeded_behind, items_from, no_connections, start
 use Rattle.run_history.proofs.Connections.{no_connections_may}
 use Rattle.guest_cpu.specs.Cpus.{start_standing}
 use Rattle.replay.specs.Making.{IsMade}
-use Rattle.replay.specs.Playing.{LeavesBy}
 use Rattle.replay.proofs.DifferLemmas.{differs_after, found_is}
 use Rattle.replay.proofs.LoopLemmas.{HasGoneOn}
 use Rattle.replay.proofs.ReplayLemmas.{replay_start}
-use Rattle.replay.specs.Differing.{HasDifference}
 use Rattle.standby.specs.declared.following.Unfollowed.{Unfollowed}
-use Rattle.standby.proofs.Terms.{Bool, List, None, Option, Some, [], ap, arith, drop, false, length, length-replicate, refl, subst, sym, true, true≢false, ℕ, ◌+◌, ◌^◌, ◌∙◌, ◌∷◌, ◌≡◌, both_ways, Err, Ok, Result, tells_nothing, Send, sent_to, IsFresh, Phases, Told, Seen, Log, Image, Choice, Answer, Standing, Bounds, heeded, items_in, Recorded, Difference, Player, AreOpen, AreOpenThen, Differs, DiffersBy, HasCause, HasFound, LeavesLink, LinkHears, Replay, Stage, TellsDifference, bounds_of, has, replay_of, stage_of, Follower, HasHeard, AreFollowed, BreaksBy, CatchesUp, EndsAs, FollowsBy, HasBroken, IsBroken, IsFollowing, IsUnderWay, LinkCatches, kept_to, MayBegin, HasAnswerCause, Entry}
+use Rattle.standby.proofs.Terms.{List, None, Option, Some, [], ap, arith, drop, false, length, length-replicate, refl, subst, sym, true≢false, ℕ, ◌+◌, ◌^◌, ◌∙◌, ◌∷◌, ◌≡◌, both_ways, Err, Result, tells_nothing, Send, IsFresh, Phases, Seen, Log, Image, Choice, Answer, Standing, Bounds, heeded, items_in, Recorded, Difference, Player, AreOpen, AreOpenThen, DiffersBy, HasFound, LeavesLink, LinkHears, Stage, TellsDifference, bounds_of, has, replay_of, stage_of, Follower, AreFollowed, BreaksBy, CatchesUp, EndsAs, FollowsBy, HasBroken, IsBroken, IsFollowing, IsUnderWay, LinkCatches, kept_to, MayBegin, HasAnswerCause, Entry}
 
 -- a follower that turns
 pub record HasTurned (Went : Type 0) (image : Image) (recording : Recorded) (before now : Seen) (counter later : ℕ) (follower : Follower) : Type 0 where

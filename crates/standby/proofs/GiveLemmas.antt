@@ -1,9 +1,7 @@
 -- A piece goes to a connection.
 use Rattle.links.specs.declared.journal.Entry.TheVariants as entry
-use Rattle.links.specs.declared.journal.Given.TheVariants.{All, Gone}
 use Rattle.links.specs.declared.journal.LinkFault.TheVariants as fault
 use Rattle.item_log.specs.Log as logs
-use Rattle.run_history.specs.declared.answer.Answer.TheVariants as answer
 use Rattle.session_history.proofs.Heeding.{events_in-gave, items_in-gave}
 use Rattle.replay.specs.Giving as giving
 use Rattle.replay.specs.Hearing.{answer_of}
@@ -12,7 +10,7 @@ use Rattle.replay.proofs.LoopLemmas.{HasGoneOn, gone_hears, turns_then}
 use Rattle.std.proofs.lemmas.List.{length-drop}
 use Rattle.item_log.specs.Connections.{is_open}
 use Rattle.link_gate.proofs.Phasing.{phase_by}
-use Rattle.standby.proofs.Terms.{Bool, List, None, Option, Some, [], ap, append-nil, append_assoc, arith, drop, false, if◌then◌else◌, inl, inr, length, length-set, not, refl, subst, suc, sym, take, true, zero, ℕ, ◌++◌, ◌+◌, ◌-◌, ◌<◌, ◌∙◌, ◌∷◌, ◌≡◌, ◌≤◌, take-append-drop, both_ways, open_shown, Err, Ok, Result, slice_set, ◌&&◌, ◌==◌, ◌||◌, tells_then, found_gone-more, last_split, last_taken-gave, pieces_in-gave, tells_still, Prefix, Send, Entry, Given, LinkEvent, LinkFault, Gives, Phases, Tells, Told, cut_entries, events_in, pieces_in, Seen, Answer, heeded, items_in, closes, opens, phase_after, count_of, Recorded, AreGiven, AreGivenInPart, found_gone, AreOpenThen, Open, Stage, has, stage_of, bounds_of, Follower, HasHeard, kept_to, cut_in, in_pieces, is_opened, missing, missing_from, missing_of, HasCutOff, HasPassed, IsPassFault, KeepsGuest, LinkPasses, NoneTook, PassesBy, one_send}
+use Rattle.standby.proofs.Terms.{Bool, List, [], ap, append-nil, append_assoc, arith, drop, false, if◌then◌else◌, inl, inr, length, length-set, not, refl, subst, suc, sym, take, true, zero, ℕ, ◌++◌, ◌+◌, ◌-◌, ◌<◌, ◌∙◌, ◌∷◌, ◌≡◌, ◌≤◌, take-append-drop, both_ways, open_shown, Err, Ok, Result, slice_set, ◌&&◌, ◌==◌, ◌||◌, tells_then, found_gone-more, last_split, last_taken-gave, pieces_in-gave, tells_still, Prefix, Send, Entry, LinkEvent, LinkFault, Gives, Phases, Tells, Told, cut_entries, events_in, pieces_in, Seen, Answer, heeded, items_in, closes, opens, phase_after, count_of, Recorded, AreGiven, AreGivenInPart, found_gone, AreOpenThen, Open, Stage, has, stage_of, bounds_of, Follower, HasHeard, kept_to, cut_in, in_pieces, is_opened, missing, missing_from, missing_of, HasCutOff, HasPassed, IsPassFault, KeepsGuest, LinkPasses, NoneTook, PassesBy, one_send}
 
 -- no event is new behind one piece
 gave_none : (entries : List Entry) (conn : ℕ) (bytes : List ℕ) (gone : Bool) → NoneTook entries (entries ++ entry.Gave conn bytes gone ∷ [])

@@ -3,7 +3,7 @@ use Rattle.std.proofs.Math.ListN.{drop_of_length-le}
 use Rattle.links.specs.declared.journal.Entry.TheVariants as entry
 use Rattle.links.specs.declared.journal.LinkEvent.TheVariants as event
 use Rattle.links.specs.declared.journal.LinkFault.TheVariants as fault
-use Rattle.links.specs.Links.{Coming, Closed, StillComes, Unopened}
+use Rattle.links.specs.Links.{Coming}
 use Rattle.msg_frame.specs.declared.framing.Framing.{Framing}
 use Rattle.msg_frame.specs.Messages.{Parts, cut}
 use Rattle.item_log.specs.Connections.{is_open, in_order, rest_of}
@@ -20,7 +20,7 @@ use Rattle.replay.proofs.LeavingLemmas.{logs_none}
 use Rattle.replay.proofs.LoopLemmas.{HasGoneOn}
 use Rattle.std.proofs.lemmas.Bool.{cases_lt}
 use Rattle.std.specs.Option.{option_map}
-use Rattle.standby.proofs.Terms.{Bool, List, None, Option, Some, [], ap, append-nil, append_assoc, arith, cond, drop, false, inl, inr, length, length-append, refl, subst, sym, true, true≢false, ℕ, ◌++◌, ◌+◌, ◌<◌, ◌^◌, ◌∙◌, ◌∷◌, ◌≡◌, ◌≢◌, ◌≤◌, ◌⊎◌, drop-append_seam, both_ways, eqb-false, eqb-true, get_or-set_other, get_or-set_same, get_or_past, length-set, same_Some, Err, Ok, Result, if◌then◌else◌, is_some, slice_set, unwrap_or, ◌==◌, ◌||◌, tells_then, pieces_in-append, received_is, in_order_shown, closes-last, closes_by, open_by, phases_behind, unopened_by, IsEvent, brings_more, events_behind, events_ended, heeded_without, is_heeded, keeps_items, limit_events, limit_items, logged_keeps, too_long, last_split, pieces_in-took, tells_still, Item, Entry, LinkEvent, LinkFault, HasEnded, IsInOrder, Open, Phases, Tells, Told, events_in, phases_after, pieces_in, NextShows, Seen, Fits, Log, logged, Answer, connections_after, IsLastRefused, Unheeded, heeded, items_in, received, KeepsPhases, closes, opens, phase_after, Recorded, found_gone, LogsEvent, AreOpen, AreOpenThen, Stage, has, stage_of, bounds_of, Follower, KeepsRun, AreAwaited, HasHeard, HasStopped, HearsBy, HearsEvent, HearsMore, IsAwaited, IsLater, Unheard}
+use Rattle.standby.proofs.Terms.{Bool, List, None, Option, Some, [], ap, append-nil, append_assoc, arith, cond, drop, false, inl, inr, length, length-append, refl, subst, sym, true, true≢false, ℕ, ◌++◌, ◌+◌, ◌<◌, ◌^◌, ◌∙◌, ◌∷◌, ◌≡◌, ◌≢◌, ◌≤◌, drop-append_seam, both_ways, eqb-false, eqb-true, get_or-set_other, get_or-set_same, get_or_past, length-set, same_Some, Err, Ok, Result, is_some, slice_set, unwrap_or, ◌||◌, tells_then, pieces_in-append, received_is, in_order_shown, closes-last, closes_by, open_by, phases_behind, unopened_by, IsEvent, brings_more, events_behind, events_ended, heeded_without, is_heeded, keeps_items, limit_events, limit_items, logged_keeps, too_long, last_split, pieces_in-took, tells_still, Item, Entry, LinkEvent, LinkFault, IsInOrder, Phases, Told, events_in, pieces_in, NextShows, Seen, Fits, Log, logged, Answer, IsLastRefused, Unheeded, heeded, items_in, received, closes, opens, phase_after, Recorded, found_gone, LogsEvent, AreOpen, AreOpenThen, Stage, stage_of, bounds_of, Follower, KeepsRun, AreAwaited, HasHeard, HasStopped, HearsBy, HearsEvent, HearsMore, IsAwaited, IsLater, Unheard}
 
 no_end : {last : LinkEvent} → IsEvent last → Some last ≡ Some event.Ends → ⊥
 no_end {last = last} one is =

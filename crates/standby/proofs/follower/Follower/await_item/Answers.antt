@@ -1,4 +1,4 @@
-use Rattle.standby.proofs.Terms.{ap, refl, subst, ◌∙◌, Err, Follower, HasStopped, HearsBy, HearsMore, Ok, stage_of}
+use Rattle.standby.proofs.Terms.{subst, Err, HasStopped, HearsMore, Ok, stage_of}
 use Rattle.replay.proofs.LoopLemmas.{gone_nowhere, gone_turning, gone_hears, hears_turning, hears_then}
 use Rattle.standby.proofs.HearLemmas as lemmas
 use Rattle.standby.proofs.HearLemmas.{keeps_same, keeps_then, none_asked, same_later}
