@@ -1,8 +1,6 @@
 -- What clients have got, by the pieces that were given.
-use Rattle.std.proofs.lemmas.List.{drop_all, length-drop}
 use Rattle.replay.specs.Giving as giving
-use Rattle.standby.specs.Laws.{AllIsHad, FrontsAreHad, HadIn}
-use Rattle.standby.proofs.Terms.{Bool, List, [], ap, append-nil, append_assoc, arith, drop, false, if◌then◌else◌, inl, inr, length, refl, subst, suc, sym, take, true, true≢false, zero, ℕ, ◌++◌, ◌+◌, ◌<◌, ◌∙◌, ◌∷◌, ◌≡◌, ◌≢◌, ◌≤◌, both_ways, eq-eqb, eqb-false, eqb-true, ne_eqb, take-append-drop, take-append-le, ◌&&◌, ◌==◌, ◌||◌, found_gone-more, prefix_sent, prefix_trans, sent_to-append, sent_to-more, Prefix, Send, sent_to, LinkEvent, Path, Piece, count_of, AreGiven, AreGivenInPart, found_gone, cut_in, given_to, has_got, in_pieces, is_opened, missing, missing_from, missing_of, output_of}
+use Rattle.standby.proofs.Terms.{Bool, List, [], ap, append-nil, append_assoc, arith, drop, false, inl, inr, length, refl, subst, suc, sym, take, true, true≢false, zero, ℕ, ◌++◌, ◌+◌, ◌<◌, ◌∙◌, ◌∷◌, ◌≡◌, ◌≢◌, ◌≤◌, both_ways, eq-eqb, eqb-false, eqb-true, ne_eqb, drop_all, length-drop, take-append-drop, take-append-le, if◌then◌else◌, ◌&&◌, ◌==◌, ◌||◌, Prefix, Send, sent_to, LinkEvent, Piece, prefix_sent, prefix_trans, sent_to-append, sent_to-more, Path, count_of, found_gone-more, AreGiven, AreGivenInPart, found_gone, cut_in, given_to, has_got, in_pieces, is_opened, missing, missing_from, missing_of, output_of, AllIsHad, FrontsAreHad, HadIn}
 
 -- ---- the bytes in some pieces
 

@@ -1,6 +1,6 @@
 -- What holds of each run that follows a record, and of what its clients get.
 use Rattle.std.specs.Prelude.{◌≡◌, ◌⊎◌, ℕ, ◌<◌, ◌≤◌, List, length, true, false}
-use Rattle.standby.specs.Terms.{Item, Prefix, sent_to, LinkEvent, Piece, Image, Path, Recorded, Run, count_of, found_gone}
+use Rattle.standby.specs.Terms.{Item, Prefix, sent_to, LinkEvent, Piece, Image, Run, Path, Recorded, count_of, found_gone}
 use Rattle.standby.specs.Missing.{AllGiven, PartGiven, has_got, is_opened, output_of}
 use Rattle.standby.specs.Serving.{IsFollowed}
 

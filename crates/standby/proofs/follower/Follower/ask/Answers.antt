@@ -1,5 +1,4 @@
-use Rattle.guest_cpu.specs.declared.marks.Marks.{Marks}
-use Rattle.standby.proofs.Terms.{ap, refl, subst, ℕ, Live, IsItemOf}
+use Rattle.standby.proofs.Terms.{ap, refl, subst, ℕ, IsItemOf, Marks, Live}
 use Rattle.standby.proofs.FollowLemmas.{item_short, starves, takes_under}
 use Rattle.standby.proofs.follower.Follower.ask.Goals as goal
 

@@ -1,6 +1,4 @@
-use Rattle.std.proofs.lemmas.List.{drop_min}
-use Rattle.standby.proofs.Terms.{List, ℕ, ap, drop, rules, true, ◌∙◌, ◌≡◌, count_of, kept_to, stage_of}
-use Rattle.item_log.specs.Connections.{is_open}
+use Rattle.standby.proofs.Terms.{List, ap, drop, rules, true, ℕ, ◌∙◌, ◌≡◌, drop_min, is_open, count_of, stage_of, kept_to}
 use Rattle.standby.proofs.GiveLemmas.{cut_none_given, missing_here, opened_here, passes_as, passes_closed}
 use Rattle.standby.proofs.follower.Follower.give_rest.Goals as goal
 

@@ -1,5 +1,4 @@
-use Rattle.replay.proofs.StartLemmas.{answers_link}
-use Rattle.standby.proofs.Terms.{arith}
+use Rattle.standby.proofs.Terms.{arith, answers_link}
 use Rattle.standby.proofs.ServeLemmas.{answers_exit, answers_then, missing_cut, missing_exits, missing_serves, stands_heard}
 use Rattle.standby.proofs.follower.Follower.serve.Goals as goal
 
