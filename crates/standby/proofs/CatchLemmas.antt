@@ -1,18 +1,10 @@
 -- A follower at its start, and where it has caught up or following broke off.
-use Rattle.item_log.specs.Heard.{items_of}
 use Rattle.item_log.specs.Log as logs
 use Rattle.run_history.specs.declared.answer.Answer.TheVariants as answer
-use Rattle.replay.proofs.Terms.{heeded_behind, items_from, no_connections, start_machine}
 use Rattle.run_history.proofs.Connections.{no_connections_may}
-use Rattle.guest_cpu.specs.Cpus.{start_standing}
 use Rattle.replay.specs.Making.{IsMade}
-use Rattle.replay.specs.Playing.{LeavesBy}
-use Rattle.replay.proofs.DifferLemmas.{differs_after, found_is}
-use Rattle.replay.proofs.LoopLemmas.{HasGoneOn}
-use Rattle.replay.proofs.ReplayLemmas.{replay_start}
-use Rattle.replay.specs.Differing.{HasDifference}
-use Rattle.standby.specs.declared.following.Unfollowed.{Unfollowed}
-use Rattle.standby.proofs.Terms.{Bool, List, None, Option, Some, [], ap, arith, drop, false, length, length-replicate, refl, subst, sym, true, true≢false, ℕ, ◌+◌, ◌^◌, ◌∙◌, ◌∷◌, ◌≡◌, both_ways, Err, Ok, Result, tells_nothing, Send, sent_to, IsFresh, Phases, Told, Seen, Log, Image, Choice, Answer, Standing, Bounds, heeded, items_in, Recorded, Difference, Player, AreOpen, AreOpenThen, Differs, DiffersBy, HasCause, HasFound, LeavesLink, LinkHears, Replay, Stage, TellsDifference, bounds_of, has, replay_of, stage_of, Follower, HasHeard, AreFollowed, BreaksBy, CatchesUp, EndsAs, FollowsBy, HasBroken, IsBroken, IsFollowing, IsUnderWay, LinkCatches, kept_to, MayBegin, HasAnswerCause, Entry}
+use Rattle.replay.specs.declared.player.Player.{Player}
+use Rattle.standby.proofs.Terms.{List, None, Option, Some, [], ap, arith, drop, false, length, refl, subst, sym, true≢false, ℕ, ◌+◌, ◌^◌, ◌∙◌, ◌∷◌, ◌≡◌, both_ways, length-replicate, Err, Result, Send, Entry, tells_nothing, IsFresh, Phases, Seen, Choice, items_from, items_of, Log, Image, Answer, no_connections, start_machine, start_standing, Standing, HasAnswerCause, MayBegin, Bounds, heeded, heeded_behind, items_in, Recorded, Difference, differs_after, found_is, HasGoneOn, replay_start, DiffersBy, HasFound, TellsDifference, AreOpen, AreOpenThen, LinkHears, Stage, has, replay_of, stage_of, LeavesLink, bounds_of, Follower, Unfollowed, AreFollowed, BreaksBy, CatchesUp, EndsAs, FollowsBy, HasBroken, IsBroken, IsFollowing, IsUnderWay, LinkCatches, kept_to}
 
 -- a follower that turns
 pub record HasTurned (Went : Type 0) (image : Image) (recording : Recorded) (before now : Seen) (counter later : ℕ) (follower : Follower) : Type 0 where

@@ -1,23 +1,15 @@
 -- What each question of the guest makes of a follower under way.
-use Rattle.links.specs.declared.journal.Entry.TheVariants as entry
-use Rattle.item_log.specs.Log as logs
+use Rattle.block_book.specs.declared.choice.Ask.{Ask}
 use Rattle.run_history.specs.declared.answer.Answer.TheVariants as answer
+use Rattle.run_history.specs.Call.{connections_after}
 use Rattle.guest_cpu.specs.declared.event.Question.TheVariants as question
-use Rattle.run_history.proofs.Runs.{allocated_keeps, received_keeps}
+use Rattle.guest_cpu.specs.Recording.{chosen_standing}
 use Rattle.replay.specs.declared.difference.Difference.TheVariants as difference
 use Rattle.replay.specs.Judging.{ended_apart, judged, left_over}
-use Rattle.replay.specs.Playing.{UsesBy, UsesLine}
-use Rattle.replay.proofs.DifferLemmas.{found_is}
 use Rattle.replay.proofs.LineLemmas.{by_is_of, few_lines}
 use Rattle.replay.proofs.OpenLemmas.{stays_now, stays_then, takes_open}
-use Rattle.replay.proofs.ReplayLemmas.{replay_chooses, replay_more, replay_ran, replay_takes}
-use Rattle.replay.proofs.RunLemmas.{ComesTo, Ran, same_sends, with_send}
-use Rattle.replay.specs.Differing.{HasDifference, IsApart}
-use Rattle.replay.specs.Replaying.{Ended, Failed, IsUnusable, Starved, Unanswered, Untaken, Unused, choice_by}
-use Rattle.replay.specs.Playing.{HasNoFault, StayOpen}
-use Rattle.replay.proofs.LeavingLemmas.{leaves_both}
+use Rattle.standby.proofs.Terms.{Bool, List, None, Option, Some, [], ap, append-nil, append_assoc, arith, cond, drop, false, inl, inr, length, refl, subst, sym, true, ℕ, ◌++◌, ◌+◌, ◌<◌, ◌^◌, ◌∙◌, ◌∷◌, ◌≡◌, ◌≤◌, both_ways, eqb-false, eqb-true, ltb-false, ltb-true, slice_get_within, Err, IsErrOf, Ok, Result, if◌then◌else◌, is_some, nat_lt, slice_get, ◌==◌, Item, Send, sent_to, Entry, pieces_in-append, Told, events_in, pieces_in, Seen, Choice, is_bare, IsItemOf, Image, Answer, Cause, sent_to-more, allocated_keeps, received_keeps, Wants, does, taken_standing, Standing, items_in, received, item_fits, item_is, Recorded, Difference, found_is, leaves_both, replay_chooses, replay_more, replay_ran, replay_takes, ComesTo, Ran, same_sends, with_send, DiffersBy, AreOpen, AreOpenThen, HasNoFault, LinkHears, Stage, StayOpen, UsesBy, replay_of, stage_of, Differs, Ended, Failed, IsReplay, IsUnusable, Starved, Unanswered, Untaken, Unused, WaitsForItem, bounds_of, choice_by, Follower, Kept, AreAwaited, HasHeard, HasStopped, HearsMore, IsAwaited, IsLater, KeepsRun, AreFollowed, BreaksBy, FollowsBy, IsAsking, IsBroken, IsFollowing, IsStarvedBy, IsUnderWay, KeepsBy, WasFollowed, kept_to}
 use Rattle.standby.proofs.HearLemmas.{same_later}
-use Rattle.standby.proofs.Terms.{Bool, List, None, Option, Some, [], ap, append-nil, append_assoc, arith, cond, drop, false, length, length-append, refl, subst, sym, true, true≢false, ℕ, ◌++◌, ◌+◌, ◌<◌, ◌^◌, ◌∙◌, ◌∷◌, ◌≡◌, ◌≤◌, both_ways, eqb-false, eqb-true, inl, inr, ltb-false, ltb-true, slice_get_within, Err, IsErrOf, Ok, Result, if◌then◌else◌, is_some, nat_lt, slice_get, ◌==◌, item_fits, item_is, pieces_in-append, sent_to-more, Item, Send, sent_to, Entry, LinkEvent, Tells, Told, events_in, pieces_in, Seen, Ask, Choice, is_bare, IsItemOf, Image, Answer, Cause, connections_after, Chooses, Wants, does, taken_standing, chosen_standing, Standing, items_in, received, Line, Recorded, Difference, AreOpen, AreOpenThen, Differs, DiffersBy, HasFound, IsReplay, LinkHears, Stage, TellsDifference, WaitsForItem, bounds_of, has, replay_of, stage_of, Follower, Kept, AreAwaited, HasHeard, HasStopped, HearsMore, IsAwaited, IsLater, KeepsRun, Unheard, IsStarvedBy, KeepsBy, AreFollowed, BreaksBy, FollowsBy, HasCaughtUp, IsAsking, IsBroken, IsFollowing, IsUnderWay, WasFollowed, kept_to}
 
 -- ---- what was heard stays where the guest goes on
 

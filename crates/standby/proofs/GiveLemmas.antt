@@ -1,18 +1,11 @@
 -- A piece goes to a connection.
 use Rattle.links.specs.declared.journal.Entry.TheVariants as entry
-use Rattle.links.specs.declared.journal.Given.TheVariants.{All, Gone}
 use Rattle.links.specs.declared.journal.LinkFault.TheVariants as fault
 use Rattle.item_log.specs.Log as logs
-use Rattle.run_history.specs.declared.answer.Answer.TheVariants as answer
 use Rattle.session_history.proofs.Heeding.{events_in-gave, items_in-gave}
 use Rattle.replay.specs.Giving as giving
-use Rattle.replay.specs.Hearing.{answer_of}
 use Rattle.replay.proofs.GivingLemmas.{has_more, no_more}
-use Rattle.replay.proofs.LoopLemmas.{HasGoneOn, gone_hears, turns_then}
-use Rattle.std.proofs.lemmas.List.{length-drop}
-use Rattle.item_log.specs.Connections.{is_open}
-use Rattle.link_gate.proofs.Phasing.{phase_by}
-use Rattle.standby.proofs.Terms.{Bool, List, None, Option, Some, [], ap, append-nil, append_assoc, arith, drop, false, if◌then◌else◌, inl, inr, length, length-set, not, refl, subst, suc, sym, take, true, zero, ℕ, ◌++◌, ◌+◌, ◌-◌, ◌<◌, ◌∙◌, ◌∷◌, ◌≡◌, ◌≤◌, take-append-drop, both_ways, open_shown, Err, Ok, Result, slice_set, ◌&&◌, ◌==◌, ◌||◌, tells_then, found_gone-more, last_split, last_taken-gave, pieces_in-gave, tells_still, Prefix, Send, Entry, Given, LinkEvent, LinkFault, Gives, Phases, Tells, Told, cut_entries, events_in, pieces_in, Seen, Answer, heeded, items_in, closes, opens, phase_after, count_of, Recorded, AreGiven, AreGivenInPart, found_gone, AreOpenThen, Open, Stage, has, stage_of, bounds_of, Follower, HasHeard, kept_to, cut_in, in_pieces, is_opened, missing, missing_from, missing_of, HasCutOff, HasPassed, IsPassFault, KeepsGuest, LinkPasses, NoneTook, PassesBy, one_send}
+use Rattle.standby.proofs.Terms.{Bool, List, [], ap, append-nil, append_assoc, arith, drop, false, inl, inr, length, length-set, not, refl, subst, suc, sym, take, true, zero, ℕ, ◌++◌, ◌+◌, ◌-◌, ◌<◌, ◌∙◌, ◌∷◌, ◌≡◌, ◌≤◌, both_ways, length-drop, take-append-drop, Err, Ok, Result, if◌then◌else◌, slice_set, ◌&&◌, ◌==◌, ◌||◌, Prefix, Send, Entry, LinkEvent, LinkFault, tells_then, Gives, Open, Phases, Tells, Told, cut_entries, events_in, pieces_in, Seen, is_open, Answer, heeded, items_in, phase_after, closes, opens, open_shown, phase_by, Recorded, count_of, found_gone-more, last_split, last_taken-gave, pieces_in-gave, tells_still, HasGoneOn, gone_hears, turns_then, AreGiven, AreGivenInPart, found_gone, answer_of, AreOpenThen, Stage, has, stage_of, bounds_of, Follower, HasHeard, kept_to, cut_in, in_pieces, is_opened, missing, missing_from, missing_of, HasCutOff, HasPassed, IsPassFault, KeepsGuest, LinkPasses, NoneTook, PassesBy, one_send}
 
 -- where two lists make none, neither is there
 pub before_none : (sends others : List Send) → sends ++ others ≡ [] → sends ≡ []

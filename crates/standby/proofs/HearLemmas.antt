@@ -1,26 +1,19 @@
 -- The next event of a link comes into the log of a follower, while its run waits for an item.
 use Rattle.std.proofs.Math.ListN.{drop_of_length-le}
+use Rattle.std.proofs.Math.Seq.{drop-append_seam}
 use Rattle.links.specs.declared.journal.Entry.TheVariants as entry
 use Rattle.links.specs.declared.journal.LinkEvent.TheVariants as event
 use Rattle.links.specs.declared.journal.LinkFault.TheVariants as fault
-use Rattle.links.specs.Links.{Coming, Closed, StillComes, Unopened}
 use Rattle.msg_frame.specs.declared.framing.Framing.{Framing}
 use Rattle.msg_frame.specs.Messages.{Parts, cut}
-use Rattle.item_log.specs.Connections.{is_open, in_order, rest_of}
-use Rattle.item_log.specs.Heard.{Heard, brought, hear, hear_parts, items_by, items_of}
 use Rattle.item_log.specs.Log as logs
 use Rattle.run_history.specs.declared.answer.Answer.TheVariants as answer
-use Rattle.session_history.specs.Heeding.{refusal}
 use Rattle.session_history.proofs.Causes.{last_taken-append}
 use Rattle.link_gate.proofs.Answering.{not_end}
-use Rattle.replay.specs.Hearing.{answer_of}
-use Rattle.replay.specs.Playing.{HasNoFault}
+use Rattle.link_gate.proofs.Refusing.{IsEvent, brings_more, events_behind, events_ended, heeded_without, is_heeded, keeps_items, limit_events, limit_items, logged_keeps, too_long}
 use Rattle.replay.proofs.HearLemmas.{event_open}
-use Rattle.replay.proofs.LeavingLemmas.{logs_none}
-use Rattle.replay.proofs.LoopLemmas.{HasGoneOn}
-use Rattle.std.proofs.lemmas.Bool.{cases_lt}
 use Rattle.std.specs.Option.{option_map}
-use Rattle.standby.proofs.Terms.{Bool, List, None, Option, Some, [], ap, append-nil, append_assoc, arith, cond, drop, false, inl, inr, length, length-append, refl, subst, sym, true, true≢false, ℕ, ◌++◌, ◌+◌, ◌<◌, ◌^◌, ◌∙◌, ◌∷◌, ◌≡◌, ◌≢◌, ◌≤◌, ◌⊎◌, drop-append_seam, both_ways, eqb-false, eqb-true, get_or-set_other, get_or-set_same, get_or_past, length-set, same_Some, Err, Ok, Result, if◌then◌else◌, is_some, slice_set, unwrap_or, ◌==◌, ◌||◌, tells_then, pieces_in-append, received_is, in_order_shown, closes-last, closes_by, open_by, phases_behind, unopened_by, IsEvent, brings_more, events_behind, events_ended, heeded_without, is_heeded, keeps_items, limit_events, limit_items, logged_keeps, too_long, last_split, pieces_in-took, tells_still, Item, Entry, LinkEvent, LinkFault, HasEnded, IsInOrder, Open, Phases, Tells, Told, events_in, phases_after, pieces_in, NextShows, Seen, Fits, Log, logged, Answer, connections_after, IsLastRefused, Unheeded, heeded, items_in, received, KeepsPhases, closes, opens, phase_after, Recorded, found_gone, LogsEvent, AreOpen, AreOpenThen, Stage, has, stage_of, bounds_of, Follower, KeepsRun, AreAwaited, HasHeard, HasStopped, HearsBy, HearsEvent, HearsMore, IsAwaited, IsLater, Unheard}
+use Rattle.standby.proofs.Terms.{Bool, List, None, Option, Some, [], ap, append-nil, append_assoc, arith, cond, drop, false, inl, inr, length, length-append, length-set, refl, subst, sym, true, true≢false, ℕ, ◌++◌, ◌+◌, ◌<◌, ◌^◌, ◌∙◌, ◌∷◌, ◌≡◌, ◌≢◌, ◌≤◌, both_ways, cases_lt, eqb-false, eqb-true, get_or-set_other, get_or-set_same, get_or_past, same_Some, Err, Ok, Result, is_some, slice_set, unwrap_or, ◌||◌, Item, Entry, LinkEvent, LinkFault, tells_then, pieces_in-append, Coming, IsInOrder, Phases, Told, events_in, pieces_in, NextShows, Seen, in_order, is_open, rest_of, Heard, brought, hear, hear_parts, items_by, items_of, Fits, Log, logged, Answer, IsLastRefused, Unheeded, heeded, items_in, received, refusal, phase_after, closes, opens, received_is, in_order_shown, closes-last, closes_by, open_by, phases_behind, unopened_by, Recorded, last_split, pieces_in-took, tells_still, logs_none, HasGoneOn, found_gone, LogsEvent, answer_of, AreOpen, AreOpenThen, HasNoFault, Stage, stage_of, bounds_of, Follower, AreAwaited, HasHeard, HasStopped, HearsBy, HearsEvent, HearsMore, IsAwaited, IsLater, KeepsRun, Unheard}
 
 no_end : {last : LinkEvent} → IsEvent last → Some last ≡ Some event.Ends → ⊥
 no_end {last = last} one is =

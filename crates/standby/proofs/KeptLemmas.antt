@@ -1,8 +1,6 @@
 -- Bytes among those that were kept, and counts that pass them.
-use Rattle.counts_file.specs.Counts.{IsCount}
-use Rattle.standby.proofs.Terms.{Bool, List, [], ap, append-nil, append_assoc, arith, cond, drop, false, if◌then◌else◌, length, length-append, refl, subst, suc, sym, true, zero, ℕ, ◌++◌, ◌+◌, ◌-◌, ◌<◌, ◌∙◌, ◌∷◌, ◌≡◌, ◌≤◌, eqb-true, eq-eqb, eqb-false, leb, ltb-false, ltb-true, nat_lt, ◌==◌, AreCounts, count_of, Kept, IsShort, kept_to}
-use Rattle.std.specs.Prelude.{All}
 use Rattle.std.proofs.lemmas.List.Elements.{All-head, All-tail}
+use Rattle.standby.proofs.Terms.{Bool, List, [], arith, cond, false, length, refl, subst, sym, true, ℕ, ◌+◌, ◌<◌, ◌∙◌, ◌∷◌, ◌≡◌, ◌≤◌, eqb-false, eqb-true, ltb-false, ltb-true, All, nat_lt, ◌==◌, AreCounts, IsCount, count_of, Kept, kept_to}
 
 -- no connection from 4096 on has a line
 none_above : (counts : List (ℕ × ℕ)) (conn : ℕ) → All IsCount counts → 4096 ≤ conn → count_of counts conn ≡ 0

@@ -1,8 +1,5 @@
 -- A run that follows a record is one run.
-use Rattle.run_history.proofs.Runs.{run_chosen, run_join}
-use Rattle.run_history.proofs.Serves.{served_follows}
-use Rattle.standby.specs.Laws.{FollowedIsRun}
-use Rattle.standby.proofs.Terms.{List, Some, [], refl, subst, sym, ℕ, ◌++◌, ◌+◌, ◌≡◌, Choice, plain_limits, run, start}
+use Rattle.standby.proofs.Terms.{List, Some, [], subst, sym, ℕ, ◌≡◌, Choice, run_chosen, run_join, served_follows, start, run, plain_limits, FollowedIsRun}
 
 pub followed_is_run : FollowedIsRun
 followed_is_run image recorded budget items path followed =

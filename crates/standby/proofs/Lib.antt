@@ -6,3 +6,4 @@ pub mod CatchLemmas
 pub mod ServeLemmas
 pub mod KeptLemmas
 pub mod LawLemmas
+pub mod FrontLemmas

@@ -1,36 +1,27 @@
 -- A follower serves: what each event of its guest makes of it.
+use Rattle.std.specs.Prelude.{◌⊎◌}
 use Rattle.std.specs.declared.alloc.AllocError.{AllocError}
 use Rattle.links.specs.declared.journal.Entry.TheVariants as entry
 use Rattle.alloc_env.specs.declared.env.Env.TheVariants.{Plain}
+use Rattle.alloc_env.specs.declared.env.Env.{Env}
 use Rattle.run_history.specs.declared.answer.Answer.TheVariants as answer
 use Rattle.run_history.specs.declared.answer.Cause.TheVariants.{BadAccess, Hang}
-use Rattle.run_history.specs.Machine.{Fails, Wants}
 use Rattle.run_history.specs.Touching.{touched}
-use Rattle.run_history.specs.Served.{does_with, env_at, grant, is_refused, planned_next, serves}
 use Rattle.run_history.proofs.Repeats.{repeated_join}
-use Rattle.run_history.proofs.Runs.{received_keeps, run_more}
-use Rattle.run_history.proofs.Serves.{served_more}
 use Rattle.guest_cpu.specs.declared.event.Event.{Event}
 use Rattle.guest_cpu.specs.declared.event.Event.TheVariants as event
-use Rattle.guest_cpu.specs.Runs.{ComesBy, RunsOn, TakesOn}
+use Rattle.guest_cpu.specs.Runs.{RunsOn}
 use Rattle.guest_cpu.specs.Running.{RunsBy}
-use Rattle.guest_cpu.specs.Standing.{AreCounted, turn}
 use Rattle.guest_cpu.proofs.OneMore.{one_more}
 use Rattle.guest_cpu.proofs.RunLemmas.{runs_serve}
 use Rattle.guest_cpu.proofs.TakeLemmas.{asks_wants, takes_serve}
-use Rattle.session_history.specs.Heeding.{events_of}
-use Rattle.item_log.specs.Heard.{items_of}
 use Rattle.item_log.specs.Log as logs
 use Rattle.replay.specs.Giving as giving
 use Rattle.rx_io.proofs.Composing.{rose_later}
-use Rattle.replay.proofs.LoopLemmas.{HasGoneOn}
-use Rattle.replay.proofs.LeavingLemmas.{leaves_then}
-use Rattle.replay.specs.Replaying.{LinkAnswers}
-use Rattle.replay.specs.Playing.{HasNoFault}
+use Rattle.standby.proofs.Terms.{Bool, List, None, Option, Prefix, Some, [], ap, append-nil, append_assoc, arith, cond, false, inl, inr, leb, length, length-append, refl, subst, suc, sym, true, zero, ℕ, ◌++◌, ◌+◌, ◌-◌, ◌<◌, ◌^◌, ◌∙◌, ◌∷◌, ◌≡◌, ◌≤◌, both_ways, leb-false, option_and_then_some, same_Some, Err, Ok, Result, slice_get, Item, Send, sent_to, Entry, LinkEvent, pieces_in-append, Coming, Open, Piece, Tells, Told, events_in, pieces_in, Seen, Choice, items_of, IsItemOf, Image, Answer, Cause, received_keeps, run_more, served_more, Fails, Wants, start, does, run, Guest, IsLaidOut, Limits, Path, Served, does_with, grant, guest_of, is_refused, planned_next, serve, serves, taken_standing, standing_of, AreCounted, Live, Standing, marks_of, turn, heeded, items_in, received, received_is, Recorded, count_of, leaves_then, HasGoneOn, AreGiven, AreOpen, HasNoFault, LinkTurns, Stage, has, stage_of, LinkAnswers, bounds_of, Follower, AreAwaited, HasHeard, HasStopped, HearsMore, IsAwaited, IsLater, KeepsRun, Unheard, HasCaughtUp, kept_to, AllGiven, PartGiven, missing, output_of, HasCutOff, HasPassed, IsPassFault, KeepsGuest, NoneTook, PassesBy, StandsHeard, one_send, AreServed, AreTold, AsksNext, EndsBy, HasServed, IsFollowed, IsRecordsEnd, MayServe, WasServed, plain_limits}
+use Rattle.standby.specs.Running.{HasRoom, IsServing, IsWanting, NotesChoice, ServesBy}
 use Rattle.standby.proofs.GiveLemmas.{before_none}
-use Rattle.standby.proofs.HearLemmas.{same_later}
 use Rattle.standby.proofs.FollowLemmas.{heard_ran, heard_takes}
-use Rattle.standby.proofs.Terms.{Bool, List, None, Option, Some, [], ap, append-nil, append_assoc, arith, cond, drop, false, inl, inr, leb, leb-false, length, length-append, refl, subst, suc, sym, true, zero, ℕ, ◌++◌, ◌+◌, ◌-◌, ◌*◌, ◌<◌, ◌^◌, ◌∙◌, ◌∷◌, ◌≡◌, ◌≤◌, ◌⊎◌, both_ways, option_and_then_some, same_Some, Err, Ok, Result, slice_get, pieces_in-append, events_in-append, received_is, Item, Prefix, Send, sent_to, Entry, LinkEvent, Coming, HasEnded, Tells, Told, events_in, pieces_in, Piece, Seen, Choice, is_bare, IsItemOf, Image, Answer, Cause, Run, does, run, start, connections_after, AsksFor, FailsBy, Guest, IsLaidOut, Limits, Path, Served, guest_of, serve, Env, taken_standing, standing_of, Live, Standing, marks_of, heeded, items_in, received, Recorded, count_of, AreGiven, AreGivenInPart, Open, AreOpen, LinkTurns, Stage, has, bounds_of, stage_of, Follower, AreAwaited, HasHeard, HasStopped, HearsMore, IsAwaited, IsLater, KeepsRun, Unheard, HasCaughtUp, kept_to, AllGiven, PartGiven, missing, output_of, HasCutOff, HasPassed, IsPassFault, KeepsGuest, NoneTook, PassesBy, StandsHeard, one_send, AreServed, MayServe, AreTold, AsksNext, EndsBy, HasServed, IsFollowed, IsRecordsEnd, WasServed, plain_limits, HasRoom, IsServing, IsWanting, KeepsButChoices, NotesChoice, ServesBy}
 
 -- ---- one run
 

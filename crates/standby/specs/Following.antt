@@ -3,8 +3,10 @@ use Rattle.std.specs.Prelude.{◌≡◌, ℕ, ◌+◌, ◌<◌, List, [], ◌∷
 use Rattle.links.specs.declared.journal.Entry.TheVariants as entry
 use Rattle.run_history.specs.declared.answer.Answer.TheVariants as answer
 use Rattle.replay.specs.declared.difference.Difference.TheVariants as difference
-use Rattle.standby.specs.Terms.{Send, sent_to, Entry, LinkEvent, HasEnded, Tells, Told, events_in, pieces_in, Seen, Choice, is_bare, Image, Answer, HasAnswerCause, Wants, does, heeded, Recorded, Difference, Differs, IsReplay, LeavesLink, Replay, WaitsForItem, bounds_of, TellsDifference, AreOpen, Stage, replay_of, stage_of, Follower, Kept}
+use Rattle.standby.specs.Terms.{Send, sent_to, Entry, LinkEvent, HasEnded, Tells, Told, events_in, pieces_in, Seen, is_bare, Image, Answer, Wants, does, HasAnswerCause, heeded, Recorded, Difference, TellsDifference, AreOpen, Stage, replay_of, stage_of, Differs, IsReplay, LeavesLink, Replay, WaitsForItem, bounds_of}
+use Rattle.standby.specs.declared.follower.Follower.{Follower}
 use Rattle.standby.specs.declared.following.Unfollowed.{Unfollowed}
+use Rattle.standby.specs.declared.kept.Kept.{Kept}
 use Rattle.standby.specs.Hearing.{HasHeard, Unheard}
 
 -- the bytes to a connection among those that were kept

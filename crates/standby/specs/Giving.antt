@@ -2,7 +2,8 @@
 use Rattle.std.specs.Prelude.{◌≡◌, ℕ, List, [], ◌∷◌, ◌++◌, true, Result, Ok, Err}
 use Rattle.links.specs.declared.journal.Entry.TheVariants as entry
 use Rattle.run_history.specs.declared.answer.Answer.TheVariants as answer
-use Rattle.standby.specs.Terms.{Prefix, Send, Entry, LinkEvent, Open, Tells, Told, events_in, pieces_in, Seen, Answer, Recorded, AreGiven, AreGivenInPart, LinkTurns, Stage, stage_of, Follower}
+use Rattle.standby.specs.Terms.{Prefix, Send, Entry, LinkEvent, Open, Tells, Told, events_in, pieces_in, Seen, Answer, Recorded, AreGiven, AreGivenInPart, LinkTurns, Stage, stage_of}
+use Rattle.standby.specs.declared.follower.Follower.{Follower}
 use Rattle.standby.specs.Hearing.{HasHeard}
 
 -- bytes to a connection as one send, with a number of items

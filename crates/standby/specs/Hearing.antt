@@ -4,8 +4,8 @@ use Rattle.links.specs.declared.journal.Entry.TheVariants as entry
 use Rattle.links.specs.declared.journal.LinkEvent.TheVariants as event
 use Rattle.run_history.specs.declared.answer.Answer.TheVariants as answer
 use Rattle.session_history.specs.Heeding as unheeded
-use Rattle.item_log.specs.Connections.{is_open}
-use Rattle.standby.specs.Terms.{closes, found_gone, has, Item, Entry, LinkEvent, Coming, HasEnded, IsNext, Refuses, Tells, Told, events_in, pieces_in, Seen, Answer, IsLastRefused, IsLastTooLong, heeded, items_in, received, KeepsItems, KeepsPhases, Recorded, AreOpenThen, Stage, stage_of, bounds_of, LogsEvent, Follower}
+use Rattle.standby.specs.Terms.{Item, Entry, LinkEvent, Coming, HasEnded, IsNext, Refuses, Tells, Told, events_in, pieces_in, Seen, is_open, Answer, IsLastRefused, IsLastTooLong, heeded, items_in, received, KeepsItems, KeepsPhases, closes, Recorded, found_gone, LogsEvent, AreOpenThen, Stage, has, stage_of, bounds_of}
+use Rattle.standby.specs.declared.follower.Follower.{Follower}
 
 -- What was heard with a journal: the log has the items of its events, each of which was heeded, and the link hasn't ended. Which connections were
 -- found gone is known.

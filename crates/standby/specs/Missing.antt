@@ -1,6 +1,7 @@
 -- What clients miss of what a run sent, and the pieces in which they get it.
-use Rattle.std.specs.Prelude.{◌≡◌, ◌⊎◌, ℕ, zero, suc, ◌+◌, ◌<◌, ◌≤◌, List, [], ◌∷◌, ◌++◌, length, take, drop, flat_map, Bool, false, not, ◌&&◌, Option, None, Some, if◌then◌else◌, ◌==◌}
-use Rattle.standby.specs.Terms.{Prefix, Send, sent_to, LinkEvent, Open, Piece, Path, closes, opens, phase_after, count_of, AreGiven, AreGivenInPart, found_gone, Kept}
+use Rattle.std.specs.Prelude.{◌≡◌, ◌⊎◌, ℕ, zero, suc, ◌+◌, ◌<◌, ◌≤◌, List, [], ◌∷◌, ◌++◌, length, take, drop, flat_map, Bool, not, ◌&&◌, Option, None, Some, if◌then◌else◌, ◌==◌}
+use Rattle.standby.specs.Terms.{Prefix, Send, sent_to, LinkEvent, Piece, Path, closes, opens, count_of, AreGiven, AreGivenInPart}
+use Rattle.standby.specs.declared.kept.Kept.{Kept}
 use Rattle.standby.specs.Following.{kept_to}
 
 -- the least connection whose count passes the bytes that were kept for it; none where no count does

@@ -1,7 +1,8 @@
 -- What holds while a follower serves.
-use Rattle.std.specs.Prelude.{◌≡◌, ℕ, ◌+◌, ◌*◌, ◌<◌, ◌≤◌, ◌^◌, List, [], ◌∷◌, ◌++◌, length, true, None, Result, Ok, Err}
+use Rattle.std.specs.Prelude.{◌≡◌, ℕ, ◌+◌, ◌*◌, ◌≤◌, ◌^◌, List, [], ◌∷◌, ◌++◌, length, true, None, Result, Ok, Err}
 use Rattle.run_history.specs.declared.answer.Answer.TheVariants as answer
-use Rattle.standby.specs.Terms.{Send, sent_to, Entry, Told, events_in, pieces_in, Seen, Choice, Image, Answer, AsksFor, Path, Standing, standing_of, items_in, Recorded, count_of, AreOpen, bounds_of, stage_of, Follower}
+use Rattle.standby.specs.Terms.{sent_to, Entry, Told, events_in, pieces_in, Seen, Choice, Image, Answer, AsksFor, Path, standing_of, Standing, items_in, Recorded, count_of, AreOpen, stage_of, bounds_of}
+use Rattle.standby.specs.declared.follower.Follower.{Follower}
 use Rattle.standby.specs.Hearing.{HasHeard}
 use Rattle.standby.specs.Missing.{AllGiven}
 use Rattle.standby.specs.Serving.{AreServed, HasServed, IsFollowed, plain_limits}

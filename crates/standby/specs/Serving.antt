@@ -1,10 +1,11 @@
 -- What it is to serve on from where a record ended.
-use Rattle.std.specs.Prelude.{◌≡◌, ℕ, ◌+◌, ◌<◌, ◌≤◌, ◌^◌, List, [], ◌∷◌, ◌++◌, length, false, true, Option, None, Some, IfSome}
+use Rattle.std.specs.Prelude.{◌≡◌, ℕ, ◌<◌, ◌≤◌, ◌^◌, List, [], ◌∷◌, ◌++◌, length, false, true, Option, Some, IfSome}
 use Rattle.links.specs.declared.journal.Entry.TheVariants as entry
 use Rattle.links.specs.declared.journal.LinkEvent.TheVariants as event
 use Rattle.run_history.specs.declared.answer.Answer.TheVariants as answer
 use Rattle.session_history.specs.Heeding as unheeded
-use Rattle.standby.specs.Terms.{Item, Prefix, sent_to, Entry, LinkEvent, Coming, HasEnded, IsNext, Refuses, Tells, Told, events_in, pieces_in, Seen, Choice, is_bare, Image, Answer, Run, AsksFor, FailsBy, IsLaidOut, Limits, Path, Served, guest_of, IsLastRefused, IsLastTooLong, heeded, items_in, received, Recorded, count_of, AreOfLines, bounds_of, Follower}
+use Rattle.standby.specs.Terms.{Item, Prefix, sent_to, Entry, LinkEvent, Coming, HasEnded, IsNext, Refuses, Tells, Told, events_in, pieces_in, Seen, Choice, is_bare, Image, Answer, Run, AsksFor, FailsBy, IsLaidOut, Limits, Path, Served, guest_of, IsLastRefused, IsLastTooLong, heeded, items_in, received, Recorded, count_of, AreOfLines, bounds_of}
+use Rattle.standby.specs.declared.follower.Follower.{Follower}
 use Rattle.standby.specs.Following.{HasCaughtUp}
 use Rattle.standby.specs.Missing.{AllGiven, PartGiven}
 

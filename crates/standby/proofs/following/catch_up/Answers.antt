@@ -1,5 +1,4 @@
-use Rattle.replay.proofs.LoopLemmas.{gone_nowhere, gone_turning, hears_turning, hears_then}
-use Rattle.standby.proofs.Terms.{arith, refl, ◌∙◌}
+use Rattle.standby.proofs.Terms.{arith, refl, ◌∙◌, gone_nowhere, gone_turning, hears_then, hears_turning}
 use Rattle.standby.proofs.CatchLemmas.{broken_none, catches_by, links_by, starts_at, starts_under}
 use Rattle.standby.proofs.following.catch_up.Goals as goal
 

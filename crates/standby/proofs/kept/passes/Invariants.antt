@@ -1,4 +1,4 @@
-use Rattle.standby.proofs.Terms.{drop, length, nat_lt, ◌≡◌, kept_to}
+use Rattle.standby.proofs.Terms.{drop, length, ◌≡◌, nat_lt, kept_to}
 use Rattle.standby.proofs.kept.passes.Given as goal
 
 abbrev pub invariant-loop-one : goal.invariant-loop-one

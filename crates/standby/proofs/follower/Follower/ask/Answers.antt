@@ -1,6 +1,4 @@
-use Rattle.guest_cpu.specs.declared.marks.Marks.{Marks}
-use Rattle.guest_cpu.specs.Cpus.{CpuState}
-use Rattle.standby.proofs.Terms.{ap, refl, rules, subst, sym, ℕ, ◌∙◌, Live, IsItemOf}
+use Rattle.standby.proofs.Terms.{ap, refl, subst, ℕ, IsItemOf, Marks, Live}
 use Rattle.standby.proofs.FollowLemmas.{item_short, starves, takes_under}
 use Rattle.standby.proofs.follower.Follower.ask.Goals as goal
 

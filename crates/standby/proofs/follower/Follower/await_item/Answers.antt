@@ -1,5 +1,4 @@
-use Rattle.standby.proofs.Terms.{ap, refl, subst, ◌∙◌, Err, Follower, HasStopped, HearsBy, HearsMore, Ok, stage_of}
-use Rattle.replay.proofs.LoopLemmas.{gone_nowhere, gone_turning, gone_hears, hears_turning, hears_then}
+use Rattle.standby.proofs.Terms.{subst, Err, Ok, gone_hears, gone_nowhere, gone_turning, hears_then, hears_turning, stage_of, HasStopped, HearsMore}
 use Rattle.standby.proofs.HearLemmas as lemmas
 use Rattle.standby.proofs.HearLemmas.{keeps_same, keeps_then, none_asked, same_later}
 use Rattle.standby.proofs.follower.Follower.await_item.Goals as goal

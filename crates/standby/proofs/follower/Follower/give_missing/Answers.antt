@@ -1,5 +1,4 @@
-use Rattle.replay.proofs.LoopLemmas.{gone_nowhere, gone_turning}
-use Rattle.standby.proofs.Terms.{ap, arith, refl, rules, ◌++◌, ◌∙◌, ◌≡◌, kept_to}
+use Rattle.standby.proofs.Terms.{ap, refl, rules, ◌++◌, ◌∙◌, ◌≡◌, gone_nowhere, gone_turning, kept_to}
 use Rattle.standby.proofs.GiveLemmas.{guest_same, guest_then, passes_here, passes_link, risen_all, risen_cut, risen_more, risen_none}
 use Rattle.standby.proofs.follower.Follower.give_missing.Goals as goal
 

@@ -1,7 +1,5 @@
-use Rattle.std.proofs.lemmas.List.{drop_min}
-use Rattle.standby.proofs.Terms.{List, ℕ, ap, arith, drop, refl, rules, sym, true, ◌∙◌, ◌≡◌, count_of, kept_to, stage_of}
-use Rattle.item_log.specs.Connections.{is_open}
-use Rattle.standby.proofs.GiveLemmas.{cut_none_given, guest_same, missing_here, opened_here, passes_as, passes_closed}
+use Rattle.standby.proofs.Terms.{List, ap, drop, rules, true, ℕ, ◌∙◌, ◌≡◌, drop_min, is_open, count_of, stage_of, kept_to}
+use Rattle.standby.proofs.GiveLemmas.{cut_none_given, missing_here, opened_here, passes_as, passes_closed}
 use Rattle.standby.proofs.follower.Follower.give_rest.Goals as goal
 
 pub returns-then-not-is_open-clause-passes : goal.returns-then-not-is_open-clause-passes

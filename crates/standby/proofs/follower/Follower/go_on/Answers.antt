@@ -1,6 +1,4 @@
-use Rattle.replay.proofs.LoopLemmas.{gone_nowhere, gone_turning, turns_then}
-use Rattle.replay.proofs.StartLemmas.{answers_link}
-use Rattle.standby.proofs.Terms.{arith, refl, ◌<◌}
+use Rattle.standby.proofs.Terms.{arith, refl, ◌<◌, gone_nowhere, gone_turning, turns_then, answers_link}
 use Rattle.standby.proofs.ServeLemmas.{room_to_run}
 use Rattle.standby.proofs.follower.Follower.go_on.Goals as goal
 

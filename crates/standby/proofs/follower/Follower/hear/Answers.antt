@@ -1,6 +1,5 @@
-use Rattle.standby.proofs.Terms.{rules, subst, sym, ◌∙◌, events_in, Answer, in_order_shown, LeavesLink, HasStopped, stage_of}
+use Rattle.standby.proofs.Terms.{rules, subst, sym, ◌∙◌, events_in, Answer, in_order_shown, leaves_both, leaves_untaken, taken_known, stage_of, LeavesLink, HasStopped}
 use Rattle.standby.proofs.HearLemmas.{heeds_event, hears_none, keeps_same, takes_none}
-use Rattle.replay.proofs.LeavingLemmas.{leaves_both, leaves_untaken, taken_known}
 use Rattle.standby.proofs.follower.Follower.hear.Goals as goal
 
 pub heed-requires : goal.heed-requires

@@ -1,6 +1,6 @@
 use Rattle.links.specs.declared.journal.Given.{Given}
 use Rattle.links.specs.declared.journal.Given.TheVariants.{All, Gone}
-use Rattle.standby.proofs.Terms.{Bool, ap, refl, rules, subst, sym, true, ◌∙◌, Err, Ok, slice_set, Gives, Seen, Answer, HasCutOff, HasPassed, has, one_send, stage_of}
+use Rattle.standby.proofs.Terms.{ap, subst, sym, true, ◌∙◌, Ok, slice_set, Gives, Seen, Answer, has, stage_of, HasCutOff, HasPassed, one_send}
 use Rattle.standby.proofs.GiveLemmas.{passes_broken, passes_cut, passes_none, passes_whole}
 use Rattle.standby.proofs.follower.Follower.pass.Goals as goal
 

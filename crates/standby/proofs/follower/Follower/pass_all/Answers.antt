@@ -1,6 +1,4 @@
-use Rattle.replay.proofs.LoopLemmas.{gone_nowhere, gone_turning}
-use Rattle.std.proofs.lemmas.List.{drop_min, take_min}
-use Rattle.standby.proofs.Terms.{[], ap, arith, drop, length, nil_from_length, refl, rules, take, ◌++◌, ◌<◌, ◌∙◌, ◌≡◌, Ok, Err}
+use Rattle.standby.proofs.Terms.{[], ap, drop, length, refl, rules, take, ◌++◌, ◌<◌, ◌∙◌, ◌≡◌, drop_min, nil_from_length, take_min, gone_nowhere, gone_turning}
 use Rattle.standby.proofs.GiveLemmas.{front_all, front_cut, front_more, front_none, guest_same, guest_then, passes_here, passes_link}
 use Rattle.standby.proofs.follower.Follower.pass_all.Goals as goal
 

@@ -1,7 +1,4 @@
-use Rattle.run_history.specs.declared.answer.Answer.TheVariants as answer
-use Rattle.replay.proofs.LoopLemmas.{gone_nowhere, gone_turning, turns_then}
-use Rattle.replay.proofs.StartLemmas.{answers_link}
-use Rattle.standby.proofs.Terms.{ap, arith, refl, sym, ◌∙◌}
+use Rattle.standby.proofs.Terms.{arith, answers_link}
 use Rattle.standby.proofs.ServeLemmas.{answers_exit, answers_then, missing_cut, missing_exits, missing_serves, stands_heard}
 use Rattle.standby.proofs.follower.Follower.serve.Goals as goal
 

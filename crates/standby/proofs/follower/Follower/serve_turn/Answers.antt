@@ -1,12 +1,7 @@
-use Rattle.guest_cpu.specs.declared.event.Event.TheVariants as event
-use Rattle.guest_cpu.specs.Cpus.{live_of}
 use Rattle.run_history.specs.declared.answer.Answer.TheVariants as answer
-use Rattle.replay.proofs.LoopLemmas.{hears_turning}
-use Rattle.standby.proofs.Terms.{List, ap, arith, length, refl, subst, sym, ◌+◌, ◌<◌, ◌^◌, ◌∙◌, ◌≡◌, ◌≤◌, ℕ, Err, Ok, PassesBy, one_send, stage_of}
+use Rattle.standby.proofs.Terms.{List, ap, arith, length, refl, subst, sym, ℕ, ◌+◌, ◌<◌, ◌^◌, ◌≡◌, ◌≤◌, IfOk-weaker, Err, live_of, hears_turning, ok_always, stage_of, PassesBy, one_send}
 use Rattle.standby.proofs.ServeLemmas.{asks_served, chooses_served, emits_served, exits_served, fails_served, emits_here, heard_sent, memory_served, notes_cpu, notes_none, ran_event, ran_further, ran_later, ran_to, room_to_run}
-use Rattle.replay.proofs.QuestionLemmas.{ok_always}
 use Rattle.standby.proofs.FollowLemmas.{link_same}
-use Rattle.std.proofs.lemmas.Result.{IfOk-weaker}
 use Rattle.standby.proofs.follower.Follower.serve_turn.Goals as goal
 
 pub run_to_event-requires-clause-room : goal.run_to_event-requires-clause-room

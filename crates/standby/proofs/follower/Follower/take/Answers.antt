@@ -1,6 +1,4 @@
-use Rattle.guest_cpu.specs.declared.marks.Marks.{Marks}
-use Rattle.guest_cpu.proofs.TakeLemmas.{asks_wants}
-use Rattle.standby.proofs.Terms.{ap, arith, refl, subst, sym, ◌∙◌, ℕ, Live, IsItemOf, plain_limits}
+use Rattle.standby.proofs.Terms.{ap, arith, refl, subst, ℕ, IsItemOf, Marks, Live}
 use Rattle.standby.proofs.FollowLemmas.{item_short}
 use Rattle.standby.proofs.ServeLemmas.{room_to_take, stops_served, takes_served, wants_item}
 use Rattle.standby.proofs.follower.Follower.take.Goals as goal

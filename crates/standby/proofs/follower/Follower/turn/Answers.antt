@@ -1,14 +1,8 @@
 use Rattle.guest_cpu.specs.declared.event.Question.TheVariants as question
-use Rattle.guest_cpu.specs.Cpus.{live_of}
-use Rattle.replay.specs.Judging.{judged}
 use Rattle.replay.specs.declared.difference.Difference.TheVariants as difference
-use Rattle.replay.proofs.DifferLemmas.{ended_differs, judge_differs, left_differs}
-use Rattle.replay.proofs.QuestionLemmas.{comes_to, ok_always, rises_behind}
-use Rattle.replay.proofs.RunLemmas.{ComesTo, comes_by, same_sends}
-use Rattle.standby.proofs.Terms.{Option, Some, ap, arith, refl, subst, sym, ◌+◌, ◌<◌, ◌∙◌, ◌≡◌, Err, Answer, Difference, DiffersBy, FollowsBy, HasFound, IsBroken, stage_of}
+use Rattle.standby.proofs.Terms.{Some, arith, refl, subst, sym, ◌+◌, ◌<◌, ◌≡◌, IfOk-weaker, Err, Answer, live_of, ended_differs, judge_differs, left_differs, comes_to, ok_always, rises_behind, ComesTo, comes_by, same_sends, DiffersBy, HasFound, FollowsBy}
 use Rattle.standby.proofs.FollowLemmas.{asks_asking, comes_at_end, emits_kept, exits_by, failed_breaks, few_used, keeps_differs, keeps_none, keeps_player, link_same, memory_breaks, reached_by, wants_used}
 use Rattle.standby.proofs.follower.Follower.turn.Goals as goal
-use Rattle.std.proofs.lemmas.Result.{IfOk-weaker}
 
 pub ask-requires-clause-stands : goal.ask-requires-clause-stands
 ask-requires-clause-stands g c =
