@@ -107,7 +107,7 @@ module _ (recording : Recorded) (entries : List Entry) (replay : Replay) (used :
   same_place : (found : Difference) → IsApart recording replay.state.machine.allocations replay.steps replay.state.ended replay.state.machine found → IsApart recording (length replay.choices) replay.steps replay.state.ended replay.state.machine found
   same_place found apart = subst (λ (n : ℕ). IsApart recording n replay.steps replay.state.ended replay.state.machine found) used apart
 
-  found_is : (found : Difference) → Differs recording entries replay → IsApart recording replay.state.machine.allocations replay.steps replay.state.ended replay.state.machine found → IsDifference recording entries replay found
+  pub found_is : (found : Difference) → Differs recording entries replay → IsApart recording replay.state.machine.allocations replay.steps replay.state.ended replay.state.machine found → IsDifference recording entries replay found
   found_is difference.InputEnded differs apart = starved recording entries replay apart differs
   found_is (difference.Ended code) differs apart = same_place (difference.Ended code) apart
   found_is (difference.Failed cause) differs apart = same_place (difference.Failed cause) apart

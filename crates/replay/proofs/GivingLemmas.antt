@@ -8,7 +8,7 @@ use Rattle.replay.proofs.ReplayLemmas.{replay_same}
 use Rattle.replay.proofs.JournalLemmas.{asked_gave, tells_still, last_taken-gave, pieces_in-gave, found_gone-more}
 
 -- a set with one more connection
-has_more : (connections : List Bool) {conn : ℕ} (other : ℕ) → conn < length connections → has (slice_set connections conn true) other ≡ (has connections other || ((conn == other) && true))
+pub has_more : (connections : List Bool) {conn : ℕ} (other : ℕ) → conn < length connections → has (slice_set connections conn true) other ≡ (has connections other || ((conn == other) && true))
 has_more connections {conn = conn} other low = by (conn == other) refl
   where
     or_true : (b : Bool) → (b || true) ≡ true
@@ -30,7 +30,7 @@ has_more connections {conn = conn} other low = by (conn == other) refl
         ∙ sym (unwrap_or-slice_get connections other false)
         ∙ sym (or_false (has connections other))
 
-no_more : (found here : Bool) → found ≡ (found || (here && false))
+pub no_more : (found here : Bool) → found ≡ (found || (here && false))
 no_more true here = refl
 no_more false true = refl
 no_more false false = refl

@@ -3,7 +3,7 @@ use Rattle.links.specs.declared.journal.Entry.TheVariants as entry
 use Rattle.replay.proofs.Terms.{Bool, List, Option, Some, [], ap, append-nil, drop, false, inl, inr, refl, subst, sym, true, ℕ, ◌++◌, ◌∙◌, ◌∷◌, ◌≡◌, ◌⊎◌, unwrap_or, ◌&&◌, ◌==◌, ◌||◌, Entry, LinkEvent, tells_then, pieces_in-append, Piece, Tells, Told, last_taken, pieces_in, Image, Recorded, found_gone, piece_of, AreAsked, WasAsked}
 
 -- a place in a journal with one more entry is the last one, or stood there before
-last_split : (xs : List Entry) {x : Entry} (before : List Entry) {y : Entry} (after : List Entry) → xs ++ x ∷ [] ≡ before ++ y ∷ after
+pub last_split : (xs : List Entry) {x : Entry} (before : List Entry) {y : Entry} (after : List Entry) → xs ++ x ∷ [] ≡ before ++ y ∷ after
     → ((before ≡ xs) × (y ≡ x)) ⊎ ((more : List Entry) × (xs ≡ before ++ y ∷ more))
 last_split [] [] after same = inl (refl, cc)
 last_split [] (b ∷ []) {y = y} after same = let no : [] ≡ y ∷ after = ap (drop 1) same in absurd (cc)

@@ -29,7 +29,7 @@ leaves_untaken WriteFault shows give = absurd shows.grammar
 leaves_untaken Memory shows give = inr (shows.gives ∙ give)
 
 -- an event that comes in is no fault
-logs_none : (taken : LinkEvent) (old new : Stage) (result : Result (Unit {0}) Answer) → LogsEvent taken old new result → HasNoFault result
+pub logs_none : (taken : LinkEvent) (old new : Stage) (result : Result (Unit {0}) Answer) → LogsEvent taken old new result → HasNoFault result
 logs_none taken old new (Ok done) logs = tt
 logs_none taken old new (Err (answer.InputRefused kind offset)) logs = logs
 logs_none taken old new (Err answer.ReadFault) logs = logs

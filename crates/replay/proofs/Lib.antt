@@ -18,4 +18,4 @@ pub mod RecordLemmas
 pub mod RoomLemmas
 pub mod StreamLemmas
 pub mod SessionLemmas
-mod LeavingLemmas
+pub mod LeavingLemmas

@@ -1,7 +1,7 @@
 -- A guest that runs as recorded to its next question is a run that goes on.
 use Rattle.std.specs.declared.alloc.AllocError.{AllocError}
 use Rattle.guest_cpu.specs.declared.event.Question.TheVariants as question
-use Rattle.replay.proofs.Terms.{List, None, Option, Some, [], ap, arith, refl, subst, suc, sym, true, zero, ℕ, ◌++◌, ◌+◌, ◌<◌, ◌∙◌, ◌∷◌, ◌≡◌, ◌≤◌, none-some, option_and_then_some, same_Some, Err, Ok, Result, Send, is_bare, run_one, MaySend, Chooses, Fails, Machine, Wants, repeated, does, run, Question, recorded, RunsBy, Live, Standing, Turn, live_after, quiet_next, quietly, unless_event, state_of}
+use Rattle.replay.proofs.Terms.{List, None, Option, Some, [], ap, arith, length, length-append, refl, subst, suc, sym, true, zero, ℕ, ◌++◌, ◌+◌, ◌<◌, ◌∙◌, ◌∷◌, ◌≡◌, ◌≤◌, none-some, option_and_then_some, same_Some, Err, Ok, Result, Send, is_bare, run_one, MaySend, Chooses, Fails, Machine, Wants, repeated, does, run, Question, recorded, RunsBy, Live, Standing, Turn, live_after, quiet_next, quietly, unless_event, state_of}
 use Rattle.replay.proofs.TurnLemmas.{IsStep, Means, IsWithin, turn_means}
 
 -- A run goes on with these sends, and takes no item and no answer of the allocator, to where it has those; no further than so many instructions.
@@ -13,6 +13,7 @@ pub record Ran (until : ℕ) (old new : Standing) (before after : List Send → 
   pub taken : new.guest.machine.taken ≡ old.guest.machine.taken
   pub allocations : new.guest.machine.allocations ≡ old.guest.machine.allocations
   pub connections : new.guest.machine.connections ≡ old.guest.machine.connections
+  pub sent : (sends : List Send) → length (after sends) + old.sends ≡ length (before sends) + new.sends
   pub bare : is_bare old.guest.heap ≡ true → is_bare new.guest.heap ≡ true
 
 abbrev pub same_sends : List Send → List Send
@@ -30,6 +31,7 @@ ran_same = record {
   taken = refl;
   allocations = refl;
   connections = refl;
+  sent = λ sends. refl;
   bare = λ bare. bare;
 }
 
@@ -43,6 +45,7 @@ ran_step {first = first} {old = old} {new = new} ran low step = record {
   taken = step.keeps.taken ∙ ran.taken;
   allocations = step.keeps.allocations ∙ ran.allocations;
   connections = step.keeps.connections ∙ ran.connections;
+  sent = λ sends. omega (arith, ran.sent sends, step.sent);
   bare = λ bare. step.bare (ran.bare bare);
 }
 
@@ -107,6 +110,7 @@ emits_last {first = first} {old = old} {new = new} {conn = conn} {bytes = bytes}
     taken = means.1.taken ∙ ran.taken;
     allocations = means.1.allocations ∙ ran.allocations;
     connections = means.1.connections ∙ ran.connections;
+    sent = λ sends. omega (arith, ran.sent sends, means.6, length-append sends (record { conn = conn; bytes = bytes; taken = first.guest.machine.taken } ∷ []));
     bare = λ bare. means.5 (ran.bare bare);
   },
   means.4 ∙ lives,
@@ -124,6 +128,7 @@ exits_last {first = first} {old = old} {new = new} ran means low = (
     taken = ap (λ g. g.machine.taken) means.1 ∙ ran.taken;
     allocations = ap (λ g. g.machine.allocations) means.1 ∙ ran.allocations;
     connections = ap (λ g. g.machine.connections) means.1 ∙ ran.connections;
+    sent = λ sends. omega (arith, ran.sent sends, means.4);
     bare = λ bare. ap (λ g. is_bare g.heap) means.1 ∙ ran.bare bare;
   },
   means.3,

@@ -21,7 +21,7 @@ pub use Rattle.replay.specs.declared.player.Player.{Player}
 pub use Rattle.replay.specs.Giving.{AreGiven, AreGivenInPart, BreaksOff, IsLastSend, found_gone, piece_of}
 pub use Rattle.replay.specs.Replaying.{AreAsked, AreOfLines, Differs, Ended, EndsBy, Failed, HasAsk, HasReplayed, HasReplayedBy, IsAsking, IsOfLine, IsReplay, IsUnusable, LeavesLink, LinkAnswers, Replay, Starved, Unanswered, Untaken, Unused, WaitsForItem, WasAsked, bounds_of, choice_by}
 pub use Rattle.replay.specs.Differing.{DiffersBy, HasFilledBy, HasFound, IsApart, IsDifference, IsInputEnd, Never, TellsDifference, WouldDo}
-pub use Rattle.replay.specs.Playing.{AreOpen, AreOpenThen, GoesOnBy, HasCause, HasNoFault, IsBase, IsBetween, IsEnd, IsPlaying, IsSending, IsWaiting, IsWanting, IsWholeEnd, LeavesBy, LinkHears, LinkTurns, Stage, StayOpen, TurnsBy, WaitsBy, has, replay_of, stage_of, state_of}
+pub use Rattle.replay.specs.Playing.{AreOpen, AreOpenThen, GoesOnBy, HasCause, HasNoFault, IsBase, IsBetween, IsEnd, IsPlaying, IsSending, IsWaiting, IsWanting, IsWholeEnd, LeavesBy, LinkHears, LinkTurns, Stage, StayOpen, TurnsBy, UsesBy, WaitsBy, has, replay_of, stage_of, state_of}
 pub use Rattle.replay.specs.Hearing.{HeedsEvent, LogsEvent, answer_of, refusal_answer}
 pub use Rattle.replay.specs.Judging.{ended_apart, judged, left_over, unusable_apart}
 pub use Rattle.replay.specs.Laws.{AreLinesOf, BringsFirst, HadOneStream, HasRoom, HasSession, IsNoMismatch, IsRecordOf, bare_line}

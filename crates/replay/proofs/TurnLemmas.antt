@@ -11,6 +11,7 @@ pub record IsStep (old new : Standing) : Type 0 where
   pub keeps : Keeps old.guest.machine new.guest.machine 1
   pub steps : new.steps ≡ old.steps + 1
   pub ended : new.ended ≡ old.ended
+  pub sent : new.sends ≡ old.sends
   pub bare : is_bare old.guest.heap ≡ true → is_bare new.guest.heap ≡ true
 
 -- what a turn says of the run of the guest, by its question
@@ -21,10 +22,10 @@ Means old (Some question.Asks) new = (new ≡ old) × (does None None old.guest.
 Means old (Some (question.Emits conn bytes)) new =
     ((sends : List Send) → next [] [] (state_of sends old) ≡ Some (state_of (sends ++ record { conn = conn; bytes = bytes; taken = old.guest.machine.taken } ∷ []) new))
     × Keeps old.guest.machine new.guest.machine 1 × MaySend old.guest.machine conn bytes × (new.steps ≡ old.steps + 1) × (new.ended ≡ old.ended)
-    × (is_bare old.guest.heap ≡ true → is_bare new.guest.heap ≡ true)
+    × (is_bare old.guest.heap ≡ true → is_bare new.guest.heap ≡ true) × (new.sends ≡ old.sends + 1)
 Means old (Some (question.Wants ask)) new = (new ≡ old) × (does None None old.guest.machine ≡ Chooses ask)
 Means old (Some (question.Exits code)) new =
-    ((sends : List Send) → next [] [] (state_of sends old) ≡ Some (state_of sends new)) × (new.guest ≡ old.guest) × (new.steps ≡ old.steps + 1) × (new.ended ≡ Some code)
+    ((sends : List Send) → next [] [] (state_of sends old) ≡ Some (state_of sends new)) × (new.guest ≡ old.guest) × (new.steps ≡ old.steps + 1) × (new.ended ≡ Some code) × (new.sends ≡ old.sends)
 Means old (Some (question.Failed cause)) new = (new ≡ old) × (does None None old.guest.machine ≡ Fails cause)
 
 -- a free keeps a heap bare
@@ -47,12 +48,13 @@ turn_by old found heap (Goes m) lives bare acts = record {
   keeps = alone_is old.guest.machine (Goes m) acts (record { no_item = λ h. cc; no_choice = λ ask h. cc });
   steps = refl;
   ended = refl;
+  sent = refl;
   bare = bare;
 }
 turn_by old found heap (Emits conn bytes m) lives bare acts =
     let alone : Alone old.guest.machine (Emits conn bytes m) = alone_is old.guest.machine (Emits conn bytes m) acts (record { no_item = λ h. cc; no_choice = λ ask h. cc }) in
-    (λ sends. next_after [] [] (state_of sends old) (Emits conn bytes m) lives acts, alone.0, alone.1, refl, refl, bare)
-turn_by old found heap (Ends code) lives bare acts = (λ sends. next_after [] [] (state_of sends old) (Ends code) lives acts, refl, refl, refl)
+    (λ sends. next_after [] [] (state_of sends old) (Emits conn bytes m) lives acts, alone.0, alone.1, refl, refl, bare, refl)
+turn_by old found heap (Ends code) lives bare acts = (λ sends. next_after [] [] (state_of sends old) (Ends code) lives acts, refl, refl, refl, refl)
 turn_by old found heap Wants lives bare acts = (refl, acts)
 turn_by old found heap (Chooses ask) lives bare acts = (refl, acts)
 turn_by old found heap (Fails cause) lives bare acts = (refl, acts)

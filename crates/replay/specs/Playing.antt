@@ -1,11 +1,11 @@
 -- What holds while a record is replayed.
-use Rattle.std.specs.Prelude.{◌≡◌, ℕ, ◌+◌, ◌<◌, ◌≤◌, ◌^◌, Bool, true, false, List, [], ◌∷◌, ◌++◌, length, drop, None, Result, Ok, Err, slice_get, unwrap_or, IfOk, IsErrOf, IsSome}
+use Rattle.std.specs.Prelude.{◌≡◌, ℕ, ◌+◌, ◌<◌, ◌≤◌, ◌^◌, Bool, true, false, List, [], ◌∷◌, ◌++◌, length, drop, None, Some, Result, Ok, Err, slice_get, unwrap_or, IfOk, IsErrOf, IsSome}
 use Rattle.rx_io.specs.Faults.{Rose}
 use Rattle.run_history.specs.declared.answer.Answer.TheVariants as answer
-use Rattle.replay.specs.Terms.{Item, Send, Entry, Counts, HasEnded, Open, Phases, Tells, Told, events_in, pieces_in, Seen, Ask, Choice, is_bare, Log, Image, Answer, connections_after, Chooses, State, Wants, does, Standing, items_in, received, KeepsItems, KeepsPhases, Recorded}
+use Rattle.replay.specs.Terms.{Item, Send, Entry, Counts, HasEnded, Open, Phases, Tells, Told, events_in, pieces_in, Seen, Ask, Choice, is_allowed, is_bare, Log, Image, Answer, connections_after, Chooses, State, Wants, does, Standing, items_in, received, KeepsItems, KeepsPhases, chosen_standing, Line, Recorded}
 use Rattle.replay.specs.declared.player.Player.{Player}
 use Rattle.replay.specs.Giving.{found_gone, AreGiven}
-use Rattle.replay.specs.Replaying.{Replay, IsReplay, AreAsked, bounds_of, EndsBy, IsAsking, LeavesLink}
+use Rattle.replay.specs.Replaying.{Replay, IsReplay, AreAsked, bounds_of, choice_by, EndsBy, IsAsking, IsUnusable, LeavesLink}
 
 -- the state of a guest that stands so, and has sent this
 abbrev pub state_of : List Send → Standing → State
@@ -162,6 +162,22 @@ pub record StandsSending (seen : Seen) (conn : ℕ) (bytes : List ℕ) (stage : 
   pub is : IsSending image recorded began seen conn bytes stage
   pub takes : seen.takes ≡ true
   pub gives : seen.gives ≡ true
+
+-- An answer of the allocator was used: the one that the record's next line tells of. C allows it, and the heap stays bare.
+pub record UsesLine (recorded : Recorded) (ask : Ask) (old new : Stage) : Type 0 where
+  pub line : Line
+  pub here : slice_get recorded.lines old.live.guest.machine.allocations ≡ Some line
+  pub allowed : is_allowed old.live.guest.machine.heap_start old.live.guest.machine.heap_end old.live.guest.machine.blocks ask (choice_by ask line) ≡ true
+  pub left : new ≡ record old { live = chosen_standing (choice_by ask line) old.live; choices = old.choices ++ choice_by ask line ∷ [] }
+  pub bare : is_bare new.live.guest.heap ≡ true
+
+-- So it was, or none can be used, or memory ran out; then nothing changed.
+abbrev pub UsesBy : Recorded → Ask → Stage → Stage → Result (Unit {0}) Answer → Type 0
+UsesBy recorded ask old new (Ok done) = UsesLine recorded ask old new
+UsesBy recorded ask old new (Err (answer.Mismatch step)) =
+    (step ≡ old.live.steps) × (new ≡ old) × IsUnusable old.live.guest.machine ask (slice_get recorded.lines old.live.guest.machine.allocations)
+UsesBy recorded ask old new (Err answer.Memory) = new ≡ old
+UsesBy recorded ask old new (Err end) = ⊥
 
 -- No call of the link has failed, and it tells what comes, if it did before; or the replay has ended.
 abbrev pub LeavesBy : Seen → Seen → Result (Unit {0}) Answer → Type 0

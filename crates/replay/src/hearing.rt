@@ -18,8 +18,8 @@ use run_history::Answer;
 // The most events that a session may have.
 const MAX_EVENTS: u64 = 1 << 32;
 
-// A fault of a link as an answer.
-pub(crate) fn answer_to(fault: LinkFault) -> Answer
+/// A fault of a link as an answer.
+pub fn answer_to(fault: LinkFault) -> Answer
     ensures { result ≡ answer_of fault }
 {
     match fault {
@@ -94,8 +94,8 @@ impl Player {
         }
     }
 
-    // Logs and counts an event, where there may be one more.
-    fn note(&mut self, event: &LinkEvent) -> Result<(), Answer>
+    /// Logs and counts an event, where there may be one more.
+    pub fn note(&mut self, event: &LinkEvent) -> Result<(), Answer>
         requires in_order { IsTrue (in_order self.old.log.rests event.now) }
         requires counted { event.now ≢ LinkEvent.Ends }
         ensures logs { LogsEvent event.now (stage_of self.old) (stage_of self.new) result }

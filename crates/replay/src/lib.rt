@@ -20,4 +20,6 @@ mod replaying;
 
 pub use difference::Difference;
 pub use giver::{AnyGiver, Giver};
+pub use hearing::answer_to;
+pub use player::Player;
 pub use replaying::{Filled, fill_by, replay, replay_by};

@@ -9,7 +9,7 @@ ghost use Rattle.elf_image.specs.declared.image.Image.{Image};
 ghost use Rattle.replay.specs.Differing.{DiffersBy, HasFound};
 ghost use Rattle.replay.specs.Giving.{IsLastSend};
 ghost use Rattle.replay.specs.Replaying.{choice_by};
-ghost use Rattle.replay.specs.Playing.{stage_of, IsBetween, IsWaiting, IsWanting, StandsBetween, StandsWaiting, TurnsBy, GoesOnBy, HasNoFault, LinkTurns, LinkHears, CountsSteps};
+ghost use Rattle.replay.specs.Playing.{stage_of, IsBetween, IsWaiting, IsWanting, StandsBetween, StandsWaiting, TurnsBy, GoesOnBy, HasNoFault, LinkTurns, LinkHears, CountsSteps, UsesBy};
 ghost use Rattle.replay.specs.Judging.{ended_apart, judged, left_over, unusable_apart};
 
 use crate::difference::Difference;
@@ -124,8 +124,8 @@ impl Player {
         Ok(())
     }
 
-    // The guest wants an answer to an ask: that of the record's next line is used, if there is one and it can be.
-    fn choose<L: Ledger>(
+    /// The guest wants an answer to an ask: that of the record's next line is used, if there is one and it can be.
+    pub fn choose<L: Ledger>(
         &mut self,
         recorded: &Recorded,
         ask: Ask,
@@ -141,6 +141,7 @@ impl Player {
         ensures differs { DiffersBy (HasFound recorded.now self.new.cpu.slots.live) self.old.difference self.new.difference result }
         ensures steps { CountsSteps steps.old steps.new self.old.cpu.slots.live.steps self.new.cpu.slots.live.steps result }
         ensures no_fault { HasNoFault result }
+        ensures uses { UsesBy recorded.now ask (stage_of self.old) (stage_of self.new) result }
     {
         self.cpu.sound();
         let number = self.cpu.marks().choices;
@@ -160,8 +161,8 @@ impl Player {
         Ok(())
     }
 
-    // What differs at the record's end.
-    fn left_over(&self, recorded: &Recorded) -> Option<Difference>
+    /// What differs at the record's end.
+    pub fn left_over(&self, recorded: &Recorded) -> Option<Difference>
         ensures { result ≡ left_over recorded.now self.now.cpu.slots.live }
     {
         let marks = self.cpu.marks();
@@ -181,8 +182,8 @@ impl Player {
         None
     }
 
-    // What differs where the guest has ended itself with a code.
-    fn ended_apart(&self, recorded: &Recorded, code: u32) -> Option<Difference>
+    /// What differs where the guest has ended itself with a code.
+    pub fn ended_apart(&self, recorded: &Recorded, code: u32) -> Option<Difference>
         ensures { result ≡ ended_apart recorded.now code self.now.cpu.slots.live }
     {
         if self.cpu.marks().steps < recorded.steps {
@@ -191,8 +192,8 @@ impl Player {
         self.left_over(recorded)
     }
 
-    // The guest has come to its end, or to the record's: all was as recorded, or it wasn't.
-    fn judge(&self) -> Answer
+    /// The guest has come to its end, or to the record's: all was as recorded, or it wasn't.
+    pub fn judge(&self) -> Answer
         ensures { result ≡ judged self.now.difference self.now.cpu.slots.live.steps }
     {
         match self.difference {
