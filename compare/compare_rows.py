@@ -1,9 +1,9 @@
 #!/usr/bin/env python3
-"""Sets the second engine beside the rows that the tests of hostile use play.
+"""Sets the second engine beside the rows that the tests of hostile use and of a standby play.
 
-Each row of crates/hostile_tests/src/fault_tests.rt is run by the second engine: the same program, input, record and failing calls. Answer, counts, output and
-both files have to be those of the row; of a port, what each client was given. An edited program is read by the second reader. The second engine knows no
-crowd: rows of several clients at once are passed over.
+Each row of crates/hostile_tests/src/fault_tests.rt and of crates/program_tests/src/standby_tests.rt is run by the second engine: the same program, input,
+record, counts and failing calls. Answer, counts, output and files have to be those of the row; of a port, what each client was given. An edited program is
+read by the second reader. The second engine knows no crowd and no words: rows of several clients at once, and of refused words, are passed over.
 
 usage: compare_rows.py
 """
@@ -18,14 +18,18 @@ sys.path.insert(0, HERE)
 # pylint: disable=wrong-import-position
 import compare_elf  # noqa: E402
 from second import guests  # noqa: E402
-from second.command import convert, replay, run, serve  # noqa: E402
-from second.machine import MIB, executable  # noqa: E402
+from second.assembler import assemble  # noqa: E402
+from second.command import Done, convert, replay, run, serve  # noqa: E402
+from second.machine import Image, MIB, executable  # noqa: E402
 from second.outside import MemoryFiles, MemoryListener, MemorySink, MemorySource  # noqa: E402
 from second.session import Options  # noqa: E402
+from second.takeover import standby  # noqa: E402
 
-ROWS = os.path.join(HERE, "..", "crates", "hostile_tests", "src", "fault_tests.rt")
+ROWS = [os.path.join(HERE, "..", "crates", *path) for path in (("hostile_tests", "src", "fault_tests.rt"), ("program_tests", "src", "standby_tests.rt"))]
 KINDS = {"GaveUp": "GaveUp { point: %d, cause: %s }", "InputRefused": "InputRefused { kind: %d, offset: %d }",
-         "RecordRefused": "RecordRefused { line: %d }"}
+         "RecordRefused": "RecordRefused { line: %d }", "CountsRefused": "CountsRefused { line: %d }", "Short": "Short { conn: %d }",
+         "Mismatch": "Mismatch { step: %d }", "MessageTooLong": "MessageTooLong { conn: %d }", "Exited": "Exited(%d)"}
+LOADED, USUAL_BUDGET = 3, 1000000  # the files of a standby that are loaded, and its budget
 
 
 def bytes_of(text):
@@ -33,8 +37,10 @@ def bytes_of(text):
     return b"".join(bytes.fromhex(word[0]) * int(word[1] if len(word) > 1 else 1) for word in words)
 
 
-def blocks_in(text):
-    """The program's line and the rows of each block."""
+def blocks_in(path):
+    """The program's line and the rows of each block of a file."""
+    with open(path, encoding="utf-8") as file:
+        text = file.read()
     for rows in re.findall(r'r#"(.*?)"#', text, re.DOTALL):
         for block in rows.split("\n\n"):
             program, *rows = [line.strip() for line in block.strip().split("\n")]
@@ -53,6 +59,7 @@ def shown(done):
     answer = KINDS.get(done.answer[0], done.answer[0])
     tail = ", ".join("Choice { ask: Malloc { size: %d }, at: %d, zeroed: %s }" % (c.ask.first, c.at, str(c.zeroed).lower()) for c in done.tail)
     answer = answer % done.answer[1:] if len(done.answer) > 1 else answer
+    answer = re.sub(r"AssertFailed (\d+)", r"AssertFailed(\1)", answer)
     return "%s %d %d [%s] %d %d" % (answer, done.status, done.recorded, tail, done.steps, done.taken)
 
 
@@ -116,6 +123,27 @@ def replayed(program, cells):
     return {"end": shown(done), "out": sink.content, "left": left_in(source), "o": text_of(files, "o")}
 
 
+def program_of(program):
+    """Segments and entry of a guest by its name, or of a text."""
+    return assemble(program.replace("/", "\n")) if "/" in program else guests.program(program)
+
+
+def stood_by(program, cells):
+    """What comes of a row of a second host; or None, where its words are refused. The record, the counts or the program may not be there."""
+    if cells["end"].startswith("BadWords"):
+        return None
+    source, sink = source_of(cells), MemorySink([number(cells, "sink", 0)], number(cells, "gives", 10000))
+    files = MemoryFiles({}, [number(cells, "files", 0) - LOADED])
+    texts = [cells[name].replace("/", "\n").encode() if name in cells else None for name in ("before", "counts")]
+    if None in texts or 0 < number(cells, "files", 0) <= LOADED:
+        done = Done(("FileFault",))
+    else:
+        budget = number(dict(re.findall(r"--(budget) (\d+)", cells["words"])), "budget", USUAL_BUDGET)
+        done = standby(lambda window: Image(*program_of(program), window), *texts, source, sink, budget, files)
+    wrote = bytes_of(cells["wrote"])[:number(cells, "sink", 0) - 1] if "wrote" in cells else None
+    return {"end": shown(done), "out": sink.content, "wrote": wrote is None or sink.content == wrote, "left": left_in(source), "o": text_of(files, "r")}
+
+
 def served(program, cells):
     """What comes of a row of a port."""
     fails = {(name, int(cells[name])) for name in ("accept", "take", "give") if name in cells}
@@ -127,11 +155,18 @@ def served(program, cells):
     return {"end": shown(done), "replies": replies}
 
 
+def how_of(cells):
+    """How a row is played."""
+    if cells.get("words", "").startswith("standby"):
+        return stood_by
+    return served if "clients" in cells else replayed if "kept" in cells or "spoilt" in cells else played
+
+
 def differences(program, cells):
     if "ElfRefused" in cells["end"]:
         refused = compare_elf.refusal(file_of(program, cells))
         return [] if cells["end"] == "ElfRefused(%s) 3 0 [] 0 0" % refused else [("end", refused)]
-    seen = served(program, cells) if "clients" in cells else replayed(program, cells) if "kept" in cells or "spoilt" in cells else played(program, cells)
+    seen = how_of(cells)(program, cells) or {}
     for name in ("out", "left"):
         if name in cells:
             cells[name] = bytes_of(cells[name])
@@ -140,10 +175,8 @@ def differences(program, cells):
 
 
 def main():
-    with open(ROWS, encoding="utf-8") as file:
-        text = file.read()
     agree = wrong = 0
-    for program, rows in blocks_in(text):
+    for program, rows in (block for path in ROWS for block in blocks_in(path)):
         for row in rows:
             for cells in () if "--at-once" in row else each_of(row):
                 found = differences(program, cells)

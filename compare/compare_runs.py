@@ -19,7 +19,7 @@ segment of code or to half of an instruction, load and store across pages, and s
 
 With --self no rx is run: whole sessions of the second engine are checked against what each of them promises, and counted. Every third
 one is diagnosed. With --hosts none is run either: hosts of the second engine are killed within a call, and the next one takes over by the
-report of the one before and by how many bytes each client has; or one stands by, and goes on by the record. rx does neither yet.
+report of the one before and by how many bytes each client has, which rx doesn't do yet; or one stands by, and goes on by the record.
 
 usage: compare_runs.py ((--sessions [--no-files | --no-recovery] | --diagnose) [--wild] [--long] | --code | --self | --hosts) [--no-guard]
                        [--runs N] [--seed N] [RX]

@@ -238,7 +238,7 @@ class Follower(Replay):
     def __init__(self, image, reading, link, budget):
         super().__init__(image, reading.lines, reading.frame, Silent(link))
         self.image, self.link_behind, self.budget = image, link, budget
-        self.shut, self.reading = set(), reading
+        self.shut, self.reading, self.recorded = set(), reading, 0
 
     def take_event(self):
         event = self.link.next()
@@ -316,9 +316,13 @@ class Follower(Replay):
                         self.shut.add(event[1])
                 machine.take(self.items.received[machine.taken])
 
+    def rest_text(self):
+        """What the new record has behind its first line."""
+        return record.choice_lines(self.machine.choices) + record.end_line(self.machine.steps, self.machine.taken)
+
     def left(self):
         machine = self.machine
-        return len(machine.choices), [], machine.steps, machine.taken
+        return self.recorded, machine.choices[self.recorded:], machine.steps, machine.taken
 
 
 def standby(program, of_record, of_counts, source, sink, budget, files):
@@ -341,9 +345,13 @@ def standby(program, of_record, of_counts, source, sink, budget, files):
     try:
         files.start("r")
         files.add("r", record.head_line(reading.window, reading.frame))
-        answer = follower.serve(counts)
-        if answer[0] in ENDS_BEHIND:
-            files.add("r", record.choice_lines(follower.machine.choices) + record.end_line(follower.machine.steps, follower.machine.taken))
     except FileFault:
-        answer = ("FileFault",)
+        return Done(("FileFault",))
+    answer = follower.serve(counts)
+    if answer[0] in ENDS_BEHIND:
+        try:
+            files.add("r", follower.rest_text())
+            follower.recorded = len(follower.machine.choices)
+        except FileFault:
+            answer = ("FileFault",)
     return Done(answer, follower)

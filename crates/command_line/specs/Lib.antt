@@ -8,3 +8,4 @@ pub mod Reading
 pub mod Ranges
 pub mod Help
 pub mod Telling
+pub mod Durable

@@ -90,6 +90,9 @@ guard_row = static_row table.GUARD
 unfoldable pub tell_row : Row
 tell_row = static_row table.TELL
 
+unfoldable pub durable_row : Row
+durable_row = static_row table.DURABLE
+
 unfoldable pub diagnosis_row : Row
 diagnosis_row = static_row diagnose_table.DIAGNOSIS
 

@@ -12,7 +12,7 @@ use crate::accepted::{have_form, name_at, value};
 use crate::matching::{out_of_memory, parser, value_in};
 use crate::options::{CommandName, CommandOf, CommandRow, OptionRow, RowOf, TakesOf};
 use crate::run_words::{
-    BUDGET, EVERY, FORM, FRAME, FRAMES, GUARD, HOLD, PROGRAM, RECORD, REPORT, RING, RunCommand,
+    BUDGET, DURABLE, EVERY, FORM, FRAME, FRAMES, GUARD, HOLD, PROGRAM, RECORD, REPORT, RING, RunCommand,
     TELL, WINDOW, have_names, number_or_zero, recording, report, session_from,
 };
 use clap::{ArgMatches, Error};
@@ -27,8 +27,9 @@ pub const DIAGNOSIS: OptionRow = RowOf {
 };
 
 /// The options of `diagnose`.
-pub const DIAGNOSE_OPTIONS: [OptionRow; 13] = [
+pub const DIAGNOSE_OPTIONS: [OptionRow; 14] = [
     RECORD, REPORT, DIAGNOSIS, FORM, FRAME, WINDOW, HOLD, RING, EVERY, FRAMES, BUDGET, GUARD, TELL,
+    DURABLE,
 ];
 
 /// Runs a program, and tries everything at each failure.

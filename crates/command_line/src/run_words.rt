@@ -128,9 +128,17 @@ pub const TELL: OptionRow = RowOf {
     says: "Whether each recovery is told on standard error as it happens.",
 };
 
+/// Whether the report is written through to the disk at each episode. It is no part of what a session is asked for.
+pub const DURABLE: OptionRow = RowOf {
+    name: "durable",
+    takes: TakesOf::OneOf(&[ON, OFF]),
+    default: Some(OFF),
+    says: "Whether an episode is on the disk before replies that come of it are written.",
+};
+
 /// The options of `run`.
-pub const RUN_OPTIONS: [OptionRow; 12] = [
-    RECORD, REPORT, FORM, FRAME, WINDOW, HOLD, RING, EVERY, FRAMES, BUDGET, GUARD, TELL,
+pub const RUN_OPTIONS: [OptionRow; 13] = [
+    RECORD, REPORT, FORM, FRAME, WINDOW, HOLD, RING, EVERY, FRAMES, BUDGET, GUARD, TELL, DURABLE,
 ];
 
 /// Runs a program.

@@ -12,7 +12,7 @@ use crate::accepted::{have_form, name_at};
 use crate::matching::{out_of_memory, parser, value_in};
 use crate::options::{CommandName, CommandOf, CommandRow, OptionRow, RowOf, TakesOf, takes_value};
 use crate::run_words::{
-    BUDGET, EVERY, FORM, FRAME, FRAMES, GUARD, PROGRAM, RECORD, REPORT, RING, RunCommand, TELL,
+    BUDGET, DURABLE, EVERY, FORM, FRAME, FRAMES, GUARD, PROGRAM, RECORD, REPORT, RING, RunCommand, TELL,
     WINDOW, have_names, number_or_zero, session_from,
 };
 use clap::{ArgMatches, Error};
@@ -57,9 +57,9 @@ pub const AT_ONCE: OptionRow = RowOf {
 pub const SERVE_NUMBERS: [OptionRow; 2] = [PORT, CONNS];
 
 /// The options of `serve`.
-pub const SERVE_OPTIONS: [OptionRow; 13] = [
+pub const SERVE_OPTIONS: [OptionRow; 14] = [
     RECORD, REPORT, FORM, FRAME, WINDOW, RING, EVERY, FRAMES, BUDGET, GUARD, PATIENCE, AT_ONCE,
-    TELL,
+    TELL, DURABLE,
 ];
 
 /// Runs a program for the clients of a port.

@@ -95,15 +95,16 @@ sums_up_here events image counted made link end outcome choices episodes summary
       status_is = knows.status;
     }
 
--- the same with the options that a session has, and with notes that were empty
-pub sums_up : (options : Options) (events : List LinkEvent) (image : Image) (counted : ℕ) (made link : MemoryLink) (end : SessionEnd) (outcome : Outcome) (first_choices choices : List Choice) (first_episodes episodes : List Episode) (summary : Summary)
-    → options ≡ settings → first_choices ≡ [] → first_episodes ≡ [] → Knows events made link end outcome episodes summary
-    → HasRecovered (rules_of options refuses_none) image (keeping_for options) (quiet (seen_in made)) (quiet (seen_in link)) outcome (was_noted first_choices first_episodes) (was_noted choices episodes) counted → SumsUp events image counted summary
-sums_up options events image counted made link end outcome first_choices choices first_episodes episodes summary settled no_choices no_episodes knows recovered =
+-- the same with the rules and the options that a session has, and with notes that were empty
+pub sums_up : (own : Rules) (options : Options) (events : List LinkEvent) (image : Image) (counted : ℕ) (made link : MemoryLink) (end : SessionEnd) (outcome : Outcome) (first_choices choices : List Choice) (first_episodes episodes : List Episode) (summary : Summary)
+    → own ≡ rules_of options refuses_none → options ≡ settings → first_choices ≡ [] → first_episodes ≡ [] → Knows events made link end outcome episodes summary
+    → HasRecovered own image (keeping_for options) (quiet (seen_in made)) (quiet (seen_in link)) outcome (was_noted first_choices first_episodes) (was_noted choices episodes) counted → SumsUp events image counted summary
+sums_up own options events image counted made link end outcome first_choices choices first_episodes episodes summary allowed settled no_choices no_episodes knows recovered =
     sums_up_here events image counted made link end outcome choices episodes summary knows
     (subst (λ (o : Options). HasRecovered (rules_of o refuses_none) image (keeping_for o) (quiet (seen_in made)) (quiet (seen_in link)) outcome nothing_noted (was_noted choices episodes) counted) settled
     (subst (λ (l : List Choice). HasRecovered (rules_of options refuses_none) image (keeping_for options) (quiet (seen_in made)) (quiet (seen_in link)) outcome (was_noted l []) (was_noted choices episodes) counted) no_choices
-    (subst (λ (l : List Episode). HasRecovered (rules_of options refuses_none) image (keeping_for options) (quiet (seen_in made)) (quiet (seen_in link)) outcome (was_noted first_choices l) (was_noted choices episodes) counted) no_episodes recovered)))
+    (subst (λ (l : List Episode). HasRecovered (rules_of options refuses_none) image (keeping_for options) (quiet (seen_in made)) (quiet (seen_in link)) outcome (was_noted first_choices l) (was_noted choices episodes) counted) no_episodes
+    (subst (λ (r : Rules). HasRecovered r image (keeping_for options) (quiet (seen_in made)) (quiet (seen_in link)) outcome (was_noted first_choices first_episodes) (was_noted choices episodes) counted) allowed recovered))))
 
 module _ {R : Type 0} where
   -- a session that was begun is so with what it has itself

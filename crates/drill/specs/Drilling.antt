@@ -39,7 +39,7 @@ pub record SumsUp (events : List LinkEvent) (image : Image) (counted : ℕ) (sum
   -- at Finished every item that was received was taken
   pub takes_all : end ≡ session_end.Finished → telling.account.survivor.now.state.machine.taken ≡ length (items_in rules.bounds (journal_of telling.account))
   -- so many instructions were done: those of the survivors, and those of all trials
-  pub all_counted : counted ≡ all_steps (story_of telling) telling.walk
+  pub all_counted : counted ≡ all_steps rules image (story_of telling) telling.walk
   -- connections still open were passed all that the run emits on them, and none was found gone
   pub passed_all : HasPassedAll rules telling.account
   pub none_gone : list_any (λ (piece : Piece). piece.gone) (pieces_in (journal_of telling.account)) ≡ false

@@ -1,4 +1,5 @@
 // One happy path per form, and what no clause says: that calls succeed, what std does, and interrupted calls.
+use durable_files::{DiskFiles, Through};
 use rx_io::{
     FileCall, Files, IoFault, ListenEntry, Listener, LoadFault, MemoryFiles, MemorySink,
     MemorySource, Sink, Source, StdFiles, StdSink, StdSource, TameFiles, TameListener, TameSink,
@@ -222,6 +223,21 @@ fn the_system_holds_files(rt: HostRuntime) -> Result<(), Fail> {
     fs::remove_file(&rt, "rx_io_long")?;
     assert_eq!(rt; whole.ok().ok_or("not loaded")?.len(), 10_000);
     assert!(rt; matches!(short, Err(LoadFault::TooLarge)));
+    Ok(())
+}
+
+// Files of which two are written through to the disk are files all the same.
+#[test]
+fn the_disk_takes_files(rt: HostRuntime) -> Result<(), Fail> {
+    let alloc = rt.alloc();
+    let through = Through {
+        each: "rx_io_a",
+        first: "rx_io_b",
+    };
+    let files = DiskFiles::make(&rt, alloc, Some(through));
+    use_files(&rt, alloc, files, "rx_io_no_folder/a")?;
+    fs::remove_file(&rt, "rx_io_a")?;
+    fs::remove_file(&rt, "rx_io_b")?;
     Ok(())
 }
 

@@ -61,7 +61,7 @@ const ORDERS: &str = "\
     run --record r --report t p\n\
     run --report t --record r p\n\
     run --hold 0 p --window 4 --record r --ring 8 --report t --budget 1000000\n\
-    run --guard off --budget 1000000 --report t --frames 4 --record r --every 1 p --form text\n";
+    run --guard off --durable on --budget 1000000 --report t --frames 4 --record r --every 1 p --form text\n";
 
 const ACCEPTED: &str = "\
     run --record r --report t p --form json --frame length --window 64 --hold 1000 --ring 16 --every 64 --frames 16 --budget 16777216 --guard block => Some(Run(RunCommand { program: \"p\", recording: \"r\", report: \"t\", form: Json, frame: Length, window: 64, hold: 1000, ring: 16, every: 64, frames: 16, budget: 16777216, guard: Block }))\n\
@@ -94,6 +94,8 @@ const REFUSED_ENDS: &str = "\
     --ring 08\n\
     --ring 17\n\
     --ring 2 --ring 2\n\
+    --durable\n\
+    --durable yes\n\
     --ring\n\
     --ring \n\
     --ring +5\n\
@@ -317,6 +319,7 @@ const RUN_USAGE: &str = "run PROGRAM and in any place, each once:
   --budget 1 to 16777216 (1000000)
   --guard off or extent or block (off)
   --tell auto or on or off (auto)
+  --durable on or off (off)
 ";
 
 const SERVE_USAGE: &str =
@@ -334,6 +337,7 @@ const SERVE_USAGE: &str =
   --patience 0 to 3600 (60)
   --at-once 1 to 256 (1)
   --tell auto or on or off (auto)
+  --durable on or off (off)
 ";
 
 const DIAGNOSE_USAGE: &str = "diagnose PROGRAM and in any place, each once:
@@ -350,6 +354,7 @@ const DIAGNOSE_USAGE: &str = "diagnose PROGRAM and in any place, each once:
   --budget 1 to 16777216 (1000000)
   --guard off or extent or block (off)
   --tell auto or on or off (auto)
+  --durable on or off (off)
 drill SEED (0 to 4294967295) COUNT (1 to 100000)
 frame
 unframe
@@ -403,6 +408,7 @@ const SERVE_HELP: &str = "serve PROGRAM PORT CONNS --record NAME --report NAME [
   --patience 0 to 3600 (60): For how many seconds a client is waited for. With 0 it is without limit.
   --at-once 1 to 256 (1): How many clients are served at the same time. With 1 it is one after another.
   --tell auto or on or off (auto): Whether each recovery is told on standard error as it happens.
+  --durable on or off (off): Whether an episode is on the disk before replies that come of it are written.
 ";
 
 #[test]

@@ -7,3 +7,5 @@ mod command_line_tests;
 mod order_tests;
 #[cfg(test)]
 mod rx_serve_tests;
+#[cfg(test)]
+mod standby_tests;

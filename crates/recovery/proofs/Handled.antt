@@ -1,6 +1,8 @@
 -- Which checkpoints stand: one lemma for each event.
 use Rattle.std.specs.Option.{option_map}
-use Rattle.recovery.proofs.Terms.{Bool, IfSome, List, None, Option, Some, [], ap, append_assoc, arith, cond, drop, false, length, refl, subst, suc, sym, take, true, zero, ℕ, ◌&&◌, ◌++◌, ◌+◌, ◌-◌, ◌<◌, ◌∙◌, ◌∷◌, ◌≡◌, lt-leb, length-map, map-append, same_Some, IsSomeAnd, map, nat_le, replicate, slice_get, sum, Item, Entry, Checkpoint, Checkpoints, checkpoint_of, checkpoints_of, from_newest, has_room, kept, line, saved_in_ring, without_newer, Saved, Slots, with_whole_oldest, count_true, Log, Ledger, Image, base, AsksFor, Override, Path, Served, origin, writes_more, CpuState, standing_of, Standing, Writes, served_on, served_same, served_with, items_in, Chapter, Rules, Survivor, entries_of, chained_at, Recovery, Trial, survivor_in, taken_in, KeepsRing, is_due, is_due_after, AreRinged, AreWritten, HasHandled, HasRing, HasWritten, IsRinged, Keeping, Stand, first_stands, handle, handled, is_far, keeping_by, may_stand, stand_of, stands_of, stay, whole_oldest}
+use Rattle.session_history.specs.Heeding.{Before, nothing_before}
+use Rattle.recovery.specs.Laws.{NoneFollowed}
+use Rattle.recovery.proofs.Terms.{Bool, IfSome, List, None, Option, Some, [], ap, append_assoc, arith, cond, drop, false, length, refl, subst, suc, sym, take, true, zero, ℕ, ◌&&◌, ◌++◌, ◌+◌, ◌-◌, ◌<◌, ◌∙◌, ◌∷◌, ◌≡◌, lt-leb, length-map, map-append, same_Some, IsSomeAnd, map, nat_le, replicate, slice_get, sum, Item, Entry, Checkpoint, Checkpoints, checkpoint_of, checkpoints_of, from_newest, has_room, kept, line, saved_in_ring, without_newer, Saved, Slots, with_whole_oldest, count_true, Log, Ledger, Image, base, AsksFor, Override, Path, Served, origin, writes_more, CpuState, standing_of, Standing, Writes, served_on, served_same, served_with, items_in, Chapter, Rules, Survivor, entries_of, chained_at, start_taken, starting_path, unwrap_or, Recovery, Trial, survivor_in, taken_in, KeepsRing, is_due, is_due_after, AreRinged, AreWritten, HasFollowedRequests, HasHandled, HasRing, HasWritten, IsRinged, Keeping, Stand, handle, handled, is_far, keeping_by, may_stand, stand_of, stands_of, starting_stands, stay, whole_oldest}
 use Rattle.recovery.proofs.Mirrors.{from_map}
 
 -- as slots they have room exactly where they may stand
@@ -120,6 +122,8 @@ pub handled_more : (rules : Rules) (image : Image) (keeping : Keeping) (chapters
     → IfSome (from_newest stands 0) (λ newest. HasWritten rules image entries survivor keeping.pages newest.taken requests written) → next ≡ handle keeping requests written stands
     → HasHandled rules image keeping chapters entries recoveries survivor requests stands → HasHandled rules image keeping chapters entries recoveries survivor (requests + 1) next
 handled_more rules image keeping chapters entries recoveries survivor requests written stands next wrote is h = record {
+  followed = h.followed;
+  before = h.before;
   earlier = h.earlier;
   begun = h.begun;
   rings = h.rings;
@@ -138,6 +142,8 @@ pub handled_on : (rules : Rules) (image : Image) (keeping : Keeping) (chapters :
     → second.plan ≡ first.plan → Served rules.limits (items_in rules.bounds later) second.plan first.now second.now → items_in rules.bounds later ≡ items_in rules.bounds entries ++ more
     → HasHandled rules image keeping chapters entries recoveries first requests stands → HasHandled rules image keeping chapters later recoveries second requests stands
 handled_on rules image keeping chapters entries later more recoveries first second requests stands same plan served grown h = record {
+  followed = h.followed;
+  before = h.before;
   earlier = h.earlier;
   begun = h.begun;
   rings = h.rings;
@@ -149,10 +155,21 @@ handled_on rules image keeping chapters entries later more recoveries first seco
   stands_are = h.stands_are ∙ ap (λ (p : Path). handled keeping p.state.machine.taken h.written h.begun) (sym same);
 }
 
--- the start stands alone
-pub handled_first : (rules : Rules) (image : Image) (keeping : Keeping) (entries : List Entry) (survivor : Survivor) (stands : List Stand) → stands ≡ first_stands keeping
+-- where a session begins stands what the requests before it left
+pub handled_first : (rules : Rules) (image : Image) (keeping : Keeping) (followed : List ℕ) (entries : List Entry) (survivor : Survivor) (stands : List Stand) → HasFollowedRequests rules image keeping followed → stands ≡ starting_stands keeping followed
     → HasHandled rules image keeping [] entries [] survivor survivor.begun.state.machine.taken stands
-handled_first rules image keeping entries survivor stands is = record { earlier = []; begun = first_stands keeping; rings = refl; written = []; many = omega arith; pages = tt; stands_are = is }
+handled_first rules image keeping followed entries survivor stands before is =
+    record { followed = followed; before = before; earlier = []; begun = starting_stands keeping followed; rings = refl; written = []; many = omega arith; pages = tt; stands_are = is }
+
+none_listed : (numbers : List ℕ) → length numbers ≡ 0 → numbers ≡ []
+none_listed [] none = refl
+none_listed (number ∷ numbers) none = absurd (omega (arith, none))
+
+-- with nothing before a session there are none
+pub none_followed : NoneFollowed
+none_followed rules image keeping nothing =
+    let none : (starting_path rules image).state.machine.taken ≡ 0 = ap (λ (before : Before). (unwrap_or before.stood (origin image)).state.machine.taken) nothing ∙ start_taken image (origin image) refl in
+    (record { many = sym none; pages = tt }, λ followed before. none_listed followed (before.many ∙ none))
 
 -- one recovery more
 rings_more : (rules : Rules) (image : Image) (before entries : List Entry) (keeping : Keeping) (from : List Stand) (chapters : List Chapter) (chapter : Chapter) (recoveries : List Recovery) (earlier : List (List ℕ)) (begun next : List Stand) (recovery : Recovery) (written : List ℕ)
@@ -180,9 +197,11 @@ pub handled_adopts : (rules : Rules) (image : Image) (keeping : Keeping) (chapte
     → HasRing stands recovery.ring → survivor_in recovery.trials ≡ Some trial → slice_get recovery.ring index ≡ Some trial.chance.checkpoint → next ≡ without_newer index stands
     → HasHandled rules image keeping (chapters ++ chapter ∷ []) after (recoveries ++ recovery ∷ []) later later.begun.state.machine.taken next
 handled_adopts rules image keeping chapters chapter entries after recoveries recovery later stands next trial index all h ring found place cut = record {
+  followed = h.followed;
+  before = h.before;
   earlier = h.earlier ++ h.written ∷ [];
   begun = next;
-  rings = rings_more rules image [] entries keeping (first_stands keeping) chapters chapter recoveries h.earlier h.begun next recovery h.written all h.rings
+  rings = rings_more rules image [] entries keeping (starting_stands keeping h.followed) chapters chapter recoveries h.earlier h.begun next recovery h.written all h.rings
       (record {
         many = h.many;
         pages = h.pages;

@@ -22,7 +22,7 @@ pub use Rattle.trials.proofs.Chained.{chained_adopt, chained_at, chained_from}
 pub use Rattle.trials.proofs.Going.{Before, Behind, Compared, Equal, compare, steps_later}
 pub use Rattle.trials.proofs.Planned.{env_within, past_request, start_taken, trial_comes, trial_serves}
 pub use Rattle.trials.proofs.Results.{apart_asks_fails, asks_on}
-pub use Rattle.recovery.specs.Terms.{Adds, AllByRecursion, AllocError, AreBetween, AreChained, AreCheckpoints, AreInOrder, AreSendable, AsksFor, Bounds, Carries, Cause, Chance, Chapter, Checkpoint, Checkpoints, Choice, ComesTo, Connection, CoversBefore, CpuState, Entry, Env, Episode, Event, FailsBy, GoesOn, Heap, Image, IsBounded, IsCheckpoint, IsContradicted, IsFeasible, IsInOrder, IsItemOf, IsOpened, IsRecovery, IsRight, IsSendable, IsSilent, IsUnharmed, Item, KeepsItems, KeepsReplies, Ledger, LimitEvents, LimitItems, Limits, Live, Log, Machine, Marks, NotBefore, Override, Passed, Path, Plain, Prefix, Recovery, Rules, RunsWriting, Saved, Send, Served, Shows, ShowsStill, Slots, Standing, State, Survivor, TakesOn, TakesWriting, TooLong, Trial, Tried, Try, Turn, WalksOver, Wants, Writes, adopted, base, begun, chance_at, chances_at, checkpoint_of, checkpoints_of, count_true, discarded, entries_of, env_at, environments, episode_of, events_of, everywhere, from_newest, has_room, heeded, is_left, items_in, kept, limits_of, line, listed, live_after, live_of, marks_of, may_pass, may_send, newest_slot, opens, origin, parts, passed_in, plan_of_trial, planned_next, position_or_len, received, refusal, restored, saved_in_ring, sent_to, standing_of, survives, survivor_in, table, trial_sends, try_of, until, with_live, with_range, with_trial_send, with_whole_oldest, without_newer, without_newer_slots, writes}
+pub use Rattle.recovery.specs.Terms.{Adds, AllByRecursion, AllocError, AreBetween, AreChained, AreCheckpoints, AreInOrder, AreSendable, AsksFor, Bounds, Carries, Cause, Chance, Chapter, Checkpoint, Checkpoints, Choice, ComesTo, Connection, CoversBefore, CpuState, Entry, Env, Episode, Event, FailsBy, GoesOn, Heap, Image, IsBounded, IsCheckpoint, IsContradicted, IsFeasible, IsInOrder, IsItemOf, IsOpened, IsRecovery, IsRight, IsSendable, IsSilent, IsUnharmed, Item, KeepsItems, KeepsReplies, Ledger, LimitEvents, LimitItems, Limits, Live, Log, Machine, Marks, NotBefore, Override, Passed, Path, Plain, Prefix, Recovery, Rules, RunsWriting, Saved, Send, Served, Shows, ShowsStill, Slots, Standing, State, Survivor, TakesOn, TakesWriting, TooLong, Trial, Tried, Try, Turn, WalksOver, Wants, Writes, adopted, base, begun, chance_at, chances_at, checkpoint_of, checkpoints_of, count_true, discarded, entries_of, env_at, environments, episode_of, events_of, everywhere, from_newest, has_room, heeded, is_left, items_in, kept, limits_of, line, listed, live_after, live_of, marks_of, may_pass, may_send, newest_slot, opens, origin, parts, passed_in, plan_of_trial, planned_next, position_or_len, received, refusal, restored, saved_in_ring, sent_to, standing_of, starting_path, survives, survivor_in, table, trial_sends, try_of, until, with_live, with_range, with_trial_send, with_whole_oldest, without_newer, without_newer_slots, writes}
 unfoldable pub use Rattle.recovery.specs.Terms.{agree, connection_of, heeded_behind, is_open, parts_behind, pieces_until, served_next, settled, stamped, stamped_of, stamped_to, stamps_of, start, start_machine, times_of, turn, unpassed, waits}
 pub use Rattle.recovery.specs.declared.recoverable.Recoverable.{Recoverable}
 pub use Rattle.recovery.specs.declared.walking.Adopted.{Adopted}
@@ -35,5 +35,5 @@ pub use Rattle.recovery.specs.Unfinished.{Attempt, BeginsOver}
 pub use Rattle.recovery.specs.Walking.{AdoptedLast, AdoptedOne, AllBy, AreTried, FailedOne, FailedSome, HasBegun, HasSameBytes, IsEpisode, IsMade, IsOfOneRun, LedgerBy, OneBy, WalksBy}
 pub use Rattle.recovery.specs.Rings.{AreBehind, Brings, IsInForce, KeepsRing, SavesIf, is_due, is_due_after, ring_if}
 pub use Rattle.recovery.specs.Recovering.{Adopts, HasAdoptedRun, HasToRecover, KeepsSlots, recovery_of}
-pub use Rattle.recovery.specs.Handling.{AreRinged, AreWritten, HasHandled, HasRing, HasWritten, IsRinged, Keeping, Stand, first_stands, handle, handled, is_far, keeping_by, may_stand, stand_of, stands_of, stay, whole_oldest}
+pub use Rattle.recovery.specs.Handling.{AreRinged, AreWritten, HasFollowedRequests, HasHandled, HasRing, HasWritten, IsRinged, Keeping, Stand, first_stands, handle, handled, is_far, keeping_by, may_stand, stand_of, stands_of, starting_stands, stay, whole_oldest}
 pub use Rattle.recovery.specs.Recoverables.{KeepsHeld, KeepsRest, KeepsUntried}

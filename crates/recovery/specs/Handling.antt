@@ -1,6 +1,6 @@
 -- Which checkpoints stand: what a session makes of the requests of its survivors.
 use Rattle.std.specs.Prelude.{◌≡◌, ℕ, ◌+◌, ◌-◌, ◌<◌, ◌&&◌, Bool, true, false, List, [], ◌∷◌, ◌++◌, length, map, sum, drop, replicate, nat_le, if◌then◌else◌, Option, Some, None, IfSome, option_map, slice_get}
-use Rattle.recovery.specs.Terms.{Entry, from_newest, without_newer, Saved, Slots, count_true, Image, base, AsksFor, Path, Served, origin, Standing, Writes, items_in, Chapter, Rules, Survivor, IsCheckpoint, Recovery, Trial, survivor_in}
+use Rattle.recovery.specs.Terms.{Entry, from_newest, without_newer, Saved, Slots, count_true, Image, base, AsksFor, Path, Served, origin, Standing, Writes, items_in, Chapter, Rules, Survivor, IsCheckpoint, Recovery, Trial, first_survivor, starting_path, survivor_in}
 use Rattle.recovery.specs.Sessions.{taken_in}
 
 -- How a session keeps its checkpoints: how many stand at most, how many items lie between two at least, how many pages the program's window
@@ -103,18 +103,32 @@ AreRinged rules image before keeping from (chapter ∷ chapters) (recovery ∷ r
     × AreRinged rules image (before ++ chapter.entries) keeping next chapters recoveries others last
 AreRinged rules image before keeping from _ _ _ last = ⊥
 
--- each of some recoveries had the ring that the requests before it left, from the start on
+-- The requests of a part that was followed before a session were handled: as many as items were taken there, each with the pages that were written
+-- before it. The numbers are those of pages, the latest first.
+pub record HasFollowedRequests (rules : Rules) (image : Image) (keeping : Keeping) (followed : List ℕ) : Type 0 where
+  pub many : length followed ≡ (starting_path rules image).state.machine.taken
+  pub pages : AreWritten rules image [] (first_survivor rules image) keeping 0 followed (first_stands keeping)
+
+-- what stands where a session begins, behind those requests
+abbrev pub starting_stands : Keeping → List ℕ → List Stand
+starting_stands keeping followed = handled keeping 0 followed (first_stands keeping)
+
+-- each of some recoveries had the ring that the requests before it left, from the start of the run on
 pub record HaveRings (rules : Rules) (image : Image) (keeping : Keeping) (chapters : List Chapter) (recoveries : List Recovery) : Type 0 where
+  pub followed : List ℕ
+  pub before : HasFollowedRequests rules image keeping followed
   pub written : List (List ℕ)
   pub last : List Stand
-  pub rings : AreRinged rules image [] keeping (first_stands keeping) chapters recoveries written last
+  pub rings : AreRinged rules image [] keeping (starting_stands keeping followed) chapters recoveries written last
 
 -- What stands behind some recoveries, where so many requests were made before which the last survivor's were handled: those from where it began.
 -- The entries are all that the journal has.
 pub record HasHandled (rules : Rules) (image : Image) (keeping : Keeping) (chapters : List Chapter) (entries : List Entry) (recoveries : List Recovery) (survivor : Survivor) (requests : ℕ) (stands : List Stand) : Type 0 where
+  pub followed : List ℕ
+  pub before : HasFollowedRequests rules image keeping followed
   pub earlier : List (List ℕ)
   pub begun : List Stand
-  pub rings : AreRinged rules image [] keeping (first_stands keeping) chapters recoveries earlier begun
+  pub rings : AreRinged rules image [] keeping (starting_stands keeping followed) chapters recoveries earlier begun
   pub written : List ℕ
   pub many : survivor.begun.state.machine.taken + length written ≡ requests
   pub pages : AreWritten rules image entries survivor keeping survivor.begun.state.machine.taken written begun

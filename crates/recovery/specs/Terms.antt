@@ -40,13 +40,13 @@ pub use Rattle.guest_cpu.specs.Serving.{Adds, standing_of}
 pub use Rattle.guest_cpu.specs.Standing.{Live, Standing, Turn, live_after, marks_of, with_range}
 unfoldable pub use Rattle.guest_cpu.specs.Standing.{turn}
 pub use Rattle.guest_cpu.specs.Writing.{RunsWriting, TakesWriting, Writes, writes}
-pub use Rattle.session_history.specs.Heeding.{Bounds, LimitEvents, LimitItems, TooLong, events_of, heeded, items_in, received, refusal}
+pub use Rattle.session_history.specs.Heeding.{Bounds, LimitEvents, LimitItems, TooLong, events_of, heeded, items_in, nothing_before, received, refusal}
 unfoldable pub use Rattle.session_history.specs.Heeding.{heeded_behind}
 pub use Rattle.session_history.specs.Keeping.{AreSendable, IsSendable, KeepsItems, KeepsReplies, may_pass}
 pub use Rattle.session_history.specs.Lawful.{Chapter, Rules, Survivor, entries_of}
 pub use Rattle.session_history.specs.Opened.{opens}
 pub use Rattle.session_history.specs.Passing.{AreBetween, AreInOrder, Covers, IsFeasible, passed_in, until}
-pub use Rattle.session_history.specs.Serving.{Carries}
+pub use Rattle.session_history.specs.Serving.{Carries, first_survivor, starting_path}
 pub use Rattle.session_notes.specs.declared.episode.Episode.{Episode}
 pub use Rattle.session_notes.specs.declared.episode.Tried.{Tried}
 pub use Rattle.session_notes.specs.declared.episode.Try.{Try}

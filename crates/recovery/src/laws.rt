@@ -1,5 +1,5 @@
-//! Laws of what a survivor's run fixes, each as the contract of a function that does nothing.
-ghost use Rattle.recovery.specs.Laws.{OneNumber, OneRing, SameNumbers};
+//! Laws of what a survivor's run fixes and of what was followed before it, each as the contract of a function that does nothing.
+ghost use Rattle.recovery.specs.Laws.{NoneFollowed, OneNumber, OneRing, SameNumbers};
 
 /// How many pages a survivor's run wrote from a checkpoint to a request is one number.
 pub fn one_number()
@@ -14,4 +14,9 @@ pub fn one_ring()
 /// So are the numbers of written pages before each of them, where a checkpoint stands at each.
 pub fn same_numbers()
     ensures { SameNumbers }
+{}
+
+/// Where nothing came before a session no request was followed.
+pub fn none_followed()
+    ensures { NoneFollowed }
 {}

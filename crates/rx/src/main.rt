@@ -9,6 +9,7 @@ ghost use Rattle.rx_serve.specs.Status.{status_of};
 mod blame;
 mod descriptors;
 mod differing;
+mod durable;
 mod helping;
 mod message;
 mod outputs;
@@ -19,9 +20,11 @@ mod text_sentences;
 
 use command_line::{Command, asked_help, read_command};
 use descriptors::hold_closed;
+use durable::durable_through;
+use durable_files::{DiskFiles, Through};
 use helping::print_help;
 use outputs::{Objection, find_objection};
-use rx_io::{StdFiles, StdSink, StdSource, Steps};
+use rx_io::{StdSink, StdSource, Steps};
 use rx_serve::{End, run_rx};
 use sentences::{tell, tell_diagnosed, tell_memory, tell_not_utf8, tell_objection};
 use std::alloc::AllocError;
@@ -61,11 +64,12 @@ fn refused_outputs(rt: &HostRuntime, words: &[String]) -> Option<u8> {
     }
 }
 
-// Runs the command of these words over the real streams, files and ports, where a client is waited for so many seconds, and lets a teller know of
-// recoveries.
+// Runs the command of these words over the real streams, files and ports, where some files are written through to the disk and a client is waited for so
+// many seconds, and lets a teller know of recoveries.
 fn run<L: Ledger>(
     rt: &HostRuntime,
     words: &[String],
+    through: Option<Through<'_>>,
     patience: u64,
     teller: &StdTeller<'_>,
     blank: Blank,
@@ -76,7 +80,7 @@ fn run<L: Ledger>(
     ensures { result.status ≡ status_of result.answer }
 {
     let alloc = rt.alloc();
-    let mut files = StdFiles::make(rt, alloc);
+    let mut files = DiskFiles::make(rt, alloc, through);
     let mut input = StdSource::make(rt);
     let mut output = StdSink::make(rt);
     let mut listener = TcpListenerEdge::make(rt, patience);
@@ -119,12 +123,22 @@ fn main(rt: HostRuntime) -> ExitCode {
     if let Some(status) = refused_outputs(&rt, words.as_slice()) {
         return ExitCode::from(status);
     }
-    let Ok(patience) = patience_of(&rt, words.as_slice()) else {
+    let (Ok(patience), Ok(through)) = (
+        patience_of(&rt, words.as_slice()),
+        durable_through(&rt, words.as_slice()),
+    ) else {
         tell_memory(&rt);
         return ExitCode::from(NO_MEMORY);
     };
     let teller = StdTeller::make(&rt, words.as_slice());
-    let end = run::<Brand>(&rt, words.as_slice(), patience, &teller, Blank::new(1));
+    let end = run::<Brand>(
+        &rt,
+        words.as_slice(),
+        through,
+        patience,
+        &teller,
+        Blank::new(1),
+    );
     teller.tell_end(&end);
     if end.status != 0 {
         tell(&rt, end.answer, end.difference, words.as_slice());

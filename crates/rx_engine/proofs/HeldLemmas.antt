@@ -16,7 +16,7 @@ module _ {R : Type 0} where
   -- what a session shows of its fields
   abbrev pub session_of : Inside R → SessionState R
   session_of s =
-      record { options = s.options; cpu = s.held.cpu; ring = s.held.ring; log = s.held.log; replies = s.held.replies; events = s.events; recorded = s.held.recorded; choices = s.held.choices.items; taken = s.taken; steps = s.steps; env = s.env; until = s.until }
+      record { options = s.options; cpu = s.held.cpu; ring = s.held.ring; log = s.held.log; replies = s.held.replies; events = s.events; recorded = s.held.recorded; choices = s.held.choices.items; taken = s.taken; steps = s.steps; env = s.env; until = s.until; before = s.past.before; hold = s.hold }
 
   -- A save leaves items and replies.
   pub saved_as : (inside : Inside R) {new : Recoverable R} → KeepsUnsaved inside.held new → record (session_of inside) { cpu = new.cpu; ring = new.ring } ≡ session_of (record inside { held = new })

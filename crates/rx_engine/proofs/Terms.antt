@@ -12,13 +12,12 @@ pub use Rattle.link_gate.specs.Passing.{CanGive}
 pub use Rattle.recovery.specs.declared.recoverable.Recoverable.{Recoverable}
 pub use Rattle.recovery.specs.Handling.{Stand, alone, handle, is_far, keeping_by, stands_of}
 pub use Rattle.recovery.specs.Rings.{CanSave, KeepsRing, SavesIf, is_due}
-pub use Rattle.session_state.specs.declared.options.Options.{Options}
 pub use Rattle.session_state.proofs.ending.EndLemmas.{end_of, ending_moved, served_off}
 pub use Rattle.session_state.proofs.ending.FaultLemmas.{note_answered}
 pub use Rattle.session_state.proofs.ending.KnownLemmas.{counted_same, known_same, known_then, pass_answer, unnoted_passing, unnoted_stopped}
 pub use Rattle.session_state.proofs.ending.LeavingLemmas.{can_forget_sends, cut_as, cut_short, end_requests, forgot_up, left_by, left_end, left_noting, left_passing, noted_low, noted_up}
 pub use Rattle.session_state.proofs.ending.ServingLemmas.{adopted_serves, answers_broken, answers_finished, asking_notes, chosen_serves, ended_serves, episode_stopped, exited_serves, finish_broken, finish_unnoted_link, finish_well, heard_serves, memory_serves, notes_broken, notes_finished, notes_noted, notes_passing, notes_rest_done, notes_rest_failed, notes_stopped, nothing_passed, noting_serves, passing_serves, serves_may, serves_then, serves_well, stopped_serves, trims_any, trims_cut, trims_on, unnoted_chosen, unnoted_serves}
-pub use Rattle.session_state.proofs.ending.StartLemmas.{HasTurned, begun_keeping, between_under, frame_then, lost_all, lost_counts, lost_then, starts_at, starts_between, starts_counted, starts_giving, starts_none, starts_trimmed}
+pub use Rattle.session_state.proofs.ending.StartLemmas.{HasTurned, between_counted, between_fits, between_lost, between_under, counted_begun, frame_then, lost_all, lost_beside, lost_counts, lost_last, lost_then, served_begun, starts_at, starts_between, starts_giving, starts_none, starts_trimmed, turned_smaller}
 pub use Rattle.session_state.proofs.ending.TurnLemmas.{asks_now, breaks_now, chooses_later, comes_under, emits_later, exits_now, fails_now, fails_under, further_adopted, further_ok, has_run, later_ok, lost_cut, lost_failed, lost_none, ran_frame, ran_keeping, ran_later, ran_low, ran_oldest, ran_saved, run_under}
 pub use Rattle.session_state.proofs.events.HearingLemmas.{HasAwaited, all_taken, cause_then, close_heard, end_heard, ends_by, handled_same, heard_can, heard_closing, heard_last, heard_opened, heard_saved, heard_settled, if_ok, items_heard, items_hearing, moved, one_counted, quiet_event, same_then, settle_heard, stops_by, stops_under, story_heard, waits_closed, waits_due, waits_settled, waits_under}
 pub use Rattle.session_state.proofs.guest.ChoiceLemmas.{ending_few, waits_forgets, waits_forgot, waits_left, waits_unnoted, waits_untold}
@@ -35,8 +34,8 @@ pub use Rattle.session_state.proofs.standing.HeldLemmas.{guest_oldest, held_by, 
 pub use Rattle.session_state.proofs.standing.NeedLemmas.{going_can, going_told, sent_going}
 pub use Rattle.session_state.proofs.standing.StoryLemmas.{still_takes}
 pub use Rattle.session_state.specs.Leaving.{CanForgetSends, HandledAt, HasLeft, IsHandled, IsRecorded, IsTrimmed, LeavesBy, keeping_of}
-pub use Rattle.session_state.specs.Options.{keeping_for, rules_of}
+pub use Rattle.session_state.specs.Options.{AreInRange, rules_in}
 pub use Rattle.session_state.specs.Recovered.{HasWatched}
 pub use Rattle.session_state.specs.Serving.{IsCounted, IsFinishing, IsToldBy, MayServe, StandsClosing, StandsEnding, StandsPassing, StopsBy, TakesBy, TrimsAt, TrimsBy, UnlessBroken, outcome_of, rules_by}
-pub use Rattle.session_state.specs.Sessions.{IsBegun, SessionState}
+pub use Rattle.session_state.specs.Sessions.{SessionState}
 pub use Rattle.session_state.specs.Standing.{HasPassed, IsBetween, IsBrokenOff, IsEnding, IsGoing, IsWaitingFor, Since, Story, entries, moment, sends, then_story, told_since}

@@ -28,15 +28,15 @@ impl<R: AccessRule> Session<R> {
         Ok(())
     }
 
-    /// Passes what is due with the items taken so far.
+    /// Passes what is due with the items taken so far: what was sent with so many fewer taken as its hold is.
     pub(crate) fn pass_due<K: Link>(&mut self, link: &mut K) -> Result<(), Stop>
         requires { StandsPassing (K.seen link.old) self.old }
-        ensures passes { (rules : Rules) (image : Image) (began : Since) (story : Story) → rules.hold ≡ self.old.options.hold → IsToldBy rules image began (K.seen link.old) story self.old → HasPassed rules story self.old.replies
+        ensures passes { (rules : Rules) (image : Image) (began : Since) (story : Story) → rules.hold ≡ self.old.hold → IsToldBy rules image began (K.seen link.old) story self.old → HasPassed rules story self.old.replies
             → PassesDue rules image began (K.seen link.new) story self.new result }
         ensures keeps { KeepsGiving (K.seen link.old) (K.seen link.new) self.old self.new result }
         ensures went { K.Went link.old link.new }
     {
-        match self.taken.checked_sub(u64::from(self.options.hold)) {
+        match self.taken.checked_sub(u64::from(self.hold)) {
             Some(until) => self.pass(link, until),
             None => Ok(()),
         }
@@ -45,7 +45,7 @@ impl<R: AccessRule> Session<R> {
     /// Passes all that was sent to a connection whose close was just heard, unless it is gone, and marks it closed.
     pub(crate) fn close<K: Link>(&mut self, link: &mut K, conn: u16) -> Result<(), Stop>
         requires { StandsClosing (K.seen link.old) conn self.old }
-        ensures passes { (rules : Rules) (image : Image) (began : Since) (story : Story) → rules.hold ≡ self.old.options.hold → IsToldBy rules image began (K.seen link.old) story self.old → IsClosing rules (sends story) (moment story) conn self.old.replies
+        ensures passes { (rules : Rules) (image : Image) (began : Since) (story : Story) → rules.hold ≡ self.old.hold → IsToldBy rules image began (K.seen link.old) story self.old → IsClosing rules (sends story) (moment story) conn self.old.replies
             → PassesDue rules image began (K.seen link.new) story self.new result }
         ensures keeps { KeepsGiving (K.seen link.old) (K.seen link.new) self.old self.new result }
         ensures went { K.Went link.old link.new }

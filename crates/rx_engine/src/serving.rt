@@ -7,7 +7,7 @@ ghost use Rattle.session_history.specs.Answering.{MayBegin};
 ghost use Rattle.session_state.specs.Standing.{Since, IsGoing, IsBetween, IsWaitingFor, IsEnding};
 ghost use Rattle.session_state.specs.Recovered.{HasWatched};
 ghost use Rattle.session_state.specs.Leaving.{keeping_of, IsTrimmed, LeavesBy};
-ghost use Rattle.session_state.specs.Serving.{HasServedLink, Finishes, HasRun, StandsBetween, StandsAsking, StandsHearing, StandsTaking, StandsEmitting, StandsEnding, IsFinishing, ComesBetween, IsReadyToServe, outcome_of, KeepsTurning, KeepsAsking, KeepsReceiving, KeepsItem, KeepsSending, KeepsChoosing, rules_by};
+ghost use Rattle.session_state.specs.Serving.{HasServedLink, HasServedOn, StandsServing, Finishes, HasRun, StandsBetween, StandsAsking, StandsHearing, StandsTaking, StandsEmitting, StandsEnding, IsFinishing, ComesBetween, IsReadyToServe, outcome_of, KeepsTurning, KeepsAsking, KeepsReceiving, KeepsItem, KeepsSending, KeepsChoosing, rules_by};
 
 use crate::Session;
 use crate::giving::answer_to;
@@ -63,6 +63,23 @@ impl<R: AccessRule> Session<R> {
         ensures outside { K.Went link.old link.new × (N.fixed notes.new ≡ N.fixed notes.old) }
     {
         self.save_start();
+        self.serve_on(link, notes, watch, steps)
+    }
+
+    /// Serves a link on from where the session stands between two events of its program, to an end, a fault or want of memory, and answers how it ended, as
+    /// `serve_watched` does. What was counted before isn't counted again.
+    pub fn serve_on<K: Link, N: Notes, W: Watch, L: Ledger>(
+        &mut self,
+        link: &mut K,
+        notes: &mut N,
+        watch: &mut W,
+        steps: &mut Steps<L>,
+    ) -> Answer
+        requires { StandsServing (rules_by R.rule self.old) (K.seen link.old) (N.shown notes.old).told (W.tables watch.old) self.old }
+        ensures served { HasServedOn (rules_by R.rule self.old) (K.seen link.old) (K.seen link.new) (N.shown notes.old) (N.shown notes.new) ((W.ran watch.old + steps.new + self.old.steps) - (W.ran watch.new + steps.old)) (W.tables watch.old) (W.tables watch.new) self.old self.new result }
+        ensures counted_at_least { W.ran watch.new + steps.old + self.new.steps ≤ W.ran watch.old + steps.new + self.old.steps }
+        ensures outside { K.Went link.old link.new × (N.fixed notes.new ≡ N.fixed notes.old) }
+    {
         'turns: loop {
             match self.turn(link, notes, watch, steps) {
                 Ok(()) => {}

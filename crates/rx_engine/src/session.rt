@@ -9,7 +9,7 @@ use block_book::{Choice, Choices};
 use elf_image::Image;
 use guest_space::AccessRule;
 use recovery::{Recoverable, Room};
-use session_state::Options;
+use session_state::{Nothing, Options, Past};
 use std::alloc::{AllocError, Global};
 use std::marker::Model;
 
@@ -23,6 +23,8 @@ pub struct Session<R: AccessRule> {
     pub(crate) steps: u64,
     pub(crate) env: Env,
     pub(crate) until: u64,
+    pub(crate) past: Past,
+    pub(crate) hold: u32,
 }
 
 impl<R: AccessRule> Model for Session<R> {
@@ -31,7 +33,7 @@ impl<R: AccessRule> Model for Session<R> {
 
     ghost Value = { SessionState R };
 
-    ghost view = { λ s. record { options = s.options; cpu = s.held.cpu; ring = s.held.ring; log = s.held.log; replies = s.held.replies; events = s.events; recorded = s.held.recorded; choices = s.held.choices.items; taken = s.taken; steps = s.steps; env = s.env; until = s.until } };
+    ghost view = { λ s. record { options = s.options; cpu = s.held.cpu; ring = s.held.ring; log = s.held.log; replies = s.held.replies; events = s.events; recorded = s.held.recorded; choices = s.held.choices.items; taken = s.taken; steps = s.steps; env = s.env; until = s.until; before = s.past.before; hold = s.hold } };
 
     ghost invariant = { λ s. AreInRange s.options };
 }
@@ -63,6 +65,8 @@ impl<R: AccessRule + Drop> Session<R> {
             steps: 0,
             env: Env::Plain,
             until: 0,
+            past: Past::of(&Nothing),
+            hold: options.hold,
         })
     }
 

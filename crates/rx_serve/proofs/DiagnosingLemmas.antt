@@ -1,7 +1,8 @@
 -- What `diagnose` leaves, from what its parts leave.
 use Rattle.std.specs.Prelude.{true, false}
 use Rattle.file_notes.proofs.BesideLemmas.{beside_here, beside_of, beside_other, beside_told, stands_beside, writes_beside}
-use Rattle.rx_serve.proofs.Terms.{Bool, List, None, Ok, Option, Some, [], ap, append-nil, arith, inl, inr, length, refl, subst, suc, sym, take, ℕ, ◌++◌, ◌∙◌, ◌∷◌, ◌≡◌, ◌≤◌, same_Some, Err, MatchOption, if◌then◌else◌, option_map, ◌≢◌, ◌⊎◌, IoFault, FileCall, Calls, HasCause, Contents, Stream, Choice, Heap, Image, Answer, Stop, holds_at_end, IsEnd, answer_of, Rules, Episode, Try, NoteList, list_episodes, NoneFailed, noted, Keeping, TellsMore, diagnosis_text, head_text, rest_text, calls_then, front_behind, IsThird, StandsBeside, AddsAlone, CallsFront, starts_of, Left, unnoted_of, Stands, all_kept, keeping_for, rules_of, AreAllTables, Outcome, story_of, IsBegun, SessionState, WatchesTrunk, BeginWith, NotedTablesAreTold, DiagnoseValue, RunValue, End, HasFaults, Outside, faults, outside, HasImage, status_of, options_of, rule_of, rules_of_run, window_of, Route, Trunk, ClosesFiles, IsFilesAnswer, ServesNoted, StartsFiles, WatchesNoted, names_of, report_form, CallsEnding, CallsServed, before_session, CallsClosing, CallsDiagnosed, ClosesDiagnosis, HasDiagnosed, HasDiagnosis, HasText, IsKept, StartsDiagnosis, before_diagnosed}
+use Rattle.rx_serve.proofs.Terms.{Bool, List, None, Ok, Option, Some, [], ap, append-nil, arith, inl, inr, length, refl, subst, suc, sym, take, ℕ, ◌++◌, ◌∙◌, ◌∷◌, ◌≡◌, ◌≤◌, same_Some, Err, MatchOption, if◌then◌else◌, option_map, ◌≢◌, ◌⊎◌, IoFault, FileCall, Calls, HasCause, Contents, Stream, Choice, Heap, Image, Answer, Stop, holds_at_end, IsEnd, answer_of, Rules, Episode, Try, NoteList, list_episodes, NoneFailed, noted, Keeping, TellsMore, diagnosis_text, head_text, rest_text, calls_then, front_behind, IsThird, StandsBeside, AddsAlone, CallsFront, starts_of, Left, unnoted_of, Stands, all_kept, keeping_for, AreAllTables, Outcome, story_of, IsBegun, SessionState, WatchesTrunk, BeginWith, NotedTablesAreTold, DiagnoseValue, RunValue, End, HasFaults, Outside, faults, outside, HasImage, status_of, options_of, rule_of, rules_of_run, window_of, Route, Trunk, ClosesFiles, IsFilesAnswer, ServesNoted, StartsFiles, WatchesNoted, names_of, report_form, CallsEnding, CallsServed, before_session, CallsClosing, CallsDiagnosed, ClosesDiagnosis, HasDiagnosed, HasDiagnosis, HasText, IsKept, StartsDiagnosis, before_diagnosed}
+use Rattle.session_state.specs.Serving.{rules_by}
 use Rattle.rx_serve.proofs.NotingLemmas.{closes_same}
 use Rattle.rx_serve.proofs.RouteLemmas.{to_trunk}
 use Rattle.rx_io.specs.declared.fault.IoFault.TheVariants as fault
@@ -261,7 +262,7 @@ module _ {R : Type 0} where
       {image : Image} {rule : R} {session : SessionState R} (end : End) (why : Stop) {stopped ended answer : Answer} {recorded : ℕ} {tail : List Choice} {taken counted taken_told counted_told : ℕ} {tables_before tables tables_told : List (List Try)} (kept : Option NoteList)
       → own ≤ steps_now → permits rule ≡ rule_of value.session.guard → HasImage files value.session.program (window_of value.session) image → IsBegun image (options_of value.session) rule session
       → StartsFiles value.session files started (Ok tt) → StartsDiagnosis value started headed (Ok tt) → tables_before ≡ [] → tables_told ≡ tables
-      → (w : WatchesNoted (rules_of session.options (permits session.cpu.rule)) (keeping_for session.options) image value.session (Trunk input input_now output output_now) (outside headed calls_headed input output steps) (outside served calls_served input_now output_now own) (record { stop = why; recorded = recorded; tail = tail; taken = taken; steps = counted }) (Some tables_before) (Some tables))
+      → (w : WatchesNoted (rules_by permits session) (keeping_for session.options) image value.session (Trunk input input_now output output_now) (outside headed calls_headed input output steps) (outside served calls_served input_now output_now own) (record { stop = why; recorded = recorded; tail = tail; taken = taken; steps = counted }) (Some tables_before) (Some tables))
       × IsKept kept w.noted.episodes
       → taken_told ≡ taken → counted_told ≡ counted → stopped ≡ answer_of why → ClosesFiles value.session taken_told counted_told served noted_then stopped ended
       → ((episodes : List Episode) → IsKept kept episodes → ClosesDiagnosis value episodes tables_told noted_then now ended answer)
@@ -271,7 +272,7 @@ module _ {R : Type 0} where
       → HasDiagnosed value (outside files calls input output steps) (outside now calls_now input_now output_now steps_now) end
   diagnosed law permits value third files started headed served noted_then now calls calls_started calls_headed calls_served calls_noted calls_now input input_now output output_now steps steps_now own {image = image} {rule = rule} {session = session} end why {stopped = stopped} {ended = ended} {answer = answer} {recorded = recorded} {tail = tail} {taken = taken} {counted = counted} {taken_told = taken_told} {counted_told = counted_told} {tables_before = tables_before} {tables = tables} {tables_told = tables_told}
       kept less own_rule program begun starts writes none_before tables_are w same_taken same_counted stopped_is closes closing one two adds ends closing_calls answered recorded_is tail_is taken_is steps_is =
-      let Noted : List (List Try) → Type 0 = λ before. (w : WatchesNoted (rules_of session.options (permits session.cpu.rule)) (keeping_for session.options) image value.session (Trunk input input_now output output_now) (outside headed calls_headed input output steps) (outside served calls_served input_now output_now own) (record { stop = why; recorded = recorded; tail = tail; taken = taken; steps = counted }) (Some before) (Some tables)) × IsKept kept w.noted.episodes in
+      let Noted : List (List Try) → Type 0 = λ before. (w : WatchesNoted (rules_by permits session) (keeping_for session.options) image value.session (Trunk input input_now output output_now) (outside headed calls_headed input output steps) (outside served calls_served input_now output_now own) (record { stop = why; recorded = recorded; tail = tail; taken = taken; steps = counted }) (Some before) (Some tables)) × IsKept kept w.noted.episodes in
       let (w_now, is_kept) = subst Noted none_before w in
       let s = w_now.noted in
       let moved = watched_beside value third (outside headed calls_headed input output steps) (outside served calls_served input_now output_now own) started headed served writes w_now in

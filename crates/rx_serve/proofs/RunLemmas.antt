@@ -1,8 +1,9 @@
 -- What `run` leaves, from what its parts leave.
 use Rattle.run_history.specs.declared.answer.Answer.TheVariants as answer
 use Rattle.rx_io.specs.declared.fault.IoFault.TheVariants as fault
-use Rattle.session_state.specs.Serving.{IsReadyToServe}
-use Rattle.rx_serve.proofs.Terms.{Bool, List, None, Ok, Option, ap, arith, inl, inr, refl, subst, sym, ℕ, ◌+◌, ◌<◌, ◌^◌, ◌∙◌, ◌≡◌, ◌≤◌, Err, IoFault, FileCall, Rose, Contents, Choice, Heap, Image, Answer, Stop, answer_of, Rules, Try, Keeping, TellsMore, MAX_TAKEN, CallsFront, Options, AreInRange, keeping_for, rules_of, AreAllTables, Outcome, story_of, IsBegun, SessionState, RunValue, End, IsUntouched, Outside, HasImage, HasLoadCause, options_of, rule_of, rules_of_run, window_of, HasNoSession, Route, ClosesFiles, IsFilesAnswer, ServesNoted, StartsFiles, WatchesNoted, CallsServed, before_session, HasBegun, StartsPartly, HasNotBegun, HasServed}
+use Rattle.session_state.proofs.ending.StartLemmas.{begun_rules}
+use Rattle.session_state.specs.Serving.{IsReadyToServe, rules_by}
+use Rattle.rx_serve.proofs.Terms.{Bool, List, None, Ok, Option, arith, inl, inr, refl, subst, sym, ℕ, ◌+◌, ◌<◌, ◌^◌, ◌∙◌, ◌≡◌, ◌≤◌, Err, IoFault, FileCall, Rose, Contents, Choice, Heap, Image, Answer, Stop, answer_of, Rules, Try, Keeping, TellsMore, MAX_TAKEN, CallsFront, Options, AreInRange, keeping_for, rules_of, AreAllTables, Outcome, story_of, IsBegun, SessionState, RunValue, End, IsUntouched, Outside, HasImage, HasLoadCause, options_of, rule_of, rules_of_run, window_of, HasNoSession, Route, ClosesFiles, IsFilesAnswer, ServesNoted, StartsFiles, WatchesNoted, CallsServed, before_session, HasBegun, StartsPartly, HasNotBegun, HasServed}
 use Rattle.rx_serve.proofs.GuardLemmas.{keeps_to_blocks}
 use Rattle.rx_serve.proofs.HeadlineLemmas.{headline}
 use Rattle.rx_serve.proofs.NotingLemmas.{closes_same, closes_whole, few_counts, whole_at}
@@ -119,21 +120,20 @@ module _ {R : Type 0} where
   pub run_ends : (permits : R → Heap → ℕ → ℕ → Bool) (value : RunValue) (route : Route) (old new : Outside) (started served : Option Contents) (calls calls_later : Option (List FileCall)) {image : Image} (options : Options) {rule : R} {session : SessionState R}
       (end : End) (why : Stop) {answer : Answer} {recorded : ℕ} {tail : List Choice} {taken steps taken_told steps_told : ℕ} {tables_before tables : Option (List (List Try))} → permits rule ≡ rule_of value.guard → options ≡ options_of value → HasImage old.files value.program options.window image → IsBegun image options rule session
       → StartsFiles value old.files started (Ok tt)
-      → (noted_now : WatchesNoted (rules_of session.options (permits session.cpu.rule)) (keeping_for session.options) image value route (record old { files = started; calls = calls }) (record new { files = served; calls = calls_later }) (record { stop = why; recorded = recorded; tail = tail; taken = taken; steps = steps }) tables_before tables)
+      → (noted_now : WatchesNoted (rules_by permits session) (keeping_for session.options) image value route (record old { files = started; calls = calls }) (record new { files = served; calls = calls_later }) (record { stop = why; recorded = recorded; tail = tail; taken = taken; steps = steps }) tables_before tables)
       → taken_told ≡ taken → steps_told ≡ steps → ClosesFiles value taken_told steps_told served new.files (answer_of why) answer → CallsServed value old.calls new.calls (answer_of why) answer
       → end.answer ≡ answer → end.recorded ≡ recorded → end.tail ≡ tail → end.taken ≡ taken → end.steps ≡ steps → (served : HasServed value route old new end) × (TablesTold value served tables_before tables × ((served.noted.episodes ≡ noted_now.noted.episodes) × (served.why ≡ why)))
   run_ends permits value route old new started served calls calls_later {image = image} options {rule = rule} {session = session} end why {answer = answer} {recorded = recorded} {tail = tail} {taken = taken} {steps = steps} {taken_told = taken_told} {steps_told = steps_told} {tables_before = tables_before} {tables = tables} own is program begun starts serves same_taken same_steps closes called answered recorded_is tail_is taken_is steps_is =
       let settings : session.options ≡ options_of value = begun.options_are ∙ is in
-      let Rule : Type 0 = Heap → ℕ → ℕ → Bool in
-      let Noted : Options → Rule → Outcome → Type 0 = λ o rule outcome. (w : WatchesNoted (rules_of o rule) (keeping_for o) image value route (record old { files = started }) (record new { files = served }) outcome tables_before tables) × (w.noted.episodes ≡ serves.noted.episodes) in
-      let rule_is : permits session.cpu.rule ≡ rule_of value.guard = ap permits begun.cpu.rule_is ∙ own in
+      let Noted : Rules → Keeping → Outcome → Type 0 = λ rules keeping outcome. (w : WatchesNoted rules keeping image value route (record old { files = started }) (record new { files = served }) outcome tables_before tables) × (w.noted.episodes ≡ serves.noted.episodes) in
+      let allowed : rules_by permits session ≡ rules_of_run value = begun_rules permits begun ∙ (λ i. rules_of (is i) (own i)) in
       let outcome : Outcome = record { stop = why; recorded = recorded; tail = tail; taken = taken; steps = steps } in
       let same : outcome ≡ record { stop = why; recorded = end.recorded; tail = end.tail; taken = end.taken; steps = end.steps } =
       λ i. record { stop = why; recorded = (sym recorded_is) i; tail = (sym tail_is) i; taken = (sym taken_is) i; steps = (sym steps_is) i } in
       let both =
-      subst (Noted (options_of value) (rule_of value.guard)) same
-      (subst (λ rule. Noted (options_of value) rule outcome) rule_is
-      (subst (λ o. Noted o (permits session.cpu.rule) outcome) settings (watched_of value route old new started served calls calls_later outcome serves, refl))) in
+      subst (Noted (rules_of_run value) (keeping_for (options_of value))) same
+      (subst (λ rules. Noted rules (keeping_for (options_of value)) outcome) allowed
+      (subst (λ o. Noted (rules_by permits session) (keeping_for o) outcome) settings (watched_of value route old new started served calls calls_later outcome serves, refl))) in
       let watched = both.0 in
       let closed : ClosesFiles value end.taken end.steps served new.files (answer_of why) end.answer =
       subst (λ a. ClosesFiles value end.taken end.steps served new.files (answer_of why) a) (sym answered)
@@ -159,6 +159,8 @@ module _ {R : Type 0} where
   -- how many items were taken, and how many instructions done, fit into a record
   pub counts_fit : (permits : R → Heap → ℕ → ℕ → Bool) {value : RunValue} {route : Route} {old new : Outside} {image : Image} (options : Options) {rule : R} {session : SessionState R} {outcome : Outcome}
       → AreInRange options → IsBegun image options rule session
-      → ServesNoted (rules_of session.options (permits session.cpu.rule)) (keeping_for session.options) image value route old new outcome
+      → ServesNoted (rules_by permits session) (keeping_for session.options) image value route old new outcome
       → (outcome.taken ≤ MAX_TAKEN) × (outcome.steps < 2 ^ 63)
-  counts_fit permits options {session = session} ranges begun serves = few_counts session.options (subst AreInRange (sym begun.options_are) ranges) (permits session.cpu.rule) serves
+  counts_fit permits {value = value} {route = route} {old = old} {new = new} {image = image} options {rule = rule} {session = session} {outcome = outcome} ranges begun serves =
+      few_counts session.options (subst AreInRange (sym begun.options_are) ranges) (permits session.cpu.rule)
+      (subst (λ (rules : Rules). ServesNoted rules (keeping_for session.options) image value route old new outcome) (begun_rules permits (begun_own image options rule session begun)) serves)

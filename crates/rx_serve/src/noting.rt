@@ -6,7 +6,7 @@ ghost use Rattle.command_line.specs.Ranges.{AreInRange};
 ghost use Rattle.elf_image.specs.declared.image.Image.{Image};
 ghost use Rattle.file_notes.specs.Calling.{AddsAlone, CallsUpTo, starting};
 ghost use Rattle.file_notes.specs.Names.{AreTwo};
-ghost use Rattle.session_state.specs.Options.{rules_of, keeping_for};
+ghost use Rattle.session_state.specs.Options.{keeping_for};
 ghost use Rattle.session_state.specs.Serving.{IsReadyToServe, outcome_of};
 ghost use Rattle.session_state.specs.Sessions.{IsBegun};
 ghost use Rattle.rx_io.specs.Faults.{Rose, HasCause};
@@ -125,7 +125,7 @@ pub(crate) fn serve_noted<
     requires two { AreTwo (names_of (run_shown run.now)) }
     requires begun { IsReadyToServe session.old }
     ensures serves { (why : Stop) × (result ≡ answer_of why) × ((image : Image) (own : ℕ) → IsBegun image session.old.options session.old.cpu.rule session.old → own + W.ran watch.new ≡ W.ran watch.old + steps.new
-        → WatchesNoted (rules_of session.old.options (R.rule session.old.cpu.rule)) (keeping_for session.old.options) image (run_shown run.now) (Trunk (S.told input.old) (S.told input.new) (K.told output.old) (K.told output.new)) (outside (F.told files.old) (F.calls files.old) (S.told input.old) (K.told output.old) steps.old) (outside (F.told files.new) (F.calls files.new) (S.told input.new) (K.told output.new) own) (outcome_of why session.new) (W.tables watch.old) (W.tables watch.new)) }
+        → WatchesNoted (rules_by R.rule session.old) (keeping_for session.old.options) image (run_shown run.now) (Trunk (S.told input.old) (S.told input.new) (K.told output.old) (K.told output.new)) (outside (F.told files.old) (F.calls files.old) (S.told input.old) (K.told output.old) steps.old) (outside (F.told files.new) (F.calls files.new) (S.told input.new) (K.told output.new) own) (outcome_of why session.new) (W.tables watch.old) (W.tables watch.new)) }
     ensures adds { AddsAlone (names_of (run_shown run.now)) (F.calls files.old) (F.calls files.new) }
     ensures later { F.faults files.old ≤ F.faults files.new }
     ensures faults { HasFaults (faults (F.faults files.old) (S.faults input.old) (K.faults output.old)) (faults (F.faults files.new) (S.faults input.new) (K.faults output.new)) result }
@@ -208,7 +208,7 @@ pub(crate) fn serve_kept<
     requires two { AreTwo (names_of (run_shown run.now)) }
     requires begun { IsReadyToServe session.old }
     ensures serves { (why : Stop) × (result.answer ≡ answer_of why) × ((image : Image) (own : ℕ) → IsBegun image session.old.options session.old.cpu.rule session.old → own + W.ran watch.new ≡ W.ran watch.old + steps.new
-        → (w : WatchesNoted (rules_of session.old.options (R.rule session.old.cpu.rule)) (keeping_for session.old.options) image (run_shown run.now) (Trunk (S.told input.old) (S.told input.new) (K.told output.old) (K.told output.new)) (outside (F.told files.old) (F.calls files.old) (S.told input.old) (K.told output.old) steps.old) (outside (F.told files.new) (F.calls files.new) (S.told input.new) (K.told output.new) own) (outcome_of why session.new) (W.tables watch.old) (W.tables watch.new)) × IsKept result.episodes w.noted.episodes) }
+        → (w : WatchesNoted (rules_by R.rule session.old) (keeping_for session.old.options) image (run_shown run.now) (Trunk (S.told input.old) (S.told input.new) (K.told output.old) (K.told output.new)) (outside (F.told files.old) (F.calls files.old) (S.told input.old) (K.told output.old) steps.old) (outside (F.told files.new) (F.calls files.new) (S.told input.new) (K.told output.new) own) (outcome_of why session.new) (W.tables watch.old) (W.tables watch.new)) × IsKept result.episodes w.noted.episodes) }
     ensures adds { AddsAlone (names_of (run_shown run.now)) (F.calls files.old) (F.calls files.new) }
     ensures later { F.faults files.old ≤ F.faults files.new }
     ensures faults { HasFaults (faults (F.faults files.old) (S.faults input.old) (K.faults output.old)) (faults (F.faults files.new) (S.faults input.new) (K.faults output.new)) result.answer }

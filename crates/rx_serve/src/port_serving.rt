@@ -9,8 +9,8 @@ ghost use Rattle.port_link.specs.Standing.{IsJustBound};
 ghost use Rattle.rx_io.specs.Outside.{Stream};
 ghost use Rattle.session_history.specs.Ends.{answer_of};
 ghost use Rattle.session_history.specs.declared.ends.Stop.{Stop};
-ghost use Rattle.session_state.specs.Options.{rules_of, keeping_for};
-ghost use Rattle.session_state.specs.Serving.{IsReadyToServe, outcome_of};
+ghost use Rattle.session_state.specs.Options.{keeping_for};
+ghost use Rattle.session_state.specs.Serving.{IsReadyToServe, outcome_of, rules_by};
 ghost use Rattle.session_state.specs.Sessions.{IsBegun};
 ghost use Rattle.rx_serve.specs.Noting.{names_of, ServesNoted};
 ghost use Rattle.rx_serve.specs.Outside.{outside, faults, HasFaults};
@@ -59,7 +59,7 @@ fn serve_port_noted<R: AccessRule, F: Files, E: Listener, T: Teller, L: Ledger>(
     requires conns { (1 ≤ serve.now.conns) × (serve.now.conns ≤ 4096) }
     requires bound { IsJustBound (E.told listener.old) }
     ensures serves { (input : Option Stream) (output : Option (List ℕ)) → (why : Stop) × (result ≡ answer_of why) × ((image : Image) → IsBegun image session.old.options session.old.cpu.rule session.old
-        → ServesNoted (rules_of session.old.options (R.rule session.old.cpu.rule)) (keeping_for session.old.options) image (run_shown serve.now.session) (Port serve.now.conns (E.told listener.old) (E.told listener.new)) (outside (F.told files.old) (F.calls files.old) input output steps.old) (outside (F.told files.new) (F.calls files.new) input output steps.new) (outcome_of why session.new)) }
+        → ServesNoted (rules_by R.rule session.old) (keeping_for session.old.options) image (run_shown serve.now.session) (Port serve.now.conns (E.told listener.old) (E.told listener.new)) (outside (F.told files.old) (F.calls files.old) input output steps.old) (outside (F.told files.new) (F.calls files.new) input output steps.new) (outcome_of why session.new)) }
     ensures adds { AddsAlone (names_of (run_shown serve.now.session)) (F.calls files.old) (F.calls files.new) }
     ensures later { F.faults files.old ≤ F.faults files.new }
     ensures fixed { E.fixed listener.new ≡ E.fixed listener.old }

@@ -7,7 +7,7 @@ use Rattle.std.proofs.lemmas.List.{append-nil}
 use Rattle.std.proofs.lemmas.List.Elements.{All-cons, All-nil}
 use Rattle.trials.specs.Failing.{session_at, HasFailed}
 use Rattle.trials.proofs.Failed.{failures_have_accounts, of_survivor}
-use Rattle.session_state.proofs.Terms.{List, None, Option, Some, [], ap, arith, inl, inr, length, length-append, map, refl, subst, sym, ℕ, ◌++◌, ◌<◌, ◌∙◌, ◌∷◌, ◌≡◌, map-append, All, MatchOption, Entry, Coming, Choice, Image, SessionEnd, Stop, entries_of-then, Session, journal_of, EndsBy, HasNoEnding, Chapter, Rules, Survivor, entries_of, IsSoundBefore, first_survivor, Episode, Unnoted, AreRecovered, Recovery, adopted_by, episode_of, survivor_in, AreRinged, HaveRings, Keeping, Stand, first_stands, GivesUpBy, HasGivenUp, HasNothingBehind, IsHandedLast, IsNoteStop, IsTelling, Telling, Walk, episodes_of, story_of, walk_behind}
+use Rattle.session_state.proofs.Terms.{List, None, Option, Some, [], ap, arith, inl, inr, length, length-append, map, refl, subst, sym, ℕ, ◌++◌, ◌<◌, ◌∙◌, ◌∷◌, ◌≡◌, map-append, All, MatchOption, Entry, Coming, Choice, Image, SessionEnd, Stop, entries_of-then, Session, journal_of, EndsBy, HasNoEnding, Chapter, Rules, Survivor, entries_of, IsSoundBefore, first_survivor, Episode, Unnoted, AreRecovered, Recovery, adopted_by, episode_of, survivor_in, AreRinged, HaveRings, Keeping, Stand, starting_stands, GivesUpBy, HasGivenUp, HasNothingBehind, IsHandedLast, IsNoteStop, IsTelling, Telling, Walk, episodes_of, story_of, walk_behind}
 use Rattle.session_state.specs.Noted.{IsNext, TellsNoted, NotedIsTold}
 
 -- ---- lists by their last element
@@ -99,7 +99,7 @@ lacks_recovery rules image keeping coming session why told episode front chapter
     let last = same_last told (map episode_of found.before) episode (episode_of found.recovery) (all ∙ ap (map episode_of) recoveries ∙ map-append episode_of found.before (found.recovery ∷ [])) in
     let moved = subst (λ (chapters : List Chapter). HaveRings rules image keeping chapters session.recoveries) split is.ringed in
     let ringed : HaveRings rules image keeping (front ++ chapter ∷ []) (found.before ++ found.recovery ∷ []) = subst (λ (rs : List Recovery). HaveRings rules image keeping (front ++ chapter ∷ []) rs) recoveries moved in
-    let rings = first_rings rules image [] keeping (first_stands keeping) front (chapter ∷ []) found.before (found.recovery ∷ []) ringed.written ringed.last fewer ringed.rings in
+    let rings = first_rings rules image [] keeping (starting_stands keeping ringed.followed) front (chapter ∷ []) found.before (found.recovery ∷ []) ringed.written ringed.last fewer ringed.rings in
     let telling : Telling = without front chapter found.before in
     let next : IsNext rules image (story_of telling) episode = record { recovery = found.recovery; survivor = found.survivor; is = found.is; episode_is = last.1 } in (
       telling,
@@ -107,7 +107,7 @@ lacks_recovery rules image keeping coming session why told episode front chapter
         is = record {
           ended = record { account = found.account; comes = tt; pieces = tt; ends = ends_noting rules (session_at front chapter) why stops };
           recovered = found.recovered;
-          ringed = record { written = rings.written; last = rings.last; rings = rings.rings };
+          ringed = record { followed = ringed.followed; before = ringed.before; written = rings.written; last = rings.last; rings = rings.rings };
           walked = tt;
           gave_up = tt;
         };

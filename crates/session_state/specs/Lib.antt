@@ -1,4 +1,5 @@
 pub mod Terms
+pub mod Past
 pub mod Options
 pub mod Sessions
 pub mod Recovered

@@ -1,6 +1,6 @@
 -- What a session is asked for.
 use Rattle.std.specs.Prelude.{ℕ, ◌*◌, ◌/◌, ◌≤◌, ◌^◌, Bool}
-use Rattle.session_state.specs.Terms.{Heap, limits_of, nothing_before, Rules, Keeping, Options}
+use Rattle.session_state.specs.Terms.{Heap, limits_of, Before, nothing_before, Rules, Keeping, Options}
 
 -- each number is in its range
 pub record AreInRange (options : Options) : Type 0 where
@@ -22,10 +22,15 @@ pub record AreInRange (options : Options) : Type 0 where
 abbrev pub keeping_for : Options → Keeping
 keeping_for options = record { ring = options.ring; every = options.every; pages = options.window / 4096; frames = options.frames * (options.window / 4096) }
 
--- what a session with these options allows its guest, by an access rule, and its link
-abbrev pub rules_of : Options → (Heap → ℕ → ℕ → Bool) → Rules
-rules_of options permits = record {
+-- what a session with these options allows its guest, by an access rule, and its link, where this came before it, and where so many items more have to be
+-- taken before a reply is passed
+abbrev pub rules_in : Options → Before → ℕ → (Heap → ℕ → ℕ → Bool) → Rules
+rules_in options before hold permits = record {
   limits = limits_of options.budget permits;
-  bounds = record { framing = options.frame; max_items = options.max_items; max_events = options.max_events; before = nothing_before };
-  hold = options.hold;
+  bounds = record { framing = options.frame; max_items = options.max_items; max_events = options.max_events; before = before };
+  hold = hold;
 }
+
+-- so it is where nothing came before it, and as many items have to be taken as its options say
+abbrev pub rules_of : Options → (Heap → ℕ → ℕ → Bool) → Rules
+rules_of options permits = rules_in options nothing_before options.hold permits

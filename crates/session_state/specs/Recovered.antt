@@ -4,7 +4,7 @@ use Rattle.session_history.specs.declared.ends.SessionBreak.TheVariants as sessi
 use Rattle.session_history.specs.declared.ends.SessionEnd.TheVariants as session_end
 use Rattle.session_history.specs.declared.ends.Stop.TheVariants as stop
 use Rattle.recovery.specs.Unfinished.{BeginsOver, Unfinished, steps_unfinished}
-use Rattle.session_state.specs.Terms.{Prefix, Entry, Coming, Grew, Seen, Choice, Image, Cause, FailsBy, Path, Served, SessionBreak, SessionEnd, Stop, Session, AtBreak, AtEnd, HandedLast, HasNoEnding, IsEnded, ShowsSession, items_in, Chapter, LeavesNothing, Rules, Survivor, entries_of, passed_in, first_survivor, Episode, Try, Noted, OneEpisode, SomeChoices, Unnoted, failed_with, AreChained, AreCheckpoints, AreRecovered, IsRecovery, Recovery, episode_of, point_of, Trial, survivor_in, table, HasHandled, HasRing, HaveRings, Keeping, Stand, steps_of, IsWholeTable, TellsMore}
+use Rattle.session_state.specs.Terms.{Prefix, Entry, Coming, Grew, Seen, Choice, Image, Cause, FailsBy, Path, Served, SessionBreak, SessionEnd, Stop, Session, AtBreak, AtEnd, HandedLast, HasNoEnding, IsEnded, ShowsSession, items_in, Chapter, LeavesNothing, Rules, Survivor, entries_of, passed_in, first_survivor, starting_path, Episode, Try, Noted, OneEpisode, SomeChoices, Unnoted, failed_with, AreChained, AreCheckpoints, AreRecovered, IsRecovery, Recovery, episode_of, point_of, Trial, survivor_in, table, HasHandled, HasRing, HaveRings, Keeping, Stand, steps_of, IsWholeTable, TellsMore}
 
 -- A session so far, as data: the chapters of earlier survivors, with the recovery behind each, the survivor, and the entries of its time.
 pub record Story : Type 0 where
@@ -54,9 +54,9 @@ episodes_of story walk = map episode_of story.recoveries ++ last_of story.surviv
 abbrev pub spent : List Recovery → ℕ
 spent recoveries = sum (map (λ (recovery : Recovery). (recovery.survivor.now.steps - recovery.survivor.begun.steps) + steps_of recovery.trials) recoveries)
 
--- all instructions of a session: those of its survivors, and those of all trials
-abbrev pub all_steps : Story → Option Walk → ℕ
-all_steps story walk = spent story.recoveries + (story.survivor.now.steps - story.survivor.begun.steps) + steps_of (trials_of walk)
+-- all instructions of a session: those that were done where it began, those of its survivors, and those of all trials
+abbrev pub all_steps : Rules → Image → Story → Option Walk → ℕ
+all_steps rules image story walk = (starting_path rules image).steps + spent story.recoveries + (story.survivor.now.steps - story.survivor.begun.steps) + steps_of (trials_of walk)
 
 -- The last survivor failed by this cause, behind some entries of its time and those before it, where it owed nothing; and none of these
 -- trials, a walk over all of its checkpoints, at least one, survived. Those are the checkpoints that its requests left, behind these recoveries.
@@ -105,7 +105,7 @@ IsUnanswered rules image keeping story (TriedOn cause ring unfinished) = HasBegu
 pub record CountsUnanswered (rules : Rules) (image : Image) (keeping : Keeping) (telling : Telling) (counted : ℕ) : Type 0 where
   pub rest : Unanswered
   pub is : IsUnanswered rules image keeping (story_of telling) rest
-  pub all : counted ≡ all_steps (story_of telling) telling.walk + steps_unanswered telling.account.survivor rest
+  pub all : counted ≡ all_steps rules image (story_of telling) telling.walk + steps_unanswered telling.account.survivor rest
 
 -- at GaveUp there was a walk, behind a failure by that cause
 abbrev pub GivesUpBy : Option Walk → SessionEnd → Type 0
@@ -185,7 +185,7 @@ pub record Outcome : Type 0 where
   pub steps : ℕ
 
 -- The outcome of a session, by one telling of it. Its notes tell of its answers of the allocator and of each recovery; where they lack an episode, nothing
--- came or went behind it. So many instructions were counted: those of the survivors, and those of all trials; and where memory ran out, those of what it
+-- came or went behind it. So many instructions were counted: those of the whole run, and those of all trials; and where memory ran out, those of what it
 -- broke off.
 pub record IsOutcome (rules : Rules) (image : Image) (keeping : Keeping) (coming : Option Coming) (telling : Telling) (outcome : Outcome) (noted_before noted_now : Noted) (counted : ℕ) : Type 0 where
   pub is : IsTelling rules image keeping coming telling outcome.stop
@@ -193,7 +193,7 @@ pub record IsOutcome (rules : Rules) (image : Image) (keeping : Keeping) (coming
   pub unnoted : 0 < length notes.missing → HasNothingBehind telling
   pub taken_is : telling.account.survivor.now.state.machine.taken ≡ outcome.taken
   pub steps_are : telling.account.survivor.now.steps ≡ outcome.steps
-  pub all_counted : outcome.stop ≢ stop.Breaks session_break.Memory → counted ≡ all_steps (story_of telling) telling.walk
+  pub all_counted : outcome.stop ≢ stop.Breaks session_break.Memory → counted ≡ all_steps rules image (story_of telling) telling.walk
   pub unanswered : outcome.stop ≡ stop.Breaks session_break.Memory → CountsUnanswered rules image keeping telling counted
 
 -- A session has served a link: one telling of it, which has its outcome, and which its link shows.

@@ -14,7 +14,7 @@ use Rattle.session_state.specs.Terms.{AllocError, IoFault, Rose, Send, Entry, Co
 use Rattle.session_state.specs.Sessions.{SessionState, IsBegun}
 use Rattle.session_state.specs.Recovered.{Outcome, IsNoteFault, HasWatched, FailsAtChoices}
 use Rattle.session_state.specs.Leaving.{keeping_of, IsHandled, IsRecorded, IsTrimmed, IsCutShort, KeepsOldest, HoldsCheckpoints, LeavesBy}
-use Rattle.session_state.specs.Options.{rules_of, keeping_for}
+use Rattle.session_state.specs.Options.{AreInRange, rules_in, keeping_for}
 use Rattle.session_state.specs.Standing.{Since, Story, entries, moment, sends, then_story, IsTold, AnswersFor, HasPassed, HasPassedDue, IsGoing, IsBetween, IsAsking, IsWaitingFor, IsFailing, IsEnding, IsBrokenOff, HasNotedMore, HasMissed}
 
 -- a fault of passing breaks a session off so
@@ -222,7 +222,7 @@ module _ {R : Type 0} where
 
   -- what a session allows its guest and its link, by how its access rule is read
   abbrev pub rules_by : (R → Heap → ℕ → ℕ → Bool) → SessionState R → Rules
-  rules_by permits session = rules_of session.options (permits session.cpu.rule)
+  rules_by permits session = rules_in session.options session.before session.hold (permits session.cpu.rule)
 
   -- A session came to one of its ends, or was broken off. Where events may not be taken any more, one was asked for.
   abbrev pub StopsBy : Rules → Image → Since → Seen → SessionState R → Stop → Type 0
@@ -260,6 +260,8 @@ module _ {R : Type 0} where
   -- its guest is where it was, and so are the answers of the allocator, and what it answers for; and nothing more was given up
   pub record HasSameGuest (old new : SessionState R) : Type 0 where
     pub options : new.options ≡ old.options
+    pub before : new.before ≡ old.before
+    pub hold : new.hold ≡ old.hold
     pub cpu : new.cpu ≡ old.cpu
     pub recorded : new.recorded ≡ old.recorded
     pub choices : new.choices ≡ old.choices
@@ -345,10 +347,12 @@ module _ {R : Type 0} where
     pub link : LinkPasses before seen new.replies result
     pub only : OnlyReplies old new
 
-  -- its options and its access rule stay
+  -- its options and its access rule stay, what came before it, and how many items more have to be taken before a reply is passed
   pub record HasSameFrame (old new : SessionState R) : Type 0 where
     pub options : new.options ≡ old.options
     pub rule : new.cpu.rule ≡ old.cpu.rule
+    pub before : new.before ≡ old.before
+    pub hold : new.hold ≡ old.hold
 
   -- the rest of the answers of the allocator was noted, if there were any; or noting failed, which was handed some of them, and nothing changed
   abbrev pub NotesRest : Shown → Shown → SessionState R → SessionState R → Result (Unit {0}) SessionBreak → Type 0
@@ -427,10 +431,12 @@ module _ {R : Type 0} where
     pub one : new.cpu.slots.live.steps ≡ old.cpu.slots.live.steps + 1
 
   -- what a send makes of it
-  pub record KeepsSending (before seen : Seen) (old new : SessionState R) (result : Result (Unit {0}) Stop) : Type 0 where
-    pub link : LinkPasses before seen new.replies result
+  pub record KeepsSending (first seen : Seen) (old new : SessionState R) (result : Result (Unit {0}) Stop) : Type 0 where
+    pub link : LinkPasses first seen new.replies result
     pub until : new.until ≡ old.until
     pub options : new.options ≡ old.options
+    pub before : new.before ≡ old.before
+    pub hold : new.hold ≡ old.hold
     pub cpu : new.cpu ≡ old.cpu
     pub oldest : KeepsOldest old new
     pub keeping : keeping_of new ≡ keeping_of old
@@ -441,6 +447,8 @@ module _ {R : Type 0} where
   pub record KeepsChoosing (old new : SessionState R) (result : Result (Unit {0}) Stop) : Type 0 where
     pub until : new.until ≡ old.until
     pub options : new.options ≡ old.options
+    pub before : new.before ≡ old.before
+    pub hold : new.hold ≡ old.hold
     pub cpu : new.cpu ≡ old.cpu
     pub oldest : KeepsOldest old new
     pub replies : new.replies ≡ old.replies
@@ -528,6 +536,29 @@ module _ {R : Type 0} where
     pub opened : HasSameOpen old.replies new.replies
 
 module _ {R : Type 0} where
+  -- A session stands between two events of its guest, for some image, since some time, where its notes and its watch tell this; and it may be served on from
+  -- there: all is given up and recorded that no trial needs, and its options are in their ranges.
+  pub record StandsServing (rules : Rules) (seen : Seen) (noted : Noted) (tables : Option (List (List Try))) (session : SessionState R) : Type 0 where
+    pub image : Image
+    pub began : Since
+    pub is : IsBetween rules image (record began { noted = noted; tables = tables }) seen session
+    pub may : MayServe seen session.replies
+    pub trimmed : IsTrimmed session
+    pub in_range : AreInRange session.options
+
+  -- A session that stood so has served a link on, and answers so: why it stopped; what it leaves, by one telling of it, since each time since which it stood so; and
+  -- what its link and its notes show. So many instructions were counted beside those that were lost before: those of the run where it stood, and those that it did
+  -- then. What its link showed at that time is told still where it goes on.
+  pub record HasServedOn (rules : Rules) (before seen : Seen) (shown now : Shown) (counted : ℕ) (tables_before tables : Option (List (List Try))) (old new : SessionState R) (answered : Answer) : Type 0 where
+    pub why : Stop
+    pub is : answered ≡ answer_of why
+    pub served : (image : Image) (began : Since) (first : Seen) → StaysKnown first.coming before.coming → IsBetween rules image (record began { told = first.told; noted = shown.told; tables = tables_before }) before old
+        → (watched : HasWatched rules image (keeping_of old) first seen (outcome_of why new) began.noted_before now.told (began.lost + counted) began.tables_before tables)
+        × LeavesBy rules image began.noted_before.unnoted now.told.unnoted watched.recovered.telling new why
+    pub keeping : keeping_of new ≡ keeping_of old
+    pub link : LinkAnswers before seen why
+    pub notes : NotesAnswer shown now why
+
   -- A session that was begun has served a link, and answers so: why it stopped; what it leaves, by one telling of it; and what its link and its notes show.
   pub record HasServedLink (rules : Rules) (before seen : Seen) (shown now : Shown) (counted : ℕ) (tables_before tables : Option (List (List Try))) (old new : SessionState R) (answered : Answer) : Type 0 where
     pub why : Stop

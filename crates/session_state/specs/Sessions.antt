@@ -1,11 +1,12 @@
 -- What a contract sees of a session.
 use Rattle.std.specs.Prelude.{◌≡◌, ℕ, ◌*◌, ◌/◌, List, [], nat_lt, if◌then◌else◌}
 use Rattle.item_log.specs.Log as logs
-use Rattle.session_state.specs.Terms.{Choice, Env, Plain, Checkpoints, checkpoints, Log, empty_log, Ledger, no_replies, Image, CpuState, IsFreshCpu, Options}
+use Rattle.session_state.specs.Terms.{Choice, Env, Plain, Checkpoints, checkpoints, Log, empty_log, Ledger, no_replies, Image, CpuState, IsFreshCpu, Before, nothing_before, Options}
 use Rattle.session_state.specs.Options.{AreInRange}
 
 -- A session: its options, its guest with its checkpoints, the items and the replies; how many events came; of the run that it answers for
--- how many answers of the allocator are recorded, the others, the items taken and the instructions; and an environment, up to a number of items
+-- how many answers of the allocator are recorded, the others, the items taken and the instructions; an environment, up to a number of items; what came
+-- before it; and how many items more have to be taken before a reply is passed
 pub record SessionState (R : Type 0) : Type 0 where
   pub options : Options
   pub cpu : CpuState R
@@ -19,6 +20,8 @@ pub record SessionState (R : Type 0) : Type 0 where
   pub steps : ℕ
   pub env : Env
   pub until : ℕ
+  pub before : Before
+  pub hold : ℕ
 
 -- the environment in force: that of a session, with fewer items taken than its number; else Plain
 abbrev pub env_of : {R : Type 0} → SessionState R → Env
@@ -41,3 +44,5 @@ pub record IsBegun {R : Type 0} (image : Image) (options : Options) (rule : R) (
   pub no_steps : session.steps ≡ 0
   pub plain : session.env ≡ Plain
   pub until_none : session.until ≡ 0
+  pub nothing_came : session.before ≡ nothing_before
+  pub hold_is : session.hold ≡ options.hold

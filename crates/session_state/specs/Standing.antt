@@ -3,7 +3,7 @@ use Rattle.std.specs.Prelude.{◌≡◌, ◌≢◌, ◌⊎◌, ℕ, ◌+◌, ◌
 use Rattle.session_history.specs.declared.ends.SessionBreak.TheVariants as session_break
 use Rattle.session_history.specs.declared.ends.Stop.TheVariants as stop
 use Rattle.item_log.specs.Log as logs
-use Rattle.session_state.specs.Terms.{Send, Entry, Grew, Phases, Tells, Told, events_in, Seen, Choice, Ledger, Image, Cause, may_send, AsksFor, FailsBy, Path, Served, standing_of, IsBounded, SessionBreak, SessionEnd, journal_of, HandedLast, IsWaiting, StandsAt, before_end, AreHeeded, events_of, heeded, items_in, received, KeepsItems, KeepsPhases, KeepsReplies, Rules, is_closing, is_open, opens, IsDueBy, IsPassed, Latest, Moment, OwesNothing, Stands, journal, latest, place_at, received_before, Serving, first_survivor, moment_of, Episode, Try, Noted, OneEpisode, failed_with, AreRecovered, episode_of, HasHandled, Keeping, stands_of, AreBehind, IsInForce, KeepsRing, steps_of, TellsMore}
+use Rattle.session_state.specs.Terms.{Send, Entry, Grew, Phases, Tells, Told, events_in, Seen, Choice, Ledger, Image, Cause, may_send, AsksFor, FailsBy, Path, Served, standing_of, IsBounded, SessionBreak, SessionEnd, journal_of, HandedLast, IsWaiting, StandsAt, before_end, AreHeeded, events_of, heeded, items_in, received, KeepsItems, KeepsPhases, KeepsReplies, Rules, is_closing, is_open, opens, IsDueBy, IsPassed, Latest, Moment, OwesNothing, Stands, journal, latest, place_at, received_before, Serving, first_survivor, starting_path, moment_of, Episode, Try, Noted, OneEpisode, failed_with, AreRecovered, episode_of, HasHandled, Keeping, stands_of, AreBehind, IsInForce, KeepsRing, steps_of, TellsMore}
 pub use Rattle.session_state.specs.Recovered.{Story, entries}
 use Rattle.session_state.specs.Recovered.{Unanswered, IsUnanswered, steps_unanswered, Walk, Telling, story_of, trials_of, last_of, episodes_of, spent, HasGivenUp, GivesUpBy, IsTelling, HasNoted, HasNothingBehind, AreTables, AreAllTables}
 use Rattle.session_state.specs.Leaving.{HoldsCheckpoints, UnlessGaveUp, IsAtRequest, IsReadFault, HandlesRequests, keeping_of}
@@ -54,7 +54,7 @@ pub record IsTold (rules : Rules) (image : Image) (began : Since) (now : Told) (
   pub serving : Serving rules image story.earlier story.survivor story.since
   pub way : Served rules.limits (items_in rules.bounds (entries story)) story.survivor.plan story.survivor.begun story.survivor.now
   pub tells : Tells began.told now (entries story)
-  pub counted : spent story.recoveries ≡ began.lost + story.survivor.begun.steps
+  pub counted : (starting_path rules image).steps + spent story.recoveries ≡ began.lost + story.survivor.begun.steps
   pub recovered : AreRecovered rules image [] (first_survivor rules image) story.earlier story.recoveries story.survivor
   pub episodes : Grew began.noted_before.episodes began.noted.episodes (map episode_of story.recoveries)
   pub tables : TellsMore began.tables_before began.tables (AreTables rules [] story.earlier story.recoveries)
@@ -63,7 +63,7 @@ pub record IsTold (rules : Rules) (image : Image) (began : Since) (now : Told) (
 pub record HasUnanswered (rules : Rules) (image : Image) (keeping : Keeping) (telling : Telling) (lost : ℕ) : Type 0 where
   pub rest : Unanswered
   pub is : IsUnanswered rules image keeping (story_of telling) rest
-  pub counted : spent telling.recoveries + steps_of (trials_of telling.walk) + steps_unanswered telling.account.survivor rest ≡ lost + telling.account.survivor.begun.steps
+  pub counted : (starting_path rules image).steps + spent telling.recoveries + steps_of (trials_of telling.walk) + steps_unanswered telling.account.survivor rest ≡ lost + telling.account.survivor.begun.steps
 
 module _ {R : Type 0} where
   -- a session answers for the survivor's run: of its answers of the allocator the first ones are noted, and it has the others; no call of its notes failed
@@ -198,6 +198,6 @@ module _ {R : Type 0} where
     pub tables : TellsMore began.tables_before began.tables (AreAllTables rules (story_of telling) telling.walk (stop.Breaks why))
     pub taken : session.taken ≡ telling.account.survivor.now.state.machine.taken
     pub steps : session.steps ≡ telling.account.survivor.now.steps
-    pub counted : why ≢ session_break.Memory → spent telling.recoveries + steps_of (trials_of telling.walk) ≡ began.lost + telling.account.survivor.begun.steps
+    pub counted : why ≢ session_break.Memory → (starting_path rules image).steps + spent telling.recoveries + steps_of (trials_of telling.walk) ≡ began.lost + telling.account.survivor.begun.steps
     pub unanswered : why ≡ session_break.Memory → HasUnanswered rules image (keeping_of session) telling began.lost
     pub later : telling.account.survivor.begun.steps ≤ telling.account.survivor.now.steps

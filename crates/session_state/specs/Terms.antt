@@ -9,6 +9,7 @@ pub use Rattle.links.specs.declared.journal.Entry.{Entry}
 pub use Rattle.links.specs.declared.journal.LinkEvent.{LinkEvent}
 pub use Rattle.links.specs.Links.{Coming, Counts, Grew, HasEnded, IsFresh, IsNext, Phases, Refuses, Tells, Told, events_in}
 pub use Rattle.links.specs.Seen.{Seen, but_given}
+pub use Rattle.block_book.specs.declared.block.Block.{Block}
 pub use Rattle.block_book.specs.declared.choice.Choice.{Choice}
 pub use Rattle.block_book.specs.Heap.{Heap}
 pub use Rattle.alloc_env.specs.declared.env.Env.{Env}
@@ -51,13 +52,13 @@ pub use Rattle.session_history.specs.Answering.{HasAnswerCause}
 pub use Rattle.session_history.specs.Ends.{AtBreak, AtEnd, EndsBy, HandedLast, HasNoEnding, IsEnd, IsEnded, IsLastRefused, IsWaiting, OwesNothingAtEnd, ShowsSession, StandsAt, StaysKnown, TakesAtEnd, WasAsked, answer_of, before_end, break_answer}
 pub use Rattle.session_history.specs.Giving.{AreDuePieces, AreFronts, AreGiven, HasHanded, IsClosing, IsReady, Passes, PassesRest, then_entries}
 pub use Rattle.session_history.specs.Hearing.{IsHeard, IsHeeded, IsUnheeded, closing_of}
-pub use Rattle.session_history.specs.Heeding.{AreHeeded, Bounds, Unheeded, events_of, heeded, items_in, nothing_before, received}
+pub use Rattle.session_history.specs.Heeding.{AreHeeded, Before, Bounds, Unheeded, events_of, heeded, items_in, nothing_before, received}
 pub use Rattle.session_history.specs.Keeping.{AreSendable, IsSendable, KeepsItems, KeepsPhases, KeepsReplies}
 pub use Rattle.session_history.specs.Lawful.{Chapter, IsDuePiece, LeavesNothing, Rules, Survivor, entries_of, gone_on, is_closed_by, is_closing, moves, place_of, then_entry}
 pub use Rattle.session_history.specs.Opened.{closes, is_gone, is_open, opens}
 pub use Rattle.session_history.specs.Owing.{IsDueBy, IsMadeDue, IsOwed, IsPassed, Latest, Moment, OwesNothing, Stands, behind, journal, latest, place_at, received_before}
 pub use Rattle.session_history.specs.Passing.{AreBetween, AreInOrder, passed_in}
-pub use Rattle.session_history.specs.Serving.{Ending, IsSoundBefore, Serving, ending_at, first_survivor, moment_of}
+pub use Rattle.session_history.specs.Serving.{Ending, IsSoundBefore, Serving, ending_at, first_survivor, moment_of, starting_path}
 pub use Rattle.link_gate.specs.declared.heard.HearFault.{HearFault}
 pub use Rattle.link_gate.specs.declared.heard.Heard.{Heard}
 pub use Rattle.link_gate.specs.declared.pass_fault.PassFault.{PassFault}
@@ -71,7 +72,7 @@ pub use Rattle.trials.specs.Episodes.{AreRecovered, IsRecovery, Recovery, adopte
 pub use Rattle.trials.specs.Tables.{Trial, survivor_in, table}
 pub use Rattle.recovery.specs.declared.recovering.Recovered.{Recovered}
 pub use Rattle.recovery.specs.declared.walking.Adopted.{Adopted}
-pub use Rattle.recovery.specs.Handling.{AreRinged, HasHandled, HasRing, HaveRings, Keeping, Stand, alone, first_stands, handle, is_far, keeping_by, stands_of}
+pub use Rattle.recovery.specs.Handling.{AreRinged, HasHandled, HasRing, HaveRings, Keeping, Stand, alone, handle, is_far, keeping_by, stands_of, starting_stands}
 pub use Rattle.recovery.specs.Recovering.{HasAdoptedRun, HasRecovery, HasToRecover, KeepsSlots, LeavesRun, recovery_of}
 pub use Rattle.recovery.specs.Rings.{AreBehind, Brings, IsInForce, KeepsRing, SavesIf, ring_if}
 pub use Rattle.recovery.specs.Sessions.{CanGoOn, Failure, taken_in}

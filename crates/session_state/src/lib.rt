@@ -10,6 +10,8 @@
 pub mod laws;
 mod options;
 mod recording;
+mod remembering;
 
 pub use options::Options;
 pub use recording::note_up_to;
+pub use remembering::{Nothing, Past, Remembers};

@@ -3,7 +3,7 @@ use Rattle.session_history.specs.declared.ends.Stop.TheVariants as stop
 use Rattle.session_history.specs.Ends.{TakesAtEnd, StaysKnown}
 use Rattle.links.specs.declared.journal.Entry.TheVariants as entry
 use Rattle.session_history.specs.declared.ends.SessionEnd.TheVariants as session_end
-use Rattle.session_state.proofs.Terms.{Bool, List, None, Option, Some, [], ap, append-nil, append_assoc, arith, false, length, map, refl, subst, sym, true, ℕ, ◌++◌, ◌+◌, ◌-◌, ◌∙◌, ◌∷◌, ◌≡◌, ◌≤◌, none-some, IfSome, option_map, Entry, tells_then, Coming, Tells, Told, Seen, but_given, Choice, Image, Cause, SessionBreak, SessionEnd, Stop, broken_account, ending_account, ending_none, ending_piece, serving_account, IsAccount, IsBroken, Session, EndsBy, HandedLast, OwesNothingAtEnd, ShowsSession, StandsAt, WasAsked, AreDuePieces, then_entries, items_in, IsDuePiece, LeavesNothing, Rules, entries_of, then_entry, Moment, OwesNothing, Ending, Serving, ending_at, Noted, steps_later, episode_of, Keeping, steps_of, SessionState, AllAnswered, GivesUpBy, HasGivenUp, HasNoted, HasWatched, IsHandedLast, IsTelling, Telling, Walk, all_steps, episodes_of, spent, steps_unanswered, trials_of, HoldsCheckpoints, IsReadFault, keeping_of, AnswersFor, IsBrokenOff, IsEnding, IsTold, Since, Story, entries, moment, sends, then_story, IsFinishing, outcome_of}
+use Rattle.session_state.proofs.Terms.{Bool, List, None, Option, Some, [], ap, append-nil, append_assoc, arith, false, length, map, refl, subst, sym, true, ℕ, ◌++◌, ◌+◌, ◌-◌, ◌∙◌, ◌∷◌, ◌≡◌, ◌≤◌, none-some, IfSome, option_map, Entry, tells_then, Coming, Tells, Told, Seen, but_given, Choice, Image, Cause, SessionBreak, SessionEnd, Stop, broken_account, ending_account, ending_none, ending_piece, serving_account, IsAccount, IsBroken, Session, EndsBy, HandedLast, OwesNothingAtEnd, ShowsSession, StandsAt, WasAsked, AreDuePieces, then_entries, items_in, IsDuePiece, LeavesNothing, Rules, entries_of, then_entry, Moment, OwesNothing, Ending, Serving, ending_at, Noted, steps_later, episode_of, Keeping, steps_of, SessionState, AllAnswered, GivesUpBy, HasGivenUp, HasNoted, HasWatched, IsHandedLast, IsTelling, Telling, Walk, all_steps, episodes_of, spent, starting_path, steps_unanswered, trials_of, HoldsCheckpoints, IsReadFault, keeping_of, AnswersFor, IsBrokenOff, IsEnding, IsTold, Since, Story, entries, moment, sends, then_story, IsFinishing, outcome_of}
 use Rattle.session_state.proofs.recovering.TableLemmas.{tables_here, tables_fault}
 use Rattle.session_state.proofs.guest.GuestLemmas.{notes_here}
 use Rattle.session_state.proofs.standing.HeldLemmas.{held_given, rings_held}
@@ -149,7 +149,7 @@ module _ {R : Type 0} where
       }
 
   -- all instructions were counted
-  counts_end : {rules : Rules} {image : Image} {began : Since} {seen : Seen} {session : SessionState R} {end : SessionEnd} (e : IsEnding rules image began seen session end) {counted : ℕ} → counted ≡ began.lost + session.steps → counted ≡ all_steps e.story e.walk
+  counts_end : {rules : Rules} {image : Image} {began : Since} {seen : Seen} {session : SessionState R} {end : SessionEnd} (e : IsEnding rules image began seen session end) {counted : ℕ} → counted ≡ began.lost + session.steps → counted ≡ all_steps rules image e.story e.walk
   counts_end {rules = rules} e counts =
       let story : Story = e.story in
       count_all e.lost (steps_of (trials_of e.walk)) counts e.lost_is e.told.counted e.answers.steps
@@ -213,7 +213,7 @@ module _ {R : Type 0} where
   pub served_off : (P : Telling → Type 0) {rules : Rules} {image : Image} (began : Since) {first seen : Seen} {session : SessionState R} {why : SessionBreak} → (off : IsBrokenOff rules image (record began { told = first.told }) seen session why) → (seen.takes ≡ false → WasAsked rules off.telling.account)
       → {counted : ℕ} → counted ≡ began.lost + session.steps → P off.telling
       → (watched : HasWatched rules image (keeping_of session) first seen (outcome_of (stop.Breaks why) session) began.noted_before began.noted counted began.tables_before began.tables) × P watched.recovered.telling
-  served_off P {rules = rules} began {first = first} {seen = seen} off asked all holds = (
+  served_off P {rules = rules} {image = image} began {first = first} {seen = seen} off asked all holds = (
     record {
       recovered = record {
         telling = off.telling;
@@ -223,13 +223,13 @@ module _ {R : Type 0} where
           unnoted = off.unnoted;
           taken_is = sym off.taken;
           steps_are = sym off.steps;
-          all_counted = λ others. count_off began.lost (spent off.telling.recoveries) (steps_of (trials_of off.telling.walk)) all (off.counted (λ same. others (ap stop.Breaks same))) off.steps off.later;
+          all_counted = λ others. count_off began.lost ((starting_path rules image).steps + spent off.telling.recoveries) (steps_of (trials_of off.telling.walk)) all (off.counted (λ same. others (ap stop.Breaks same))) off.steps off.later;
           unanswered = λ memory.
               let cut = off.unanswered (same_break memory) in
               record {
                 rest = cut.rest;
                 is = cut.is;
-                all = count_rest began.lost (spent off.telling.recoveries) (steps_of (trials_of off.telling.walk)) (steps_unanswered off.telling.account.survivor cut.rest) all cut.counted off.steps off.later;
+                all = count_rest began.lost ((starting_path rules image).steps + spent off.telling.recoveries) (steps_of (trials_of off.telling.walk)) (steps_unanswered off.telling.account.survivor cut.rest) all cut.counted off.steps off.later;
               };
         };
         shows = record {

@@ -5,12 +5,17 @@ use Rattle.reply_ledger.specs.Shows as S
 use Rattle.reply_ledger.specs.Ledger as ledgers
 use Rattle.guest_cpu.specs.Laws.{IsStart}
 use Rattle.std.specs.Option.{unwrap_or}
+use Rattle.std.proofs.lemmas.Nat.{mul-le}
 use Rattle.run_history.specs.Machine as M
 use Rattle.session_history.specs.Heeding as H
 use Rattle.session_history.proofs.Accounts.{nothing_is_sound}
+use Rattle.session_state.specs.declared.options.Options.{Options}
 use Rattle.session_state.proofs.Lemmas.{in_force_by, none_noted, tells_none}
-use Rattle.session_state.proofs.Terms.{Bool, List, None, Option, [], ap, arith, drop, false, inl, length, refl, subst, suc, sym, take, true, zero, ℕ, ◌*◌, ◌++◌, ◌+◌, ◌-◌, ◌/◌, ◌∙◌, ◌∷◌, ◌≡◌, ◌≤◌, replicate, slice_get, Send, tells_nothing, Grew, IsFresh, Seen, Heap, Checkpoints, Framing, Ledger, no_replies, Image, no_connections, origin, CpuState, standing_of, Standing, runs_start, served_same, serving_first, Bounds, items_in, nothing_before, KeepsReplies, Rules, Stands, CanGive, Try, Noted, Shown, recovered_first, in_force_none, handled_first, alone, keeping_by, stands_of, KeepsRing, keeping_for, rules_of, IsBegun, SessionState, AreTables, IsTrimmed, keeping_of, IsBetween, Since, Story, told_since, HasSameFrame, IsCounted, MayServe, StaysKnown}
+use Rattle.session_state.proofs.Terms.{Answer, AreTables, Bool, Bounds, CanGive, Checkpoints, CpuState, Framing, GoesFurther, Grew, HasSameFrame, HasServedLink, HasServedOn, HasWatched, Heap, Image, IsBegun, IsBetween, IsCounted, IsFresh, IsTrimmed, KeepsReplies, KeepsRing, LeavesBy, Ledger, List, MayServe, None, Noted, Option, Path, Rules, Seen, Send, SessionState, Shown, Since, Standing, Stands, StaysKnown, Stop, Story, Try, [], alone, ap, arith, drop, false, handled_first, in_force_none, inl, inr, items_in, keeping_by, keeping_for, keeping_of, length, no_connections, no_replies, none_followed, nothing_before, origin, outcome_of, recovered_first, refl, replicate, rules_by, rules_in, rules_of, runs_start, served_same, serving_first, slice_get, standing_of, stands_of, subst, suc, sym, take, tells_nothing, told_since, true, zero, ℕ, ◌*◌, ◌++◌, ◌+◌, ◌-◌, ◌/◌, ◌<◌, ◌^◌, ◌∙◌, ◌∷◌, ◌≡◌, ◌≤◌}
+use Rattle.session_state.proofs.ending.KnownLemmas.{known_same}
 use Rattle.session_state.proofs.ending.LeavingLemmas.{start_trimmed}
+use Rattle.session_state.proofs.recovering.TableLemmas.{watched_kept}
+use Rattle.session_state.proofs.standing.FrameLemmas.{same_rules}
 
 -- the story of no event
 abbrev first_story : Image → Story
@@ -53,15 +58,27 @@ lost_then lost live steps before after = (lost + live + after) - (steps + before
 pub lost_counts : (lost live steps before after : ℕ) → steps + before ≤ after + live → lost_then lost live steps before after + steps + before ≡ lost + live + after
 lost_counts lost live steps before after least = omega (arith, least)
 
--- and with what the watch has counted: before the first turn, before this one, and behind it
-pub lost_all : (first lost live steps before after began ran later : ℕ) → began + before ≡ ran + first + (lost + live) → steps + (later + before) ≤ ran + after + live
-    → began + after ≡ later + first + (lost_then lost live steps (later + before) (ran + after) + steps)
-lost_all first lost live steps before after began ran later counted least = omega (arith, counted, least)
+-- the same beside those of before
+pub lost_beside : (base lost live steps before after : ℕ) → steps + before ≤ after + live → base + lost_then lost live steps before after + steps + before ≡ base + lost + live + after
+lost_beside base lost live steps before after least = omega (arith, least)
+
+-- and with what the watch has counted: before the first turn, where the session had done some already, before this one, and behind it
+pub lost_all : (old first lost live steps before after began ran later : ℕ) → began + before + old ≡ ran + first + (lost + live) → steps + (later + before) ≤ ran + after + live
+    → began + after + old ≡ later + first + (lost_then lost live steps (later + before) (ran + after) + steps)
+lost_all old first lost live steps before after began ran later counted least = omega (arith, counted, least)
+
+-- so many were counted at an end
+pub lost_last : (base old first after began later lost steps : ℕ) → began + after + old ≡ later + first + (lost + steps) → base + ((began + after + old) - (later + first)) ≡ base + lost + steps
+lost_last base old first after began later lost steps all = omega (arith, all)
 
 module _ {R : Type 0} where
   -- its guest stands at the start
   pub starts_at : {image : Image} {session : SessionState R} → IsBegun image session.options session.cpu.rule session → session.cpu.slots.live ≡ standing_of (origin image)
   starts_at {image = image} begun = let start : IsStart image 0 = runs_start image 0 in begun.cpu.live_is ∙ sym start.stands
+
+  -- it allows what its options say: nothing came before it
+  pub begun_rules : (permits : R → Heap → ℕ → ℕ → Bool) {image : Image} {options : Options} {rule : R} {session : SessionState R} → IsBegun image options rule session → rules_by permits session ≡ rules_of options (permits rule)
+  begun_rules permits begun = λ i. rules_in (begun.options_are i) (begun.nothing_came i) (begun.hold_is i) (permits (begun.cpu.rule_is i))
 
   -- it keeps its checkpoints as its options say
   pub begun_keeping : {image : Image} {session : SessionState R} → IsBegun image session.options session.cpu.rule session → keeping_of session ≡ keeping_for session.options
@@ -111,7 +128,7 @@ module _ {R : Type 0} where
             events = begun.no_events;
             phases_are = fresh;
           };
-          saved = record { paths = origin image ∷ []; ring = keeps; early = (omega (arith, begun.none_recorded), tt); requests = inl (handled_first rules image (keeping_by ring.capacity session.options.every cpu.slots) [] (first_story image).survivor (stands_of cpu.slots.saved) stands); in_force = in_force_by begun.plain begun.until_none (in_force_none 0); past = inl (let none : session.until ≡ 0 = begun.until_none in omega (arith, none)) };
+          saved = record { paths = origin image ∷ []; ring = keeps; early = (omega (arith, begun.none_recorded), tt); requests = inl (handled_first rules image (keeping_by ring.capacity session.options.every cpu.slots) [] [] (first_story image).survivor (stands_of cpu.slots.saved) (none_followed rules image (keeping_by ring.capacity session.options.every cpu.slots) refl).0 stands); in_force = in_force_by begun.plain begun.until_none (in_force_none 0); past = inl (let none : session.until ≡ 0 = begun.until_none in omega (arith, none)) };
           passed = record { replies = subst (λ (ledger : Ledger). KeepsReplies rules.bounds [] None [] ledger) (sym begun.replies) (first_replies session.options.frame session.options.max_items session.options.max_events); no_trial = ap (λ (ledger : Ledger). ledger.trial) begun.replies; done = λ send stands due. absurd due };
           latest = λ last found. absurd (let no : ⊥ = cc in no);
         };
@@ -120,22 +137,35 @@ module _ {R : Type 0} where
 
   pub starts_between : (permits : R → Heap → ℕ → ℕ → Bool) {image : Image} {seen : Seen} {noted : Noted} {tables : Option (List (List Try))} {session after : SessionState R} → IsBegun image session.options session.cpu.rule session → IsFresh seen.phases
       → ((rules : Rules) → KeepsRing rules image [] [] (origin image) (origin image ∷ []) after.cpu after.ring session.log session.replies) → after ≡ record session { cpu = after.cpu; ring = after.ring } → after.cpu.slots.live ≡ session.cpu.slots.live
-      → stands_of after.cpu.slots.saved ≡ alone 0 after.cpu.slots.pages → IsBetween (rules_of session.options (permits session.cpu.rule)) image (told_since seen.told noted noted tables tables 0) seen after
-  starts_between permits {image = image} {seen = seen} {noted = noted} {tables = tables} {session = session} begun fresh keeps same live stands =
-      subst (λ (s : SessionState R). IsBetween (rules_of session.options (permits session.cpu.rule)) image (told_since seen.told noted noted tables tables 0) seen s) (sym same)
-      (starts_saved permits begun fresh (keeps (rules_of session.options (permits session.cpu.rule))) live stands)
+      → stands_of after.cpu.slots.saved ≡ alone 0 after.cpu.slots.pages → IsBetween (rules_by permits session) image (told_since seen.told noted noted tables tables 0) seen after
+  starts_between permits {image = image} {seen = seen} {noted = noted} {tables = tables} {session = session} {after = after} begun fresh keeps same live stands =
+      subst (λ (s : SessionState R). IsBetween (rules_by permits session) image (told_since seen.told noted noted tables tables 0) seen s) (sym same)
+      (subst (λ (rules : Rules). IsBetween rules image (told_since seen.told noted noted tables tables 0) seen (record session { cpu = after.cpu; ring = after.ring })) (sym (begun_rules permits begun))
+      (starts_saved permits begun fresh (keeps (rules_of session.options (permits session.cpu.rule))) live stands))
 
-  -- how far a session has come that serves
+  -- the counts of a session between two events are its guest's
+  pub between_counted : {rules : Rules} {image : Image} {began : Since} {seen : Seen} {session : SessionState R} → IsBetween rules image began seen session → IsCounted session
+  between_counted b = record {
+    taken = b.going.answers.taken ∙ sym (ap (λ (s : Standing). s.guest.machine.taken) b.going.goes.guest);
+    steps = b.going.answers.steps ∙ sym (ap (λ (s : Standing). s.steps) b.going.goes.guest);
+  }
+
+  -- with another number that is the same
+  pub between_lost : {rules : Rules} {image : Image} (began : Since) {seen : Seen} {session : SessionState R} {lost : ℕ} → began.lost ≡ lost → IsBetween rules image began seen session → IsBetween rules image (record began { lost = lost }) seen session
+  between_lost {rules = rules} {image = image} began {seen = seen} {session = session} same = subst (λ n. IsBetween rules image (record began { lost = n }) seen session) same
+
+  -- how far a session has come that serves on
   pub record HasTurned (Outside : Type 0) (permits : R → Heap → ℕ → ℕ → Bool) (before seen : Seen) (shown now : Shown) (tables_before tables : Option (List (List Try))) (first last : ℕ) (old new : SessionState R) : Type 0 where
     pub lost : ℕ
-    pub stands : (image : Image) → IsBegun image old.options old.cpu.rule old → IsBetween (rules_of old.options (permits old.cpu.rule)) image (told_since before.told shown.told now.told tables_before tables lost) seen new
+    pub stands : (image : Image) (began : Since) → IsBetween (rules_by permits old) image (record began { noted = shown.told; tables = tables_before }) before old
+        → IsBetween (rules_by permits old) image (record began { noted = now.told; tables = tables; lost = began.lost + lost }) seen new
     pub may : MayServe seen new.replies
     pub frame : HasSameFrame old new
     pub known : StaysKnown before.coming seen.coming
     pub marked : IsCounted new
     pub trimmed : IsTrimmed new
     pub keeping : keeping_of new ≡ keeping_of old
-    pub counted : last ≡ first + (lost + new.cpu.slots.live.steps)
+    pub counted : last + old.steps ≡ first + (lost + new.cpu.slots.live.steps)
     pub no_takes_fell : before.counts.takes ≤ seen.counts.takes
     pub no_gives_fell : before.counts.gives ≤ seen.counts.gives
     pub no_faults_fell : shown.faults ≤ now.faults
@@ -164,15 +194,59 @@ module _ {R : Type 0} where
       (subst (λ (l : Ledger). KeepsRing rules image [] [] (origin image) (origin image ∷ []) after.cpu after.ring session.log l) (sym replies) keeps))
       (origin image) (ap (slice_get (origin image ∷ [])) (let none : length (origin image ∷ []) - 1 ≡ 0 = omega arith in none)) first recorded (omega (arith, sends))
 
-  pub starts_counted : {image : Image} {session after : SessionState R} → IsBegun image session.options session.cpu.rule session → after ≡ record session { cpu = after.cpu; ring = after.ring } → after.cpu.slots.live ≡ session.cpu.slots.live → IsCounted after
-  unfolding M.start M.start_machine
-  starts_counted begun same live = record {
-    taken = ap (λ (s : SessionState R). s.taken) same ∙ (begun.no_items ∙ sym (ap (λ (s : Standing). s.guest.machine.taken) (live ∙ begun.cpu.live_is)));
-    steps = ap (λ (s : SessionState R). s.steps) same ∙ (begun.no_steps ∙ sym (ap (λ (s : Standing). s.steps) (live ∙ begun.cpu.live_is)));
-  }
-
   pub frame_then : {old mid new : SessionState R} → HasSameFrame old mid → HasSameFrame mid new → HasSameFrame old new
-  frame_then first second = record { options = second.options ∙ first.options; rule = second.rule ∙ first.rule }
+  frame_then first second = record { options = second.options ∙ first.options; rule = second.rule ∙ first.rule; before = second.before ∙ first.before; hold = second.hold ∙ first.hold }
 
   pub between_under : {image : Image} {began : Since} {seen : Seen} {session : SessionState R} {first second : Rules} → first ≡ second → IsBetween first image began seen session → IsBetween second image began seen session
   between_under {image = image} {began = began} {seen = seen} {session = session} {first = first} same = subst (λ (rules : Rules). IsBetween rules image began seen session) same
+
+  -- What a session that was begun has served, by how it served on from its start: nothing was lost, and no instruction done.
+  pub served_begun : (permits : R → Heap → ℕ → ℕ → Bool) {before seen : Seen} {shown now : Shown} {counted : ℕ} {tables_before tables : Option (List (List Try))} {old mid new : SessionState R} {answered : Answer} {first : Image}
+      → IsBegun first old.options old.cpu.rule old → HasSameFrame old mid → keeping_of mid ≡ keeping_of old
+      → ((image : Image) → IsBegun image old.options old.cpu.rule old → IsBetween (rules_by permits old) image (told_since before.told shown.told shown.told tables_before tables_before 0) before mid)
+      → HasServedOn (rules_by permits mid) before seen shown now counted tables_before tables mid new answered → HasServedLink (rules_by permits old) before seen shown now counted tables_before tables old new answered
+  served_begun permits {before = before} {seen = seen} {shown = shown} {now = now} {counted = counted} {tables_before = tables_before} {tables = tables} {old = old} {mid = mid} {new = new} start frame kept stands h =
+      record { why = h.why; is = h.is; served = by; keeping = h.keeping ∙ (kept ∙ begun_keeping start); link = h.link; notes = h.notes }
+    where
+      by : (image : Image) → IsBegun image old.options old.cpu.rule old
+          → (watched : HasWatched (rules_by permits old) image (keeping_for old.options) before seen (outcome_of h.why new) shown.told now.told counted tables_before tables) × LeavesBy (rules_by permits old) image shown.told.unnoted now.told.unnoted watched.recovered.telling new h.why
+      by image begun =
+          let same = same_rules permits frame in
+          watched_kept (λ telling. LeavesBy (rules_by permits old) image shown.told.unnoted now.told.unnoted telling new h.why) (kept ∙ begun_keeping begun)
+          (subst
+          (λ (rules : Rules). (watched : HasWatched rules image (keeping_of mid) before seen (outcome_of h.why new) shown.told now.told counted tables_before tables) × LeavesBy rules image shown.told.unnoted now.told.unnoted watched.recovered.telling new h.why) same
+          (subst
+          (λ n. (watched : HasWatched (rules_by permits mid) image (keeping_of mid) before seen (outcome_of h.why new) shown.told now.told n tables_before tables) × LeavesBy (rules_by permits mid) image shown.told.unnoted now.told.unnoted watched.recovered.telling new h.why)
+          (let none : 0 + counted ≡ counted = omega arith in none)
+          (h.served image (told_since before.told shown.told shown.told tables_before tables_before 0) before (known_same refl) (between_under (sym same) (stands image begun)))))
+
+  -- and so many were counted
+  pub counted_begun : (ran last later first : ℕ) {rules : Rules} {before seen : Seen} {shown now : Shown} {tables_before tables : Option (List (List Try))} {old new : SessionState R} {answered : Answer} {done : ℕ} → done ≡ 0
+      → HasServedLink rules before seen shown now ((ran + last + done) - (later + first)) tables_before tables old new answered → HasServedLink rules before seen shown now ((ran + last) - (later + first)) tables_before tables old new answered
+  counted_begun ran last later first {rules = rules} {before = before} {seen = seen} {shown = shown} {now = now} {tables_before = tables_before} {tables = tables} {old = old} {new = new} {answered = answered} {done = done} none h =
+      let same : (ran + last + done) - (later + first) ≡ (ran + last) - (later + first) = omega (arith, none) in
+      subst (λ n. HasServedLink rules before seen shown now n tables_before tables old new answered) same h
+
+  -- Its guest has done few instructions: so many come between two items, and so many items.
+  pub between_fits : {rules : Rules} {image : Image} {began : Since} {seen : Seen} {session : SessionState R} → rules.limits.budget ≤ 2 ^ 24 → rules.bounds.max_items ≤ 2 ^ 20 → IsBetween rules image began seen session → session.cpu.slots.live.steps < 18446744073709551616
+  between_fits {rules = rules} budget items b =
+      let now : Path = b.going.story.survivor.now in
+      let few : now.state.machine.taken ≤ 2 ^ 20 = let most = b.going.goes.few in omega (arith, most, items) in
+      let product : now.state.machine.taken * (rules.limits.budget + 1) ≤ 2 ^ 20 * (2 ^ 24 + 1) = mul-le now.state.machine.taken (rules.limits.budget + 1) (2 ^ 20) (2 ^ 24 + 1) few (omega (arith, budget)) in
+      let live = ap (λ (s : Standing). s.steps) b.going.goes.guest in
+      let since = b.going.goes.bounded.since in
+      let steps = b.going.goes.bounded.steps in
+      omega (arith, live, since, steps, product, budget)
+
+  -- What is left to do gets less: of failures, or of instructions before the next one.
+  pub turned_smaller : (old mid new : SessionState R) → mid.options ≡ old.options → mid.cpu.slots.live.steps < 18446744073709551616 → GoesFurther mid new
+      → (old.options.max_items + 5 - new.until) * 18446744073709551617 + (18446744073709551616 - new.cpu.slots.live.steps) < (old.options.max_items + 5 - mid.until) * 18446744073709551617 + (18446744073709551616 - mid.cpu.slots.live.steps)
+  turned_smaller old mid new options fits (inl further) =
+      let same : old.options.max_items + 5 - new.until ≡ old.options.max_items + 5 - mid.until = ap (λ n. old.options.max_items + 5 - n) further.0 in
+      subst (λ n. n * 18446744073709551617 + (18446744073709551616 - new.cpu.slots.live.steps) < (old.options.max_items + 5 - mid.until) * 18446744073709551617 + (18446744073709551616 - mid.cpu.slots.live.steps)) (sym same)
+      (let later = further.1 in omega (arith, later, fits))
+  turned_smaller old mid new options fits (inr adopted) =
+      let most : mid.options.max_items ≡ old.options.max_items = ap (λ o. o.max_items) options in
+      let past = adopted.past in
+      let high = adopted.most in
+      omega (arith, past, high, most)

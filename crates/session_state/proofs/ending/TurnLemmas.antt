@@ -4,7 +4,7 @@ use Rattle.session_history.specs.declared.ends.SessionEnd.TheVariants as session
 use Rattle.guest_cpu.specs.declared.event.Event.TheVariants as step
 use Rattle.guest_cpu.specs.Running.{RunsBy}
 use Rattle.session_state.proofs.Lemmas.{held_by, held_of, answers_as, broken_running, run_asks, run_exits, run_fails}
-use Rattle.session_state.proofs.Terms.{AllocError, Bool, Err, List, Ok, Result, ap, arith, cond, inl, inr, ltb, refl, subst, sym, ℕ, ◌+◌, ◌<◌, ◌∙◌, ◌≡◌, ◌≤◌, IfOk, slice_get, Seen, Choice, Heap, Env, Plain, Saved, Image, Cause, Path, env_at, limits_of, Event, runs_serve, runs_write, CpuState, live_of, with_live, Standing, turn, RunsWriting, Stop, items_in, Rules, rules_of, SessionState, env_of, KeepsOldest, keeping_of, IsBetween, IsBrokenOff, IsEnding, IsFailing, IsWaitingFor, Since, entries, ComesBetween, GoesFurther, HasRun, HasSameFrame, IsAdoptedLater}
+use Rattle.session_state.proofs.Terms.{AllocError, Bool, Err, List, Ok, Result, ap, arith, cond, inl, inr, ltb, refl, subst, sym, ℕ, ◌+◌, ◌<◌, ◌∙◌, ◌≡◌, ◌≤◌, IfOk, slice_get, Seen, Choice, Heap, Env, Plain, Saved, Image, Cause, Path, env_at, limits_of, Event, runs_serve, runs_write, CpuState, live_of, with_live, Standing, turn, RunsWriting, Stop, items_in, Rules, SessionState, env_of, KeepsOldest, keeping_of, IsBetween, IsBrokenOff, IsEnding, IsFailing, IsWaitingFor, Since, entries, ComesBetween, GoesFurther, HasRun, HasSameFrame, IsAdoptedLater, rules_by}
 
 module _ {R : Type 0} where
   -- how a guest runs in an environment, by the session that it is of
@@ -19,17 +19,17 @@ module _ {R : Type 0} where
 
   -- its run goes on so
   pub ran_on : (permits : R → Heap → ℕ → ℕ → Bool) {env : Env} {image : Image} {began : Since} {seen : Seen} {old inside : SessionState R} (cpu : CpuState R) {happened : Event} → env ≡ env_of old → inside ≡ old
-      → (b : IsBetween (rules_of old.options (permits old.cpu.rule)) image began seen old) → Ran permits env inside cpu (Ok happened)
-      → RunsWriting (limits_of old.options.budget (permits old.cpu.rule)) (items_in (rules_of old.options (permits old.cpu.rule)).bounds (entries b.going.story)) b.going.story.survivor.plan old.cpu.base b.going.story.survivor.now old.cpu.written (Ok happened) (live_of cpu)
+      → (b : IsBetween (rules_by permits old) image began seen old) → Ran permits env inside cpu (Ok happened)
+      → RunsWriting (limits_of old.options.budget (permits old.cpu.rule)) (items_in (rules_by permits old).bounds (entries b.going.story)) b.going.story.survivor.plan old.cpu.base b.going.story.survivor.now old.cpu.written (Ok happened) (live_of cpu)
   ran_on permits {env = env} {old = old} cpu {happened = happened} force same b ran =
       let first : Path = b.going.story.survivor.now in
-      runs_write (limits_of old.options.budget (permits old.cpu.rule)) (items_in (rules_of old.options (permits old.cpu.rule)).bounds (entries b.going.story)) b.going.story.survivor.plan env old.cpu.base first (live_of old.cpu) (live_of cpu)
+      runs_write (limits_of old.options.budget (permits old.cpu.rule)) (items_in (rules_by permits old).bounds (entries b.going.story)) b.going.story.survivor.plan env old.cpu.base first (live_of old.cpu) (live_of cpu)
       (Ok happened) b.going.goes.lives (env_is b force) b.going.goes.guest (subst (λ (s : SessionState R). Ran permits env s cpu (Ok happened)) same ran)
 
   -- it ran to this event
   pub has_run : (permits : R → Heap → ℕ → ℕ → Bool) {env : Env} {image : Image} {began : Since} {seen : Seen} {old inside : SessionState R} {cpu : CpuState R} {found happened : Event} → env ≡ env_of old → inside ≡ old → found ≡ happened
-      → cpu ≡ with_live (live_of cpu) inside.cpu → IsBetween (rules_of old.options (permits old.cpu.rule)) image began seen old → Ran permits env inside cpu (Ok found)
-      → HasRun (rules_of old.options (permits old.cpu.rule)) image began seen happened (record inside { cpu = cpu })
+      → cpu ≡ with_live (live_of cpu) inside.cpu → IsBetween (rules_by permits old) image began seen old → Ran permits env inside cpu (Ok found)
+      → HasRun (rules_by permits old) image began seen happened (record inside { cpu = cpu })
   has_run permits {env = env} {old = old} {inside = inside} {cpu = cpu} force same is kept b ran = record {
     before = old;
     between = b;
@@ -40,7 +40,7 @@ module _ {R : Type 0} where
 
   -- its count of instructions didn't fall
   pub ran_later : (permits : R → Heap → ℕ → ℕ → Bool) {env : Env} {image : Image} {began : Since} {seen : Seen} {old inside : SessionState R} (cpu : CpuState R) {happened : Event} → env ≡ env_of old → inside ≡ old
-      → IsBetween (rules_of old.options (permits old.cpu.rule)) image began seen old → Ran permits env inside cpu (Ok happened) → old.cpu.slots.live.steps ≤ cpu.slots.live.steps
+      → IsBetween (rules_by permits old) image began seen old → Ran permits env inside cpu (Ok happened) → old.cpu.slots.live.steps ≤ cpu.slots.live.steps
   ran_later permits {old = old} cpu force same b ran =
       let runs = (ran_on permits cpu force same b ran).ran in
       let from : old.cpu.slots.live.steps ≡ b.going.story.survivor.now.steps = ap (λ (s : Standing). s.steps) b.going.goes.guest in
@@ -48,17 +48,17 @@ module _ {R : Type 0} where
 
   -- and the session answers for no more of them
   pub ran_low : (permits : R → Heap → ℕ → ℕ → Bool) {env : Env} {image : Image} {began : Since} {seen : Seen} {old inside : SessionState R} (cpu : CpuState R) (result : Result Event AllocError) → env ≡ env_of old → inside ≡ old
-      → IsBetween (rules_of old.options (permits old.cpu.rule)) image began seen old → Ran permits env inside cpu result → inside.steps ≤ cpu.slots.live.steps
+      → IsBetween (rules_by permits old) image began seen old → Ran permits env inside cpu result → inside.steps ≤ cpu.slots.live.steps
   ran_low permits {env = env} {old = old} {inside = inside} cpu result force same b ran =
       let first : Path = b.going.story.survivor.now in
-      let runs = runs_serve (limits_of old.options.budget (permits old.cpu.rule)) (items_in (rules_of old.options (permits old.cpu.rule)).bounds (entries b.going.story)) b.going.story.survivor.plan env old.cpu.base first (live_of old.cpu) (live_of cpu)
+      let runs = runs_serve (limits_of old.options.budget (permits old.cpu.rule)) (items_in (rules_by permits old).bounds (entries b.going.story)) b.going.story.survivor.plan env old.cpu.base first (live_of old.cpu) (live_of cpu)
       result b.going.goes.lives (env_is b force) b.going.goes.guest (subst (λ (s : SessionState R). Ran permits env s cpu result) same ran) in
       let answers : inside.steps ≡ first.steps = ap (λ (s : SessionState R). s.steps) same ∙ b.going.answers.steps in
       omega (arith, answers, ap (λ (s : Standing). s.steps) runs.stands, runs.goes.later)
 
   -- and grew by a send
   pub emits_later : (permits : R → Heap → ℕ → ℕ → Bool) {env : Env} {image : Image} {began : Since} {seen : Seen} {old inside : SessionState R} (cpu : CpuState R) {conn : ℕ} {bytes : List ℕ} {found : Event} → env ≡ env_of old → inside ≡ old → found ≡ step.Emits conn bytes
-      → IsBetween (rules_of old.options (permits old.cpu.rule)) image began seen old → Ran permits env inside cpu (Ok found) → old.cpu.slots.live.steps < cpu.slots.live.steps
+      → IsBetween (rules_by permits old) image began seen old → Ran permits env inside cpu (Ok found) → old.cpu.slots.live.steps < cpu.slots.live.steps
   emits_later permits {env = env} {old = old} {inside = inside} cpu force same is b ran =
       let runs = (ran_on permits cpu force same b (subst (λ (e : Event). Ran permits env inside cpu (Ok e)) is ran)).ran in
       let from : old.cpu.slots.live.steps ≡ b.going.story.survivor.now.steps = ap (λ (s : Standing). s.steps) b.going.goes.guest in
@@ -66,17 +66,19 @@ module _ {R : Type 0} where
 
   -- and by an answer of the allocator
   pub chooses_later : (permits : R → Heap → ℕ → ℕ → Bool) {env : Env} {image : Image} {began : Since} {seen : Seen} {old inside : SessionState R} (cpu : CpuState R) {choice : Choice} {found : Event} → env ≡ env_of old → inside ≡ old → found ≡ step.Chooses choice
-      → IsBetween (rules_of old.options (permits old.cpu.rule)) image began seen old → Ran permits env inside cpu (Ok found) → old.cpu.slots.live.steps < cpu.slots.live.steps
+      → IsBetween (rules_by permits old) image began seen old → Ran permits env inside cpu (Ok found) → old.cpu.slots.live.steps < cpu.slots.live.steps
   chooses_later permits {env = env} {old = old} {inside = inside} cpu force same is b ran =
       let runs = (ran_on permits cpu force same b (subst (λ (e : Event). Ran permits env inside cpu (Ok e)) is ran)).ran in
       let from : old.cpu.slots.live.steps ≡ b.going.story.survivor.now.steps = ap (λ (s : Standing). s.steps) b.going.goes.guest in
       omega (arith, from, ap (λ (s : Standing). s.steps) runs.stands, runs.comes.3)
 
-  -- its options and its access rule stay
-  pub ran_frame : {old inside after : SessionState R} {cpu : CpuState R} → inside ≡ old → cpu ≡ with_live (live_of cpu) inside.cpu → after.options ≡ inside.options → after.cpu ≡ cpu → HasSameFrame old after
-  ran_frame same kept options is = record {
+  -- what it allows stays
+  pub ran_frame : {old inside after : SessionState R} {cpu : CpuState R} → inside ≡ old → cpu ≡ with_live (live_of cpu) inside.cpu → after.options ≡ inside.options → after.before ≡ inside.before → after.hold ≡ inside.hold → after.cpu ≡ cpu → HasSameFrame old after
+  ran_frame same kept options before hold is = record {
     options = options ∙ ap (λ (s : SessionState R). s.options) same;
     rule = ap (λ (c : CpuState R). c.rule) is ∙ (ap (λ (c : CpuState R). c.rule) kept ∙ ap (λ (s : SessionState R). s.cpu.rule) same);
+    before = before ∙ ap (λ (s : SessionState R). s.before) same;
+    hold = hold ∙ ap (λ (s : SessionState R). s.hold) same;
   }
 
   -- behind the event the session answers for its guest's run
@@ -125,17 +127,17 @@ module _ {R : Type 0} where
 
   -- memory ran out within the run: the session answers for the run before it
   pub breaks_now : (permits : R → Heap → ℕ → ℕ → Bool) {env : Env} {image : Image} {began : Since} {seen : Seen} {old inside : SessionState R} {cpu : CpuState R} (result : Result Event AllocError) {lost : ℕ} → env ≡ env_of old → inside ≡ old
-      → keeping_of (record inside { cpu = cpu }) ≡ keeping_of old → cpu.slots.saved ≡ old.cpu.slots.saved → IsBetween (rules_of old.options (permits old.cpu.rule)) image began seen old → Ran permits env inside cpu result
-      → lost + inside.steps ≡ began.lost + cpu.slots.live.steps → IsBrokenOff (rules_of old.options (permits old.cpu.rule)) image (record began { lost = lost }) seen (record inside { cpu = cpu }) session_break.Memory
+      → keeping_of (record inside { cpu = cpu }) ≡ keeping_of old → cpu.slots.saved ≡ old.cpu.slots.saved → IsBetween (rules_by permits old) image began seen old → Ran permits env inside cpu result
+      → lost + inside.steps ≡ began.lost + cpu.slots.live.steps → IsBrokenOff (rules_by permits old) image (record began { lost = lost }) seen (record inside { cpu = cpu }) session_break.Memory
   breaks_now permits {env = env} {image = image} {old = old} {inside = inside} {cpu = cpu} result force same kept saved b ran counts =
       let first : Path = b.going.story.survivor.now in
-      let runs = runs_serve (limits_of old.options.budget (permits old.cpu.rule)) (items_in (rules_of old.options (permits old.cpu.rule)).bounds (entries b.going.story)) b.going.story.survivor.plan env old.cpu.base first (live_of old.cpu) (live_of cpu)
+      let runs = runs_serve (limits_of old.options.budget (permits old.cpu.rule)) (items_in (rules_by permits old).bounds (entries b.going.story)) b.going.story.survivor.plan env old.cpu.base first (live_of old.cpu) (live_of cpu)
       result b.going.goes.lives (env_is b force) b.going.goes.guest (subst (λ (s : SessionState R). Ran permits env s cpu result) same ran) in
       let answers : inside.steps ≡ first.steps = ap (λ (s : SessionState R). s.steps) same ∙ b.going.answers.steps in
       let there : runs.now.steps ≡ cpu.slots.live.steps = ap (λ (s : Standing). s.steps) runs.stands in
       broken_running runs.now b.going.told
       (answers_as (ap (λ (s : SessionState R). s.recorded) same) (ap (λ (s : SessionState R). s.choices) same) (ap (λ (s : SessionState R). s.taken) same) (ap (λ (s : SessionState R). s.steps) same)
-      b.going.answers) (held_by (rules_of old.options (permits old.cpu.rule)) image b.going.story.earlier (entries b.going.story) b.going.story.recoveries b.going.story.survivor old (record inside { cpu = cpu }) saved kept (held_of b.going.saved)) runs.goes.served runs.goes.later (omega (arith, counts, answers, there))
+      b.going.answers) (held_by (rules_by permits old) image b.going.story.earlier (entries b.going.story) b.going.story.recoveries b.going.story.survivor old (record inside { cpu = cpu }) saved kept (held_of b.going.saved)) runs.goes.served runs.goes.later (omega (arith, counts, answers, there))
 
   -- by other rules that are the same
   pub comes_under : (image : Image) (began : Since) (seen : Seen) (session : SessionState R) (result : Result (Unit {0}) Stop) {first second : Rules} → first ≡ second

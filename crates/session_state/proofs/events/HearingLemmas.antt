@@ -16,7 +16,7 @@ use Rattle.link_gate.proofs.Ordering.{heard_some, rests_by, step_heard}
 use Rattle.link_gate.proofs.Phasing.{closes-last, opens-first, opens-last, opens_by}
 use Rattle.session_history.specs.declared.ends.Stop.TheVariants as stop
 use Rattle.session_state.proofs.Lemmas.{still_takes, received_is, IsQuiet, before_given, before_story, goes_given, hearing_items, latest_story, same_run, saved_given, waits_on, IsNoEnd, HasHeard, HasSameRun, answers_still, has_heard, more_entries, saved_heard, all_due, close_ready, settle_done, settle_ready, latest-given}
-use Rattle.session_state.proofs.Terms.{Bool, Err, List, None, Ok, Option, Result, Some, [], ap, arith, false, inl, inr, length, length-append, refl, subst, sym, true, ℕ, ◌++◌, ◌+◌, ◌<◌, ◌∙◌, ◌∷◌, ◌≡◌, ◌≤◌, ◌⊎◌, cases_lt, eq-eqb, eqb-true, get_or-replicate, get_or-set_other, get_or_past, length-replicate, IfOk, is_some, slice_set, unwrap_or, ◌==◌, ◌||◌, rose_later, Send, Entry, LinkEvent, Counts, Tells, events_in, Seen, Heap, from_newest, Framing, behind_items, brought, hear, hear_parts, heard_from, Log, Shows, Ledger, connection_of, Image, SessionEnd, Stop, IsLastRefused, IsWaiting, StandsAt, AreGiven, IsClosing, IsReady, IsHeard, IsUnheeded, closing_of, Bounds, Unheeded, events_of, heeded, received, KeepsItems, KeepsPhases, KeepsReplies, Rules, closes, opens, Latest, HearFault, IsEvent, events_behind, heard_behind, ComesLast, HearsBy, IsShown, Stays, Takes, TakesBehind, is_far, stands_of, rules_of, SessionState, GivesUpBy, IsHandled, HasPassed, HasPassedDue, IsEnding, IsHearing, IsLatestBefore, IsTold, IsWaitingFor, KeepsCheckpoints, Since, Story, entries, moment, sends, then_story, CanPass, HasSameGuest, HasStopCause, IsStopAt, MayServe, PassesDue, PassesStory, StaysKnown, StopsBy, WaitsBy}
+use Rattle.session_state.proofs.Terms.{Bool, Err, List, None, Ok, Option, Result, Some, [], ap, arith, false, inl, inr, length, length-append, refl, subst, sym, true, ℕ, ◌++◌, ◌+◌, ◌<◌, ◌∙◌, ◌∷◌, ◌≡◌, ◌≤◌, ◌⊎◌, cases_lt, eq-eqb, eqb-true, get_or-replicate, get_or-set_other, get_or_past, length-replicate, IfOk, is_some, slice_set, unwrap_or, ◌==◌, ◌||◌, rose_later, Send, Entry, LinkEvent, Counts, Tells, Seen, Heap, from_newest, Framing, behind_items, brought, hear, hear_parts, heard_from, Log, Shows, Ledger, connection_of, Image, SessionEnd, Stop, IsLastRefused, IsWaiting, StandsAt, AreGiven, IsClosing, IsReady, IsHeard, IsUnheeded, closing_of, Bounds, Unheeded, events_of, heeded, received, KeepsItems, KeepsPhases, KeepsReplies, Rules, closes, opens, Latest, HearFault, IsEvent, events_behind, heard_behind, ComesLast, HearsBy, IsShown, Stays, Takes, TakesBehind, is_far, stands_of, rules_in, SessionState, GivesUpBy, IsHandled, HasPassed, HasPassedDue, IsEnding, IsHearing, IsLatestBefore, IsTold, IsWaitingFor, KeepsCheckpoints, Since, Story, entries, moment, sends, then_story, CanPass, HasSameGuest, HasStopCause, IsStopAt, MayServe, PassesDue, PassesStory, StaysKnown, StopsBy, WaitsBy, rules_by}
 use Rattle.session_state.proofs.events.StopLemmas.{ending_refused, ending_ended, ending_stopped, off_read, off_memory}
 
 -- one place of the connections' rests is set: the others are as they were
@@ -404,6 +404,8 @@ module _ {R : Type 0} where
   pub same_then : {old mid new : SessionState R} → HasSameGuest old mid → HasSameGuest mid new → HasSameGuest old new
   same_then first second = record {
     options = second.options ∙ first.options;
+    before = second.before ∙ first.before;
+    hold = second.hold ∙ first.hold;
     cpu = second.cpu ∙ first.cpu;
     recorded = second.recorded ∙ first.recorded;
     choices = second.choices ∙ first.choices;
@@ -416,8 +418,8 @@ module _ {R : Type 0} where
   }
 
   -- the same guest has the same rules
-  pub same_rules : (rule : R → Heap → ℕ → ℕ → Bool) {old new : SessionState R} → HasSameGuest old new → rules_of new.options (rule new.cpu.rule) ≡ rules_of old.options (rule old.cpu.rule)
-  same_rules rule same = λ i. rules_of (same.options i) (rule ((same.cpu i).rule))
+  pub same_rules : (rule : R → Heap → ℕ → ℕ → Bool) {old new : SessionState R} → HasSameGuest old new → rules_by rule new ≡ rules_by rule old
+  same_rules rule same = λ i. rules_in (same.options i) (same.before i) (same.hold i) (rule ((same.cpu i).rule))
 
   pub waits_under : {image : Image} {began : Since} {seen : Seen} {session : SessionState R} {first second : Rules} → first ≡ second → IsWaitingFor first image began seen session → IsWaitingFor second image began seen session
   waits_under {image = image} {began = began} {seen = seen} {session = session} {first = first} same = subst (λ (rules : Rules). IsWaitingFor rules image began seen session) same

@@ -5,7 +5,7 @@ use Rattle.item_log.proofs.Shown.{shown_items}
 use Rattle.session_history.specs.declared.ends.SessionBreak.TheVariants as session_break
 use Rattle.session_history.specs.declared.ends.SessionEnd.TheVariants as session_end
 use Rattle.guest_cpu.specs.declared.event.Event.TheVariants as event
-use Rattle.session_state.proofs.Terms.{List, None, Ok, [], ap, append-nil, arith, drop, inl, inr, length, length-append, map, refl, subst, sym, take, true, ℕ, ◌++◌, ◌+◌, ◌<◌, ◌∙◌, ◌∷◌, ◌≡◌, ◌≤◌, drop-append-le, take-append-le, ◌≢◌, Send, Entry, LinkEvent, grew_nothing, Grew, Phases, Tells, Told, Seen, Choice, items_of, Log, Ledger, Image, Cause, AsksFor, Path, Served, live_of, standing_of, Standing, GoesOn, IsSilent, RunsWriting, Writes, SessionBreak, SessionEnd, serving_account, Session, EndsBy, HandedLast, StandsAt, Bounds, events_of, items_in, received, KeepsItems, KeepsReplies, Rules, gone_on, is_open, IsPassed, Stands, Episode, Noted, OneEpisode, failed_with, steps_later, episode_of, HasHandled, HaveRings, Keeping, stands_of, steps_of, TellsMore, SessionState, AllAnswered, AreAllTables, FailsAtChoices, GivesUpBy, HasNoted, IsNoteFault, RanOn, spent, HoldsCheckpoints, IsAtRequest, IsReadFault, keeping_of, AnswersFor, GoesWith, HasMissed, HasNotedMore, HasPassed, HasPassedDue, HasUnanswered, IsBetween, IsBrokenOff, IsEnding, IsFailing, IsGoing, IsLatestBefore, IsLatestDone, IsTold, IsWaitingFor, Since, Story, entries, moment, unwatched, IsCounted}
+use Rattle.session_state.proofs.Terms.{List, None, Ok, [], ap, append-nil, arith, drop, inl, inr, length, length-append, map, refl, subst, sym, take, true, ℕ, ◌++◌, ◌+◌, ◌<◌, ◌∙◌, ◌∷◌, ◌≡◌, ◌≤◌, drop-append-le, take-append-le, ◌≢◌, Send, Entry, LinkEvent, grew_nothing, Grew, Phases, Tells, Told, Seen, Choice, items_of, Log, Ledger, Image, Cause, AsksFor, Path, Served, live_of, standing_of, Standing, GoesOn, IsSilent, RunsWriting, Writes, SessionBreak, SessionEnd, serving_account, Session, EndsBy, HandedLast, StandsAt, Bounds, events_of, items_in, received, KeepsItems, KeepsReplies, Rules, gone_on, is_open, IsPassed, Stands, Episode, Noted, OneEpisode, failed_with, steps_later, episode_of, HasHandled, HaveRings, Keeping, stands_of, steps_of, TellsMore, SessionState, AllAnswered, AreAllTables, FailsAtChoices, GivesUpBy, HasNoted, IsNoteFault, RanOn, spent, starting_path, HoldsCheckpoints, IsAtRequest, IsReadFault, keeping_of, AnswersFor, GoesWith, HasMissed, HasNotedMore, HasPassed, HasPassedDue, HasUnanswered, IsBetween, IsBrokenOff, IsEnding, IsFailing, IsGoing, IsLatestBefore, IsLatestDone, IsTold, IsWaitingFor, Since, Story, entries, moment, unwatched, IsCounted}
 use Rattle.session_state.proofs.guest.NoteLemmas.{grew_same}
 use Rattle.session_state.proofs.standing.StoryLemmas.{on_story, told_on, account_of, journal_of_story, moves_none}
 use Rattle.session_state.proofs.recovering.TableLemmas.{told_unwatched, tables_here}
@@ -62,7 +62,7 @@ due_still rules story to none same due =
     (sym none) (λ send stands still early. due send stands still (subst (λ n. send.taken + rules.hold ≤ n) same early))
 
 -- a session that was broken off, and that answers for all that was counted
-pub all_answered : {rules : Rules} {image : Image} {keeping : Keeping} {story : Story} {lost : ℕ} → spent story.recoveries ≡ lost + story.survivor.begun.steps
+pub all_answered : {rules : Rules} {image : Image} {keeping : Keeping} {story : Story} {lost : ℕ} → (starting_path rules image).steps + spent story.recoveries ≡ lost + story.survivor.begun.steps
     → HasUnanswered rules image keeping (record { account = account_of story; recoveries = story.recoveries; walk = None }) lost
 all_answered counts = record { rest = AllAnswered; is = tt; counted = let none : steps_of [] ≡ 0 = refl in omega (arith, none, counts) }
 

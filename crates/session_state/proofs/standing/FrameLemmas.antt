@@ -1,25 +1,30 @@
--- What a session allows where its options and its access rule stay.
-use Rattle.session_state.proofs.Terms.{Bool, ap, subst, sym, ℕ, ◌∙◌, ◌≡◌, Heap, CpuState, rules_of, SessionState, HasSameFrame, HasSameGuest, IsAdoptedLater, IsCounted}
+-- What a session allows where its frame stays.
+use Rattle.session_state.proofs.Terms.{Bool, ap, subst, sym, ℕ, ◌∙◌, ◌≡◌, Heap, CpuState, rules_in, SessionState, HasSameFrame, HasSameGuest, IsAdoptedLater, IsCounted, rules_by}
 
 module _ {R : Type 0} where
   pub guest_frame : {old new : SessionState R} → HasSameGuest old new → HasSameFrame old new
-  guest_frame same = record { options = same.options; rule = ap (λ (cpu : CpuState R). cpu.rule) same.cpu }
+  guest_frame same = record { options = same.options; rule = ap (λ (cpu : CpuState R). cpu.rule) same.cpu; before = same.before; hold = same.hold }
 
-  pub same_rules : (permits : R → Heap → ℕ → ℕ → Bool) {old new : SessionState R} → HasSameFrame old new → rules_of new.options (permits new.cpu.rule) ≡ rules_of old.options (permits old.cpu.rule)
-  same_rules permits same = λ i. rules_of (same.options i) (permits (same.rule i))
+  pub same_rules : (permits : R → Heap → ℕ → ℕ → Bool) {old new : SessionState R} → HasSameFrame old new → rules_by permits new ≡ rules_by permits old
+  same_rules permits same = λ i. rules_in (same.options i) (same.before i) (same.hold i) (permits (same.rule i))
 
   pub saved_frame : {old new : SessionState R} → new ≡ record old { cpu = new.cpu; ring = new.ring } → new.cpu.rule ≡ old.cpu.rule → HasSameFrame old new
-  saved_frame same rule = record { options = ap (λ (s : SessionState R). s.options) same; rule = rule }
+  saved_frame same rule = record { options = ap (λ (s : SessionState R). s.options) same; rule = rule; before = ap (λ (s : SessionState R). s.before) same; hold = ap (λ (s : SessionState R). s.hold) same }
 
   pub noted_frame : {old new : SessionState R} → new ≡ record old { recorded = new.recorded; choices = new.choices } → HasSameFrame old new
-  noted_frame same = record { options = ap (λ (s : SessionState R). s.options) same; rule = ap (λ (s : SessionState R). s.cpu.rule) same }
+  noted_frame same = record { options = ap (λ (s : SessionState R). s.options) same; rule = ap (λ (s : SessionState R). s.cpu.rule) same; before = ap (λ (s : SessionState R). s.before) same; hold = ap (λ (s : SessionState R). s.hold) same }
 
   pub forgot_frame : {old new : SessionState R} → new ≡ record old { log = new.log; replies = new.replies } → HasSameFrame old new
-  forgot_frame same = record { options = ap (λ (s : SessionState R). s.options) same; rule = ap (λ (s : SessionState R). s.cpu.rule) same }
+  forgot_frame same = record { options = ap (λ (s : SessionState R). s.options) same; rule = ap (λ (s : SessionState R). s.cpu.rule) same; before = ap (λ (s : SessionState R). s.before) same; hold = ap (λ (s : SessionState R). s.hold) same }
 
   -- what passing leaves
   pub passed_frame : {old mid new : SessionState R} → new ≡ record mid { replies = new.replies } → HasSameFrame old mid → HasSameFrame old new
-  passed_frame same frame = record { options = ap (λ (s : SessionState R). s.options) same ∙ frame.options; rule = ap (λ (s : SessionState R). s.cpu.rule) same ∙ frame.rule }
+  passed_frame same frame = record {
+    options = ap (λ (s : SessionState R). s.options) same ∙ frame.options;
+    rule = ap (λ (s : SessionState R). s.cpu.rule) same ∙ frame.rule;
+    before = ap (λ (s : SessionState R). s.before) same ∙ frame.before;
+    hold = ap (λ (s : SessionState R). s.hold) same ∙ frame.hold;
+  }
 
   pub passed_counted : {old new : SessionState R} → new ≡ record old { replies = new.replies } → IsCounted old → IsCounted new
   passed_counted {new = new} same counted = subst (λ (s : SessionState R). IsCounted s) (sym same) (record { taken = counted.taken; steps = counted.steps })

@@ -65,7 +65,7 @@ requests_taken {rules = rules} {image = image} {keeping = keeping} {chapters = c
 -- so each recovery had its ring
 pub rings_of : {rules : Rules} {image : Image} {keeping : Keeping} {chapters : List Chapter} {entries : List Entry} {recoveries : List Recovery} {survivor : Survivor} {requests : ℕ} {stands : List Stand}
     → HasHandled rules image keeping chapters entries recoveries survivor requests stands → HaveRings rules image keeping chapters recoveries
-rings_of h = record { written = h.earlier; last = h.begun; rings = h.rings }
+rings_of h = record { followed = h.followed; before = h.before; written = h.earlier; last = h.begun; rings = h.rings }
 
 rings_now : {rules : Rules} {image : Image} {keeping : Keeping} {chapters : List Chapter} {entries : List Entry} {recoveries : List Recovery} {survivor : Survivor} {stands : List Stand}
     → HandlesRequests rules image keeping chapters entries recoveries survivor stands → HaveRings rules image keeping chapters recoveries

@@ -5,7 +5,7 @@ use Rattle.rx_engine.proofs.session.Session.await_item.Goals as goal
 pub waits-init : goal.waits-init
 waits-init g c = record {
   hears = λ image began waits. waits;
-  same = record { options = refl; cpu = refl; recorded = refl; choices = refl; taken = refl; steps = refl; until = refl; first = refl; sends = refl; keeping = refl };
+  same = record { options = refl; before = refl; hold = refl; cpu = refl; recorded = refl; choices = refl; taken = refl; steps = refl; until = refl; first = refl; sends = refl; keeping = refl };
   handled = c.requires.handled;
   may = c.requires.may;
   known = known_same refl;

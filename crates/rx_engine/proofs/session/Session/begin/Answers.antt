@@ -20,4 +20,6 @@ returns g c =
       no_steps = refl;
       plain = refl;
       until_none = refl;
+      nothing_came = c.of.ensures;
+      hold_is = refl;
     }

@@ -27,7 +27,7 @@ pub returns-clause-passes : goal.returns-clause-passes
 returns-clause-passes g c rules image began story hold told closing =
     let mine = subst (λ (s : SessionState _). IsToldBy rules image began (g.K.Link.seen c.args.link.now) story s) (sym c.self.view_is) told in
     let stands = subst (λ (s : SessionState _). StandsClosing (g.K.Link.seen c.args.link.now) c.args.conn s) (sym c.self.view_is) c.requires in
-    let low : rules.hold ≡ c.self.inside.options.hold = subst (λ (s : SessionState _). rules.hold ≡ s.options.hold) (sym c.self.view_is) hold in
+    let low : rules.hold ≡ c.self.inside.hold = subst (λ (s : SessionState _). rules.hold ≡ s.hold) (sym c.self.view_is) hold in
     let here = subst (λ (s : SessionState _). IsClosing rules (sends story) (moment story) c.args.conn s.replies) (sym c.self.view_is) closing in
     let rest = rest_ok (g.K.Link.seen c.pass_rest.new.link) told.told (c.in_default.ensures.passes rules (sends story) (moment story) (sym mine.received_are ∙ sym c.received-stamp.ensures.count) here) in
     let after : Story = then_story story rest.0 in

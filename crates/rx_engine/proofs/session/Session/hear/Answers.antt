@@ -27,7 +27,7 @@ returns-in-Ok-Items-clause-hears g c image began waits =
     let h = c.in-Ok-Items.ensures.hears the_rules.bounds (entries w.hearing.story) (sends w.hearing.story) limit w.hearing.goes.events w.hearing.goes.items w.hearing.passed.replies w.hearing.goes.phases_are in
     let e = items_heard {was = g.K.Link.seen c.args.link.now} {seen = g.K.Link.seen c.hear.new.link} _ h c.in-Ok-Items.field-0-is in
     let hearing = items_hearing w none_left c.in-Ok-Items.ensures.keeps.first c.in-Ok-Items.ensures.keeps.replies.first c.in-Ok-Items.ensures.keeps.replies.trial e.1 e.2 in
-    let passes = c.pass_due.ensures.passes the_rules image began hearing.story (ap (λ (s : SessionState _). s.options.hold) (sym c.self.view_is)) (record { told = hearing.told; answers = hearing.answers; holds = (held_of hearing.saved); received_are = (received_is hearing.goes.items) }) hearing.passed in
+    let passes = c.pass_due.ensures.passes the_rules image began hearing.story (ap (λ (s : SessionState _). s.hold) (sym c.self.view_is)) (record { told = hearing.told; answers = hearing.answers; holds = (held_of hearing.saved); received_are = (received_is hearing.goes.items) }) hearing.passed in
     waits_due (g.K.Link.seen c.pass_due.new.link) hearing c.pass_due.result c.pass_due.ensures.keeps.only.same c.pass_due.ensures.keeps.only.first (λ conn. ap (λ (s : Seen). s.phases conn) c.pass_due.ensures.keeps.link.rest)
     (ap (λ (s : Seen). s.takes) c.pass_due.ensures.keeps.link.rest ∙ c.in-Ok-Items.ensures.shows.takes) passes
 
@@ -74,7 +74,7 @@ returns-in-Ok-Closes-clause-hears g c image began waits =
     let after : Story = then_story w.hearing.story (entry.Took (event.Closes c.in-Ok-Closes.conn) ∷ []) in
     let known = story_heard w none_left c.in-Ok-Closes.ensures.keeps.first e in
     let closing = heard_closing w none_left c.in-Ok-Closes.ensures.keeps.first e in
-    let passes = c.close.ensures.passes the_rules image began after (ap (λ (s : SessionState _). s.options.hold) (sym c.self.view_is)) (record { told = known.told; answers = known.answers; holds = (held_of (heard_saved w c.in-Ok-Closes.ensures.keeps.first c.in-Ok-Closes.ensures.keeps.replies.first e)); received_are = (received_is known.goes.items) }) closing in
+    let passes = c.close.ensures.passes the_rules image began after (ap (λ (s : SessionState _). s.hold) (sym c.self.view_is)) (record { told = known.told; answers = known.answers; holds = (held_of (heard_saved w c.in-Ok-Closes.ensures.keeps.first c.in-Ok-Closes.ensures.keeps.replies.first e)); received_are = (received_is known.goes.items) }) closing in
     waits_closed (g.K.Link.seen c.close.new.link) known c.close.result
     (heard_saved w c.in-Ok-Closes.ensures.keeps.first c.in-Ok-Closes.ensures.keeps.replies.first e)
     (heard_last (event.Closes c.in-Ok-Closes.conn) w none_left tt) c.close.ensures.keeps.only.same c.close.ensures.keeps.only.first (λ conn. ap (λ (s : Seen). s.phases conn) c.close.ensures.keeps.link.rest) (ap (λ (s : Seen). s.takes) c.close.ensures.keeps.link.rest ∙ c.in-Ok-Closes.ensures.shows.takes) passes

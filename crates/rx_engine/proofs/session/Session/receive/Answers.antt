@@ -1,4 +1,4 @@
-use Rattle.rx_engine.proofs.Terms.{ap, rules, subst, sym, ◌∙◌, Seen, Ledger, CanGive, Options, counted_same, unnoted_passing, passing_serves, serves_then, handled_same, comes_between, guest_frame, same_rules, guest_oldest, oldest_then, passed_oldest, going_can, going_told, rules_by, IsGoing, IsWaitingFor}
+use Rattle.rx_engine.proofs.Terms.{ap, rules, subst, sym, ◌∙◌, Seen, Ledger, CanGive, counted_same, unnoted_passing, passing_serves, serves_then, handled_same, comes_between, guest_frame, same_rules, guest_oldest, oldest_then, passed_oldest, going_can, going_told, rules_by, IsGoing, IsWaitingFor}
 use Rattle.rx_engine.proofs.session.Session.receive.Goals as goal
 
 pub take-requires : goal.take-requires
@@ -33,7 +33,7 @@ returns-clause-turns g c image began w =
     let same = same_rules g.R.AccessRule.rule (guest_frame c.await_item.ensures.keeps.same) in
     let waits = subst (λ any. IsWaitingFor any image began (g.K.Link.seen c.await_item.new.link) c.await_item.new.self) (sym same) (c.in_default.ensures.hears image began w) in
     let going = subst (λ any. IsGoing any image began (g.K.Link.seen c.await_item.new.link) c.take.new.self) same (c.take.ensures.going image began _ waits) in
-    let hold = sym (ap (λ (o : Options). o.hold) (c.take.ensures.keeps.frame.options ∙ c.await_item.ensures.keeps.same.options)) in
+    let hold = sym (c.take.ensures.keeps.frame.hold ∙ c.await_item.ensures.keeps.same.hold) in
     comes_between (g.K.Link.seen c.pass_due.new.link) going c.pass_due.result c.pass_due.ensures.keeps.only.same c.pass_due.ensures.keeps.only.first (λ conn. ap (λ (s : Seen). s.phases conn) c.pass_due.ensures.keeps.link.rest)
     (ap (λ (s : Seen). s.takes) c.pass_due.ensures.keeps.link.rest ∙ c.in_default.ensures.keeps.link.takes)
     (c.pass_due.ensures.passes (rules_by g.R.AccessRule.rule c.args.self.now) image began going.story hold (going_told going) going.passed)

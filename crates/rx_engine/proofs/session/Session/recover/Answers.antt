@@ -1,7 +1,7 @@
 use Rattle.session_history.specs.declared.ends.SessionBreak.TheVariants as session_break
 use Rattle.session_history.specs.declared.ends.Stop.TheVariants as stop
 use Rattle.session_state.specs.Serving.{end_of}
-use Rattle.rx_engine.proofs.Terms.{Err, None, Some, ap, refl, rules, sym, ℕ, ◌+◌, ◌∙◌, ◌≡◌, Seen, Options, note_answered, unnoted_passing, adopted_serves, asking_notes, episode_stopped, memory_serves, noting_serves, passing_serves, unnoted_serves, lost_counts, lost_then, if_ok, comes_between, comes_lost, ends_adopted, failing_told, gives_same, goes_adopted, lost_behind, missed_episode, noted_episode, one_more, passed_adopted, passed_counted, passed_frame, oldest_then, passed_oldest, going_can, going_told, still_takes, keeping_of, rules_by, SessionState, Since}
+use Rattle.rx_engine.proofs.Terms.{Err, None, Some, ap, refl, rules, sym, ℕ, ◌+◌, ◌∙◌, ◌≡◌, Seen, note_answered, unnoted_passing, adopted_serves, asking_notes, episode_stopped, memory_serves, noting_serves, passing_serves, unnoted_serves, lost_counts, lost_then, if_ok, comes_between, comes_lost, ends_adopted, failing_told, gives_same, goes_adopted, lost_behind, missed_episode, noted_episode, one_more, passed_adopted, passed_counted, passed_frame, oldest_then, passed_oldest, going_can, going_told, still_takes, keeping_of, rules_by, SessionState, Since}
 use Rattle.rx_engine.proofs.session.Session.recover.Goals as goal
 
 pub returns-in-Err-clause-turns : goal.returns-in-Err-clause-turns
@@ -63,7 +63,7 @@ returns-clause-turns g c image began lost fails counts =
     let with_episode = noted_episode c.in_default.ensures.shows in
     let none : end_of c.args.self.now.taken c.args.cause c.in-Ok.recovered.adopted ≡ None = ap (λ n. end_of n c.args.cause c.in-Ok.recovered.adopted) (sym (ap (λ (s : SessionState _). s.taken) c.self.view_is)) ∙ (sym c.end_of.ensures ∙ c.in_default-end_of.is) in
     let going = goes_adopted _ none (adopting.goes told with_episode) in
-    let hold = sym (ap (λ (o : Options). o.hold) c.in-Ok.ensures.keeps.frame.options) in
+    let hold = sym c.in-Ok.ensures.keeps.frame.hold in
     let steps : c.pass_due.new.self.steps ≡ c.adopt.new.self.steps = ap (λ (s : SessionState _). s.steps) c.pass_due.ensures.keeps.only.same in
     comes_lost the_rules image later (g.K.Link.seen c.pass_due.new.link) c.pass_due.new.self c.pass_due.result
     (lost_behind (g.W.Watch.ran c.adopt.new.watch + c.args.steps.now) counts all steps)

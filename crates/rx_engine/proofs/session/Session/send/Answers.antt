@@ -11,10 +11,10 @@ returns-in-Err-clause-turns g c image began lost takes h counts =
     (run_breaks h (ap (λ (s : SessionState _). keeping_of s) c.self.view_is) (ap (λ (s : SessionState _). s.cpu.slots.saved) c.self.view_is) (ap (λ (s : SessionState _). s.recorded) c.self.view_is) (ap (λ (s : SessionState _). s.choices) c.self.view_is) (ap (λ (s : SessionState _). s.taken) c.self.view_is) (ap (λ (s : SessionState _). s.steps) c.self.view_is) counts, λ none. still_takes _ takes none)
 
 pub returns-in-Err-clause-keeps : goal.returns-in-Err-clause-keeps
-returns-in-Err-clause-keeps g c = record { link = nothing_passed; until = search rules; options = search rules; cpu = search rules; oldest = search rules; keeping = search rules; marked = search rules; low = search rules }
+returns-in-Err-clause-keeps g c = record { link = nothing_passed; until = search rules; options = search rules; before = search rules; hold = search rules; cpu = search rules; oldest = search rules; keeping = search rules; marked = search rules; low = search rules }
 
 pub returns-clause-keeps : goal.returns-clause-keeps
-returns-clause-keeps g c = record { link = search rules; until = search rules; options = search rules; cpu = search rules; oldest = search rules; keeping = search rules; marked = search rules; low = search rules }
+returns-clause-keeps g c = record { link = search rules; until = search rules; options = search rules; before = search rules; hold = search rules; cpu = search rules; oldest = search rules; keeping = search rules; marked = search rules; low = search rules }
 
 pub pass_due-requires : goal.pass_due-requires
 pass_due-requires g c = record {
@@ -26,7 +26,7 @@ pass_due-requires g c = record {
 pub returns-clause-turns : goal.returns-clause-turns
 returns-clause-turns g c image began lost takes h counts =
     let going = sent_going h c.self.view_is c.in_default.ensures.ok c.count_run.ensures in
-    let hold = sym (ap (λ (s : SessionState _). s.options.hold) c.count_run.ensures ∙ ap (λ (s : SessionState _). s.options.hold) c.self.view_is) in
+    let hold = sym (ap (λ (s : SessionState _). s.hold) c.count_run.ensures ∙ ap (λ (s : SessionState _). s.hold) c.self.view_is) in
     let steps : c.pass_due.new.self.steps ≡ c.args.self.now.cpu.slots.live.steps =
     ap (λ (s : SessionState _). s.steps) c.pass_due.ensures.keeps.only.same ∙ (ap (λ (s : SessionState _). s.steps) c.count_run.ensures ∙ ap (λ (s : SessionState _). s.cpu.slots.live.steps) c.self.view_is) in
     comes_lost (rules_by g.R.AccessRule.rule c.args.self.now) image began (g.K.Link.seen c.pass_due.new.link) c.pass_due.new.self c.pass_due.result (omega (arith, counts, steps))

@@ -2,14 +2,14 @@ use Rattle.guest_cpu.specs.Cpus.{CpuState}
 use Rattle.session_history.specs.declared.ends.SessionBreak.TheVariants as session_break
 use Rattle.session_history.specs.declared.ends.SessionEnd.TheVariants as session_end
 use Rattle.session_history.specs.declared.ends.Stop.TheVariants as stop
-use Rattle.rx_engine.proofs.Terms.{Err, ap, arith, inl, refl, rules, subst, sym, ◌+◌, ◌<◌, ◌∙◌, ◌≡◌, ◌≤◌, Ledger, Rules, CanGive, unnoted_passing, chosen_serves, exited_serves, memory_serves, passing_serves, trims_on, unnoted_chosen, unnoted_serves, asks_now, breaks_now, chooses_later, comes_under, emits_later, exits_now, fails_now, fails_under, further_adopted, further_ok, has_run, later_ok, lost_cut, lost_failed, lost_none, ran_frame, ran_keeping, ran_later, ran_low, ran_oldest, ran_saved, run_under, if_ok, waits_under, comes_lost, same_rules, trimmed_still, still_takes, rules_of, MayServe, rules_by, SessionState, Since}
+use Rattle.rx_engine.proofs.Terms.{Err, ap, arith, inl, refl, rules, subst, sym, ◌+◌, ◌<◌, ◌∙◌, ◌≡◌, ◌≤◌, Ledger, Rules, CanGive, unnoted_passing, chosen_serves, exited_serves, memory_serves, passing_serves, trims_on, unnoted_chosen, unnoted_serves, asks_now, breaks_now, chooses_later, comes_under, emits_later, exits_now, fails_now, fails_under, further_adopted, further_ok, has_run, later_ok, lost_cut, lost_failed, lost_none, ran_frame, ran_keeping, ran_later, ran_low, ran_oldest, ran_saved, run_under, if_ok, waits_under, comes_lost, same_rules, trimmed_still, still_takes, rules_in, MayServe, rules_by, SessionState, Since}
 use Rattle.rx_engine.proofs.session.Session.turn.Goals as goal
 
 pub ask-requires : goal.ask-requires
 ask-requires g c =
     let the_rules : Rules = rules_by g.R.AccessRule.rule c.args.self.now in
     let here : Rules = rules_by g.R.AccessRule.rule c.count_run.new.self in
-    let same = same_rules g.R.AccessRule.rule (ran_frame {after = c.count_run.new.self} c.self.view_is c.run_to_event.ensures.kept (ap (λ (s : SessionState _). s.options) c.count_run.ensures) (ap (λ (s : SessionState _). s.cpu) c.count_run.ensures)) in
+    let same = same_rules g.R.AccessRule.rule (ran_frame {after = c.count_run.new.self} c.self.view_is c.run_to_event.ensures.kept (ap (λ (s : SessionState _). s.options) c.count_run.ensures) (ap (λ (s : SessionState _). s.before) c.count_run.ensures) (ap (λ (s : SessionState _). s.hold) c.count_run.ensures) (ap (λ (s : SessionState _). s.cpu) c.count_run.ensures)) in
     let run = has_run g.R.AccessRule.rule c.env_now-env.ensures c.self.view_is c.in-Ok-Asks.field-0-is c.run_to_event.ensures.kept c.requires.is c.in-Ok-Asks.ensures.event in
     record {
       waits = record { image = c.requires.image; began = c.requires.began; is = waits_under (sym same) (asks_now c.self.view_is c.count_run.ensures run) };
@@ -20,8 +20,8 @@ ask-requires g c =
 pub send-requires : goal.send-requires
 send-requires g c =
     let the_rules : Rules = rules_by g.R.AccessRule.rule c.args.self.now in
-    let here : Rules = rules_of c.self.inside.options (g.R.AccessRule.rule c.run_to_event.new.self.rule) in
-    let same : here ≡ the_rules = λ i. rules_of ((ap (λ (s : SessionState _). s.options) c.self.view_is) i) (g.R.AccessRule.rule ((ap (λ (cpu : CpuState _). cpu.rule) c.run_to_event.ensures.kept ∙ ap (λ (s : SessionState _). s.cpu.rule) c.self.view_is) i)) in
+    let here : Rules = rules_in c.self.inside.options c.self.inside.past.before c.self.inside.hold (g.R.AccessRule.rule c.run_to_event.new.self.rule) in
+    let same : here ≡ the_rules = λ i. rules_in ((ap (λ (s : SessionState _). s.options) c.self.view_is) i) ((ap (λ (s : SessionState _). s.before) c.self.view_is) i) ((ap (λ (s : SessionState _). s.hold) c.self.view_is) i) (g.R.AccessRule.rule ((ap (λ (cpu : CpuState _). cpu.rule) c.run_to_event.ensures.kept ∙ ap (λ (s : SessionState _). s.cpu.rule) c.self.view_is) i)) in
     let run = has_run g.R.AccessRule.rule c.env_now-env.ensures c.self.view_is c.in-Ok-Emits.field-0-is c.run_to_event.ensures.kept c.requires.is c.in-Ok-Emits.ensures.event in
     record { image = c.requires.image; began = c.requires.began; is = run_under (sym same) run; gives = subst (λ (l : Ledger). CanGive (g.K.Link.seen c.args.link.now) l) (sym (ap (λ (s : SessionState _). s.replies) c.self.view_is)) c.requires.may.gives }
 
@@ -36,7 +36,7 @@ returns-in-Ok-Asks-clause-turns g c image began lost b counts =
     let asked : c.ask.new.steps + c.run_to_event.new.self.slots.live.steps ≡ c.run_to_event.new.steps + c.ask.new.self.cpu.slots.live.steps = omega (arith, ask_counted, ask_live) in
     let the_rules : Rules = rules_by g.R.AccessRule.rule c.args.self.now in
     let here : Rules = rules_by g.R.AccessRule.rule c.count_run.new.self in
-    let same = same_rules g.R.AccessRule.rule (ran_frame {after = c.count_run.new.self} c.self.view_is c.run_to_event.ensures.kept (ap (λ (s : SessionState _). s.options) c.count_run.ensures) (ap (λ (s : SessionState _). s.cpu) c.count_run.ensures)) in
+    let same = same_rules g.R.AccessRule.rule (ran_frame {after = c.count_run.new.self} c.self.view_is c.run_to_event.ensures.kept (ap (λ (s : SessionState _). s.options) c.count_run.ensures) (ap (λ (s : SessionState _). s.before) c.count_run.ensures) (ap (λ (s : SessionState _). s.hold) c.count_run.ensures) (ap (λ (s : SessionState _). s.cpu) c.count_run.ensures)) in
     let run = has_run g.R.AccessRule.rule c.env_now-env.ensures c.self.view_is c.in-Ok-Asks.field-0-is c.run_to_event.ensures.kept b c.in-Ok-Asks.ensures.event in
     let after : Since = record began { tables = g.W.Watch.tables c.args.watch.now; noted = (g.N.Notes.shown c.ask.new.notes).told } in
     comes_lost the_rules image after (g.K.Link.seen c.ask.new.link) c.ask.new.self c.ask.result
@@ -51,8 +51,8 @@ returns-in-Ok-Emits-clause-turns g c image began lost b counts =
     let counted = c.run_to_event.ensures.counted in
     let run_counts : c.run_to_event.new.steps + c.args.self.now.cpu.slots.live.steps ≡ c.args.steps.now + c.run_to_event.new.self.slots.live.steps = omega (arith, view, counted) in
     let the_rules : Rules = rules_by g.R.AccessRule.rule c.args.self.now in
-    let here : Rules = rules_of c.self.inside.options (g.R.AccessRule.rule c.run_to_event.new.self.rule) in
-    let same : here ≡ the_rules = λ i. rules_of ((ap (λ (s : SessionState _). s.options) c.self.view_is) i) (g.R.AccessRule.rule ((ap (λ (cpu : CpuState _). cpu.rule) c.run_to_event.ensures.kept ∙ ap (λ (s : SessionState _). s.cpu.rule) c.self.view_is) i)) in
+    let here : Rules = rules_in c.self.inside.options c.self.inside.past.before c.self.inside.hold (g.R.AccessRule.rule c.run_to_event.new.self.rule) in
+    let same : here ≡ the_rules = λ i. rules_in ((ap (λ (s : SessionState _). s.options) c.self.view_is) i) ((ap (λ (s : SessionState _). s.before) c.self.view_is) i) ((ap (λ (s : SessionState _). s.hold) c.self.view_is) i) (g.R.AccessRule.rule ((ap (λ (cpu : CpuState _). cpu.rule) c.run_to_event.ensures.kept ∙ ap (λ (s : SessionState _). s.cpu.rule) c.self.view_is) i)) in
     let run = has_run g.R.AccessRule.rule c.env_now-env.ensures c.self.view_is c.in-Ok-Emits.field-0-is c.run_to_event.ensures.kept b c.in-Ok-Emits.ensures.event in
     comes_under image (record before { lost = lost }) (g.K.Link.seen c.send.new.link) c.send.new.self c.send.result same
     (c.send.ensures.turns image before lost c.requires.may.takes (run_under (sym same) run)
@@ -65,8 +65,8 @@ returns-in-Ok-Chooses-clause-turns g c image began lost b counts =
     let counted = c.run_to_event.ensures.counted in
     let run_counts : c.run_to_event.new.steps + c.args.self.now.cpu.slots.live.steps ≡ c.args.steps.now + c.run_to_event.new.self.slots.live.steps = omega (arith, view, counted) in
     let the_rules : Rules = rules_by g.R.AccessRule.rule c.args.self.now in
-    let here : Rules = rules_of c.self.inside.options (g.R.AccessRule.rule c.run_to_event.new.self.rule) in
-    let same : here ≡ the_rules = λ i. rules_of ((ap (λ (s : SessionState _). s.options) c.self.view_is) i) (g.R.AccessRule.rule ((ap (λ (cpu : CpuState _). cpu.rule) c.run_to_event.ensures.kept ∙ ap (λ (s : SessionState _). s.cpu.rule) c.self.view_is) i)) in
+    let here : Rules = rules_in c.self.inside.options c.self.inside.past.before c.self.inside.hold (g.R.AccessRule.rule c.run_to_event.new.self.rule) in
+    let same : here ≡ the_rules = λ i. rules_in ((ap (λ (s : SessionState _). s.options) c.self.view_is) i) ((ap (λ (s : SessionState _). s.before) c.self.view_is) i) ((ap (λ (s : SessionState _). s.hold) c.self.view_is) i) (g.R.AccessRule.rule ((ap (λ (cpu : CpuState _). cpu.rule) c.run_to_event.ensures.kept ∙ ap (λ (s : SessionState _). s.cpu.rule) c.self.view_is) i)) in
     let run = has_run g.R.AccessRule.rule c.env_now-env.ensures c.self.view_is c.in-Ok-Chooses.field-0-is c.run_to_event.ensures.kept b c.in-Ok-Chooses.ensures.event in
     comes_under image (record before { lost = lost }) (g.K.Link.seen c.args.link.now) c.choose.new.self c.choose.result same
     (c.choose.ensures.turns image before _ lost c.requires.may.takes (run_under (sym same) run)
@@ -99,7 +99,7 @@ pub recover-requires : goal.recover-requires
 recover-requires g c =
     let the_rules : Rules = rules_by g.R.AccessRule.rule c.args.self.now in
     let here : Rules = rules_by g.R.AccessRule.rule c.count_run-in-Ok-Failed.new.self in
-    let same = same_rules g.R.AccessRule.rule (ran_frame {after = c.count_run-in-Ok-Failed.new.self} c.self.view_is c.run_to_event.ensures.kept (ap (λ (s : SessionState _). s.options) c.count_run-in-Ok-Failed.ensures) (ap (λ (s : SessionState _). s.cpu) c.count_run-in-Ok-Failed.ensures)) in
+    let same = same_rules g.R.AccessRule.rule (ran_frame {after = c.count_run-in-Ok-Failed.new.self} c.self.view_is c.run_to_event.ensures.kept (ap (λ (s : SessionState _). s.options) c.count_run-in-Ok-Failed.ensures) (ap (λ (s : SessionState _). s.before) c.count_run-in-Ok-Failed.ensures) (ap (λ (s : SessionState _). s.hold) c.count_run-in-Ok-Failed.ensures) (ap (λ (s : SessionState _). s.cpu) c.count_run-in-Ok-Failed.ensures)) in
     let run = has_run g.R.AccessRule.rule c.env_now-env.ensures c.self.view_is c.in-Ok-Failed.field-0-is c.run_to_event.ensures.kept c.requires.is c.in-Ok-Failed.ensures.event in
     record {
       image = c.requires.image;
@@ -119,7 +119,7 @@ returns-in-Ok-Failed-clause-turns g c image began lost b counts =
     let run_counts : c.run_to_event.new.steps + c.args.self.now.cpu.slots.live.steps ≡ c.args.steps.now + c.count_run-in-Ok-Failed.new.self.steps = omega (arith, view, counted, steps) in
     let the_rules : Rules = rules_by g.R.AccessRule.rule c.args.self.now in
     let here : Rules = rules_by g.R.AccessRule.rule c.count_run-in-Ok-Failed.new.self in
-    let same = same_rules g.R.AccessRule.rule (ran_frame {after = c.count_run-in-Ok-Failed.new.self} c.self.view_is c.run_to_event.ensures.kept (ap (λ (s : SessionState _). s.options) c.count_run-in-Ok-Failed.ensures) (ap (λ (s : SessionState _). s.cpu) c.count_run-in-Ok-Failed.ensures)) in
+    let same = same_rules g.R.AccessRule.rule (ran_frame {after = c.count_run-in-Ok-Failed.new.self} c.self.view_is c.run_to_event.ensures.kept (ap (λ (s : SessionState _). s.options) c.count_run-in-Ok-Failed.ensures) (ap (λ (s : SessionState _). s.before) c.count_run-in-Ok-Failed.ensures) (ap (λ (s : SessionState _). s.hold) c.count_run-in-Ok-Failed.ensures) (ap (λ (s : SessionState _). s.cpu) c.count_run-in-Ok-Failed.ensures)) in
     let run = has_run g.R.AccessRule.rule c.env_now-env.ensures c.self.view_is c.in-Ok-Failed.field-0-is c.run_to_event.ensures.kept b c.in-Ok-Failed.ensures.event in
     comes_under image (record began { lost = lost; tables = g.W.Watch.tables c.recover.new.watch; noted = (g.N.Notes.shown c.recover.new.notes).told }) (g.K.Link.seen c.recover.new.link) c.recover.new.self c.recover.result same
     (c.recover.ensures.turns image before lost (fails_under (sym same) (fails_now c.self.view_is c.count_run-in-Ok-Failed.ensures run))

@@ -1,5 +1,5 @@
 use Rattle.rx_engine.proofs.Terms.{◌*◌, ◌+◌, ◌-◌, ◌≡◌, HasTurned}
-use Rattle.rx_engine.proofs.session.Session.serve_watched.Given as goal
+use Rattle.rx_engine.proofs.session.Session.serve_on.Given as goal
 
 abbrev pub invariant-turns : goal.invariant-turns
 invariant-turns g l =

@@ -1,0 +1,37 @@
+-- A second host that takes over says neither that the files are of another run, nor that clients have more.
+use Rattle.session_history.specs.Terms.{Path}
+use Rattle.follow.proofs.Terms.{Option, Some, arith, inl, inr, subst, ◌<◌, ◌≡◌, IfSome, Stand, Finish, IsFollowed, IsTakeover, Takeover, stopped, plan_in}
+use Rattle.follow.proofs.Agreed.{answers_agree, stuck_has_reached}
+use Rattle.follow.proofs.Reached.{follows_before}
+use Rattle.session_following.specs.Answers.{EndsEarly, FilesAndClients, IsShort, IsUnlike, NeitherIsSaid, OtherAnswer, OtherPlace}
+use Rattle.session_following.specs.Reaching.{IsNotReached}
+
+-- before it is released it has fewer instructions than the record's last line
+before_finish : (over : Takeover) (path : Path) (stand : Stand over.limits (plan_in over) path) (finish : Finish) → IsTakeover over → IsFollowed over path → IsNotReached over.limits over.handed path → over.handed.finish ≡ Some finish → path.steps < finish.steps
+before_finish over path stand finish takeover followed not_yet is =
+    elim (follows_before over path stand takeover followed) [
+      | inl reached ↦ absurd (not_yet stand reached)
+      | inr before ↦
+          let at = subst (λ (o : Option Finish). IfSome o (λ (f : Finish). (f.steps ≡ (stopped over).steps) × (f.taken ≡ (stopped over).state.machine.taken))) is takeover.handed_by.finish in
+          omega (arith, before.1, at.0)
+    ]
+
+pub neither_is_said : NeitherIsSaid
+neither_is_said over path takeover followed whole not_yet = (unlike, short)
+  where
+    unlike : ¬ IsUnlike over.limits followed.heard over.handed path
+    unlike (OtherAnswer one other) = elim (answers_agree over path takeover followed) [
+      | inl front ↦ one front
+      | inr front ↦ other front
+    ]
+    unlike (OtherPlace finish stand is late apart) = let less = before_finish over path stand finish takeover followed not_yet is in omega (arith, less, late)
+    unlike (EndsEarly stand stuck less) = not_yet stand (stuck_has_reached over path stand takeover followed whole stuck)
+
+    short : (conn : _) → ¬ IsShort over.limits followed.heard over.handed path conn
+    short conn is = elim is.last [
+      | inl stuck ↦ not_yet is.stand (stuck_has_reached over path is.stand takeover followed whole stuck)
+      | inr there ↦ let less = before_finish over path is.stand there.0 takeover followed not_yet there.1.0 in omega (arith, less, there.1.1)
+    ]
+
+pub files_and_clients : FilesAndClients
+files_and_clients limits handed path stand files covers = record { past = files.past; chose = files.chose; finished = files.finished; covers = covers }

@@ -1,0 +1,14 @@
+pub mod Based
+pub mod Held
+pub mod Planned
+pub mod Rings
+pub mod Handled
+pub mod Reaching
+pub mod Rebased
+pub mod Steps
+pub mod Following
+pub mod Moving
+pub mod Answered
+pub mod Meets
+pub mod Released
+pub mod Hearing

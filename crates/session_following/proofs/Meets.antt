@@ -1,0 +1,51 @@
+-- A session that follows meets what the parts of an ordinary one ask for: it stands between two events of its guest, or waits for an item; and a send may be noted.
+use Rattle.links.specs.Links.{Grew, Phases}
+use Rattle.links.specs.Seen.{Seen}
+use Rattle.reply_ledger.specs.Ledger.{IsOpened, NotBefore, times_of}
+use Rattle.reply_ledger.specs.Shows.{Shows}
+use Rattle.run_history.specs.Call.{may_send}
+use Rattle.link_gate.specs.Passing.{AreStampedBy}
+use Rattle.session_history.specs.Terms.{Send}
+use Rattle.recovery.specs.Watching.{TellsMore}
+use Rattle.recovery.proofs.Sending.{between_behind, times_low}
+use Rattle.session_state.specs.Recovered.{AreTables}
+use Rattle.session_state.specs.Sessions.{SessionState}
+use Rattle.session_state.specs.Standing.{IsBetween, IsGoing, IsWaitingFor, Since}
+use Rattle.session_state.proofs.passing.PassLemmas.{stamped_by}
+use Rattle.follow.proofs.Terms.{List, [], append-nil, arith, drop, subst, sym, true, ℕ, ◌<◌, ◌∙◌, ◌≡◌, Image, LinkEvent, AsksFor, Path, Rules, items_in, held, plan_of, Handed}
+use Rattle.follow.proofs.Stamps.{held_is_in_order}
+use Rattle.session_following.specs.Following.{plan_up_to}
+use Rattle.session_following.specs.Followed.{IsFollowing, rules_following}
+use Rattle.session_following.proofs.Rebased.{just_due, just_going, just_hearing}
+
+module _ {R : Type 0} where
+  -- it stands between two events of its guest, since now, where it holds back more items than it may receive
+  pub between_following : {rules : Rules} {image : Image} {handed : Handed} {events : List LinkEvent} {now : Path} {began : Since} {seen : Seen} {session : SessionState R} → IsFollowing rules image handed events now began seen.phases session → began.told ≡ seen.told → began.lost ≡ 0
+      → Grew began.noted_before.episodes began.noted.episodes [] → TellsMore began.tables_before began.tables (AreTables (rules_following rules handed events now) [] [] []) → rules.bounds.max_items < rules.hold → IsBetween (rules_following rules handed events now) image began seen session
+  between_following {rules = rules} {image = image} {handed = handed} {events = events} {now = now} {began = began} {seen = seen} {session = session} f told lost episodes tables most =
+      let g : IsGoing (rules_following rules handed events now) image began seen session = just_going f.stands told lost episodes tables in
+      record { going = g; due = just_due (rules_following rules handed events now) g.story (let few = g.goes.few in omega (arith, few, most)) }
+
+  -- or it waits for an item
+  pub waiting_following : {rules : Rules} {image : Image} {handed : Handed} {events : List LinkEvent} {now : Path} {began : Since} {seen : Seen} {session : SessionState R} → IsFollowing rules image handed events now began seen.phases session → began.told ≡ seen.told → began.lost ≡ 0
+      → Grew began.noted_before.episodes began.noted.episodes [] → TellsMore began.tables_before began.tables (AreTables (rules_following rules handed events now) [] [] []) → rules.bounds.max_items < rules.hold
+      → AsksFor rules.limits (plan_up_to (plan_of handed.episodes) now.state.machine.taken) now now.state.machine.taken → IsWaitingFor (rules_following rules handed events now) image began seen session
+  waiting_following {rules = rules} {handed = handed} {events = events} {now = now} f told lost episodes tables most asks =
+      just_hearing f.stands told lost episodes tables asks (let few = f.stands.goes.few in omega (arith, few, most))
+
+  -- a connection to which its guest may send was opened
+  pub opened_following : {rules : Rules} {image : Image} {handed : Handed} {events : List LinkEvent} {now : Path} {began : Since} {phases : Phases} {session : SessionState R} (conn : ℕ) → IsFollowing rules image handed events now began phases session → may_send now.state.machine conn ≡ true → IsOpened session.replies conn
+  opened_following conn f may = f.stands.replies.opened conn ∙ f.stands.goes.within conn may
+
+  -- no send was made with more items taken, and nothing passed
+  pub later_following : {rules : Rules} {image : Image} {handed : Handed} {events : List LinkEvent} {now : Path} {began : Since} {phases : Phases} {session : SessionState R} → IsFollowing rules image handed events now began phases session
+      → NotBefore now.state.machine.taken (times_of session.replies.kept)
+  later_following {now = now} {session = session} f =
+      subst (λ (all : List Send). NotBefore now.state.machine.taken (times_of all)) (sym f.stands.replies.shows.kept)
+      (times_low 0 now.state.machine.taken (drop session.replies.first now.state.sends) (between_behind session.replies.first 0 now.state.machine.taken now.state.sends f.stands.sound.carries.timed))
+
+  pub stamped_following : {rules : Rules} {image : Image} {handed : Handed} {events : List LinkEvent} {now : Path} {began : Since} {phases : Phases} {session : SessionState R} → IsFollowing rules image handed events now began phases session
+      → AreStampedBy now.state.machine.taken session.replies
+  stamped_following {rules = rules} {image = image} {handed = handed} {events = events} {now = now} {session = session} f =
+      stamped_by now.state.machine.taken (subst (Shows session.replies now.state.sends) (append-nil (held handed.counts now.state.sends)) f.stands.replies.shows)
+      (held_is_in_order rules.limits (items_in (rules_following rules handed events now).bounds []) (plan_up_to (plan_of handed.episodes) now.state.machine.taken) image now handed.counts f.stands.sound.carries.served)

@@ -1,0 +1,120 @@
+-- Where a session that follows is released: the environment of the report that is in force then; and a release at an exit of its guest.
+use Rattle.session_history.specs.declared.ends.SessionEnd.TheVariants as session_end
+use Rattle.session_history.specs.declared.ends.Stop.TheVariants as stop
+use Rattle.guest_cpu.specs.Runs.{GoesOn, IsSilent}
+use Rattle.guest_cpu.specs.Serving.{standing_of}
+use Rattle.guest_cpu.specs.Writing.{Writes}
+use Rattle.links.specs.Links.{Grew}
+use Rattle.links.specs.Seen.{Seen}
+use Rattle.session_history.specs.Heeding.{Before, events_of, nothing_before}
+use Rattle.session_history.specs.Keeping.{KeepsItems, KeepsReplies}
+use Rattle.session_history.specs.Terms.{Item, Ledger, LinkEvent, Send, events_in}
+use Rattle.trials.proofs.Recovered.{timed_from}
+use Rattle.recovery.specs.Rings.{IsInForce}
+use Rattle.recovery.specs.Watching.{TellsMore}
+use Rattle.session_state.specs.Leaving.{keeping_of}
+use Rattle.session_state.specs.Recovered.{AreTables}
+use Rattle.session_state.specs.Serving.{IsCounted}
+use Rattle.session_state.specs.Sessions.{SessionState}
+use Rattle.session_state.specs.Standing.{IsEnding, IsTold, Since}
+use Rattle.session_state.proofs.guest.GuestLemmas.{answers_for, none_lost, none_noted, received_is}
+use Rattle.session_state.proofs.recovering.TableLemmas.{tables_here, told_unwatched}
+use Rattle.session_state.proofs.standing.CheckpointLemmas.{HasSameSide, saved_on}
+use Rattle.session_state.proofs.standing.HeldLemmas.{requests_on}
+use Rattle.std.proofs.lemmas.Bool.{le-ltb}
+use Rattle.follow.proofs.Terms.{Bool, List, None, Some, [], ap, append-nil, arith, cond, inl, inr, ltb, refl, subst, sym, ℕ, ◌+◌, ◌<◌, ◌∙◌, ◌∷◌, ◌≡◌, ◌≤◌, ◌⊎◌, cases_lt, IsSome, Image, Plain, AsksFor, Override, Path, Served, env_at, origin, served_on, items_in, Rules, plan_of, held, AtExit, Handed, HasReached, HasFollowed, heard_alone, rules_behind}
+use Rattle.session_following.specs.Following.{came_before, plan_up_to}
+use Rattle.session_following.specs.Followed.{IsFollowing, rules_following}
+use Rattle.session_following.specs.Standing.{begun_story}
+use Rattle.session_following.proofs.Based.{SaysAs, items_after, replies_after}
+use Rattle.session_following.proofs.Following.{items_following, whole_following}
+use Rattle.session_following.proofs.Handled.{handled_after}
+use Rattle.session_following.proofs.Planned.{goes_to, says_alike, up_to_same}
+use Rattle.session_following.proofs.Reaching.{not_on}
+use Rattle.session_following.proofs.Rebased.{just_told}
+use Rattle.session_following.proofs.Rings.{carries_after, ring_after, says_now}
+
+-- From where it begins the latest override of a plan is in force.
+pub newest_in_force : (override : Override) (plan : List Override) (taken : ℕ) → override.low ≤ taken → IsInForce (override ∷ plan) taken override.env override.until
+newest_in_force override plan taken begun = record {
+  in_force = λ count from. ap (λ (b : Bool). cond b (env_at plan count) (cond (ltb count override.until) override.env Plain)) (le-ltb count override.low (omega (arith, begun, from)));
+}
+
+-- It ends within four items where its failure was at this point, and the run asks for an item no earlier.
+pub newest_past : (rules : Rules) (until point : ℕ) (now : Path) → until ≡ point + 4 → point ≤ now.state.machine.taken → AsksFor rules.limits [] now now.state.machine.taken
+    → (until < now.state.machine.taken + 4) ⊎ ((until ≡ now.state.machine.taken + 4) × AsksFor rules.limits [] now now.state.machine.taken)
+newest_past rules until point now is reached asks =
+    elim (cases_lt until (now.state.machine.taken + 4)) [
+      | inl less ↦ inl less
+      | inr most ↦ inr (omega (arith, is, reached, most), asks)
+    ]
+
+module _ {R : Type 0} where
+  -- Its guest ends itself where its run has reached what was handed over: an ordinary session that has just begun there has come to its end.
+  pub exited_following : {rules : Rules} {image : Image} {handed : Handed} {events : List LinkEvent} {now to : Path} {began : Since} {seen : Seen} {old new : SessionState R} {code : ℕ} → rules.bounds.before ≡ nothing_before → IsFollowing rules image handed events now began seen.phases old
+      → began.told ≡ seen.told → began.lost ≡ 0 → Grew began.noted_before.episodes began.noted.episodes [] → TellsMore began.tables_before began.tables (AreTables (rules_behind rules handed events to) [] [] [])
+      → HasSameSide old new → new.replies ≡ old.replies → new.choices ≡ old.choices → IsCounted new → GoesOn rules.limits (items_in (rules_following rules handed events now).bounds []) (plan_up_to (plan_of handed.episodes) now.state.machine.taken) now to → IsSilent now to
+      → Writes rules.limits (items_in (rules_following rules handed events now).bounds []) old.cpu.base now old.cpu.written to new.cpu.written → to.state.ended ≡ Some code → new.cpu.slots.live ≡ standing_of to
+      → (there : IsSome to.state.ended) → HasReached rules.limits handed to (AtExit there) → HasFollowed rules image handed events to × IsEnding (rules_behind rules handed events to) image began seen new (session_end.Exited code)
+  exited_following {rules = rules} {image = image} {handed = handed} {events = events} {now = now} {to = to} {began = began} {seen = seen} {old = old} {new = new} {code = code} alone f told lost episodes tables side replies chosen counted goes silent wrote ended stands there reached =
+      let plan : List Override = plan_of handed.episodes in
+      let here : Rules = rules_following rules handed events now in
+      let next : Rules = rules_behind rules handed events to in
+      let items : List Item = items_in here.bounds [] in
+      let under : List Override = plan_up_to plan now.state.machine.taken in
+      let what : Before = came_before (events_in (heard_alone events)) (held handed.counts to.state.sends) plan to in
+      let same : what.events ≡ events_of here.bounds [] = sym (append-nil (events_in (heard_alone events))) in
+      let still = goes.taken in
+      let says : SaysAs here image items under plan to = says_alike here image items under plan to (λ count few. up_to_same plan now.state.machine.taken count (omega (arith, few, still))) in
+      let served : Served rules.limits items under (origin image) to = served_on rules.limits items under (origin image) now to f.stands.sound.carries.served goes.served in
+      let saved = saved_on {story = begun_story here image} {to = to} side (ap (λ (l : Ledger). l.first) replies) goes.served wrote (omega (arith, still)) (requests_on {to = to} goes.served still f.stands.saved.requests) f.stands.saved in
+      let ring = ring_after here image [] what under plan to saved.paths new.cpu new.ring new.log new.replies same says saved.ring in
+      let log_items : KeepsItems here.bounds [] new.log = subst (KeepsItems here.bounds []) (sym side.log) f.stands.goes.items in
+      let items_are : KeepsItems next.bounds [] new.log = items_after here [] what same log_items in
+      let few = f.stands.sound.carries.taken in
+      let carries = carries_after here image [] what under plan to handed.counts same refl says served (omega (arith, few, still)) (timed_from rules.limits items under image to served) in
+      let is_told : IsTold next image began seen.told (begun_story next image) = just_told {rules = next} {image = image} {began = began} (record { heeded = items_are.all_heeded; carries = carries }) told lost episodes tables in
+      let a = answers_for {story = begun_story here image} {to = to} [] f.stands.answers side.recorded (silent.choices ∙ sym (append-nil now.choices)) (chosen ∙ sym (append-nil old.choices)) counted stands in
+      let whole : Served rules.limits (items_in rules.bounds (heard_alone events)) plan (origin image) to =
+      subst (λ (its : List Item). Served rules.limits its plan (origin image) to) (items_following rules image handed events now alone) (says_now here image items under plan to says served) in
+      let to_now = whole_following rules image handed events now alone now f.stands.sound.carries.served in (
+        record {
+          ran = whole;
+          stand = AtExit there;
+          reached = reached;
+          first = not_on rules.limits (items_in rules.bounds (heard_alone events)) image handed now to f.before to_now (goes_to rules.limits (items_in rules.bounds (heard_alone events)) plan (origin image) now to to_now whole goes.later) still;
+          asked = f.asked;
+        },
+        record {
+          story = begun_story next image;
+          walk = None;
+          lost = began.lost;
+          lost_is = none_lost;
+          noted = began.noted;
+          last_noted = none_noted;
+          told = told_unwatched is_told;
+          tables = tables_here next (begun_story next image) (stop.Ends (session_end.Exited code)) began.tables_before began.tables tables;
+          answers = record { low = a.low; recorded = a.recorded; choices = a.choices; unnoted = a.unnoted; taken = a.taken; steps = a.steps };
+          received_are = received_is items_are;
+          replies =
+              subst (KeepsReplies next.bounds [] None to.state.sends) (sym replies)
+              (subst (λ (all : List Send). KeepsReplies next.bounds [] None all old.replies) (sym silent.sends)
+              (replies_after here [] what same (ap (held handed.counts) silent.sends ∙ sym (append-nil (held handed.counts now.state.sends))) (λ conn. refl) f.stands.replies));
+          no_trial = ap (λ (l : Ledger). l.trial) replies ∙ f.stands.no_trial;
+          closed = λ send stood closing owed. absurd owed;
+          holds = record {
+            paths = saved.paths;
+            some = ring.some;
+            chained = ring.chained;
+            are = ring.are;
+            as_many = ring.as_many;
+            saved = ring.saved;
+            requests = handled_after here image (keeping_of new) [] [] (events_in (heard_alone events)) (held handed.counts to.state.sends) under plan now to same refl refl (sym (append-nil items)) says goes.served saved.requests;
+          };
+          handled = λ at. absurd at;
+          live = stands;
+          stands = ended;
+          walked = tt;
+          gave_up = tt;
+        },
+      )

@@ -1,0 +1,4 @@
+use Rattle.session_following.proofs.Planned.{up_to_is_exact}
+
+pub returns : Rattle.session_following.proofs.laws.up_to_is_exact.Goals.returns
+returns c = up_to_is_exact

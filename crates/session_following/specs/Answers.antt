@@ -1,0 +1,48 @@
+-- Why a session that follows isn't released: its run isn't that of the record and the report, or hasn't sent what clients have.
+use Rattle.std.specs.Prelude.{◌≡◌, ◌⊎◌, ℕ, ◌<◌, ◌≤◌, List, None, Some, IfSome, length}
+use Rattle.session_history.specs.Terms.{Item, Limits, Path, Prefix, output}
+use Rattle.follow.specs.Terms.{last_or}
+use Rattle.follow.specs.Plans.{plan_of}
+use Rattle.follow.specs.Held.{count_of}
+use Rattle.follow.specs.Handed.{Finish, Handed, HasReached, IsPastFailure, IsStuck, Stand}
+use Rattle.follow.specs.Takeover.{IsFollowed, IsTakeover, Takeover, heard_first}
+use Rattle.session_following.specs.Reaching.{IsNotReached}
+
+-- A run that stands there has reached all that record and report tell: it is past the last episode, had each answer of the record, and stands at or behind its
+-- last line.
+pub record HasReachedFiles (limits : Limits) (handed : Handed) (path : Path) (stand : Stand limits (plan_of handed.episodes) path) : Type 0 where
+  pub past : IfSome (last_or None handed.episodes) (IsPastFailure stand)
+  pub chose : Prefix handed.choices path.choices
+  pub finished : IfSome handed.finish (λ finish. finish.steps ≤ path.steps)
+
+-- it has as many instructions, and took as many items, as the record's last line says
+abbrev pub IsAtFinish : Handed → Path → Finish → Type 0
+IsAtFinish handed path finish = (handed.finish ≡ Some finish) × (path.steps ≡ finish.steps) × (path.state.machine.taken ≡ finish.taken)
+
+-- Record and report aren't of this program and these items: the run had an answer of the allocator that isn't the record's; or it stands at or behind the record's
+-- last line, and not where that says; or it can't go on, and hasn't reached what they tell.
+pub data IsUnlike (limits : Limits) (items : List Item) (handed : Handed) (path : Path) : Type 0 where
+  OtherAnswer : ¬ Prefix handed.choices path.choices → ¬ Prefix path.choices handed.choices → IsUnlike limits items handed path
+  OtherPlace : (finish : Finish) → Stand limits (plan_of handed.episodes) path → handed.finish ≡ Some finish → finish.steps ≤ path.steps → ¬ IsAtFinish handed path finish → IsUnlike limits items handed path
+  EndsEarly : (stand : Stand limits (plan_of handed.episodes) path) → IsStuck items stand → ¬ HasReachedFiles limits handed path stand → IsUnlike limits items handed path
+
+-- A client has more than was sent to it: the run can't go on, or stands where the record's last line says, and has reached what record and report tell. The
+-- connection is the first that has more.
+pub record IsShort (limits : Limits) (items : List Item) (handed : Handed) (path : Path) (conn : ℕ) : Type 0 where
+  pub stand : Stand limits (plan_of handed.episodes) path
+  pub last : IsStuck items stand ⊎ ((finish : Finish) × IsAtFinish handed path finish)
+  pub files : HasReachedFiles limits handed path stand
+  pub more : length (output path.state conn) < count_of handed.counts conn
+  pub first : (other : ℕ) → other < conn → count_of handed.counts other ≤ length (output path.state other)
+
+-- A second host that takes over says neither, before it is released: it runs as the first host did, on all that it heard at least.
+abbrev pub NeitherIsSaid : Type 0
+NeitherIsSaid =
+    (over : Takeover) (path : Path) → IsTakeover over → (followed : IsFollowed over path) → Prefix (heard_first over) followed.heard → IsNotReached over.limits over.handed path →
+    (¬ IsUnlike over.limits followed.heard over.handed path) × ((conn : ℕ) → ¬ IsShort over.limits followed.heard over.handed path conn)
+
+-- And where it stands and says neither, having reached what the files tell, it has reached all that was handed over, once no client has more.
+abbrev pub FilesAndClients : Type 0
+FilesAndClients =
+    (limits : Limits) (handed : Handed) (path : Path) (stand : Stand limits (plan_of handed.episodes) path) → HasReachedFiles limits handed path stand → ((conn : ℕ) → count_of handed.counts conn ≤ length (output path.state conn)) →
+    HasReached limits handed path stand
