@@ -1,5 +1,5 @@
 -- The numbers of words that are taken are in the ranges of their rows. No row of the table is named here.
-use Rattle.command_line.proofs.Terms.{Bool, List, None, Option, Some, [], ap, arith, cond, false, leb-true, length, map, nat_le, not, refl, subst, sym, true, true≢false, unwrap_or, ℕ, ◌&&◌, ◌||◌, ◌∙◌, ◌∷◌, ◌≡◌, ◌≤◌, and_parts, not-true, filter, find, list_all, option_map, option_map_or, bytes_eq, Name, Number, OneOf, Text, is_name, number_of, Parts, are_positionals, Row, Takes, conns_row, count_row, port_row, seed_row, Options, are_options, default_of, has_option, is_between, is_for, is_taken, number_at, takes_of, value_of, CommandValue, DiagnoseValue, DrillValue, ServeValue, diagnose, diagnose_form, diagnose_value, drill, drill_form, drill_value, fits, is_diagnose, is_drill, is_run, is_serve, positional, run, run_form, run_value, serve, serve_form, serve_value, EachRow}
+use Rattle.command_line.proofs.Terms.{Bool, List, None, Option, Some, [], ap, arith, cond, false, leb-true, length, map, nat_le, not, refl, subst, sym, true, true≢false, unwrap_or, ℕ, ◌&&◌, ◌||◌, ◌∙◌, ◌∷◌, ◌≡◌, ◌≤◌, and_parts, not-true, filter, find, list_all, option_map, option_map_or, bytes_eq, Name, Number, OneOf, Text, is_name, number_of, Parts, are_positionals, Row, Takes, conns_row, count_row, port_row, seed_row, Options, are_options, default_of, has_option, is_between, is_for, is_taken, number_at, takes_of, value_of, CommandValue, DiagnoseValue, DrillValue, ServeValue, StandbyValue, diagnose, diagnose_form, diagnose_value, drill, drill_form, drill_value, fits, is_diagnose, is_drill, is_run, is_serve, is_standby, positional, run, run_form, run_value, serve, serve_form, serve_value, standby, standby_form, standby_value, EachRow}
 use Rattle.command_line.specs.Ranges.{AreInRange, EachInRange, HasRanges, IsInRange, NumbersOf, RangesOf, takes_numbers}
 use Rattle.command_line.proofs.Asking.{IsAsked, asked}
 use Rattle.command_line.proofs.Pieces.{is_row}
@@ -91,6 +91,13 @@ in_ranges p e =
     let taken = (and_parts (are_options run_form.options p.options) _ names.1).0 in
     each_in_range run_form.options p.options taken run_form.options (each_alone run_form.options refl) refl
 
+standby_in_ranges : (p : Parts) → is_standby p ≡ true → HasRanges (standby (standby_value p))
+unfolding is_standby standby_value standby_form
+standby_in_ranges p e =
+    let names = and_parts (are_positionals (length standby_form.positionals) p.positionals) _ (and_parts (fits standby_form p) _ e).0 in
+    let taken = (and_parts (are_options standby_form.options p.options) _ names.1).0 in
+    each_in_range standby_form.options p.options taken standby_form.options (each_alone standby_form.options refl) refl
+
 serve_in_ranges : (p : Parts) → is_serve p ≡ true → HasRanges (serve (serve_value p))
 unfolding is_serve serve_value serve_form port_row conns_row
 serve_in_ranges p e =
@@ -124,6 +131,7 @@ drill_in_ranges p e =
 
 of_asked : (command : CommandValue) → IsAsked command → HasRanges command
 of_asked (run value) found = subst (λ v. AreInRange v) found.value_is (in_ranges found.parts_are found.is)
+of_asked (standby value) found = subst (λ (v : StandbyValue). HasRanges (standby v)) found.value_is (standby_in_ranges found.parts_are found.is)
 of_asked (serve value) found = subst (λ (v : ServeValue). HasRanges (serve v)) found.value_is (serve_in_ranges found.parts_are found.is)
 of_asked (diagnose value) found = subst (λ (v : DiagnoseValue). HasRanges (diagnose v)) found.value_is (diagnose_in_ranges found.parts_are found.is)
 of_asked (drill value) found = subst (λ (v : DrillValue). HasRanges (drill v)) found.value_is (drill_in_ranges found.parts_are found.is)
@@ -140,5 +148,5 @@ session_in_range value ((port, (conns, (window, (ring, (every, (frames, (budget,
     (window, ((least, most), (ring, (every, (frames, (budget, tt))))))
 
 pub numbers_of : NumbersOf
-unfolding run_form serve_form diagnose_form drill_form
-numbers_of = (λ value. refl, λ value. refl, λ value. refl, λ value. refl)
+unfolding run_form serve_form diagnose_form drill_form standby_form
+numbers_of = (λ value. refl, λ value. refl, λ value. refl, λ value. refl, λ value. refl)

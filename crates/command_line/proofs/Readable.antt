@@ -2,7 +2,7 @@
 use Rattle.clap.specs.Simple.{matches_of}
 use Rattle.clap.specs.Takes.{takes}
 use Rattle.clap.specs.Walk.{Text}
-use Rattle.command_line.proofs.Terms.{List, None, Some, [], arith, codes, refl, true, ◌∷◌, ◌≡◌, ArgMatches, found_of, built, rows_of, parts, asm_form, convert_form, diagnose_form, drill_form, fits, replay_form, run_form, serve_form, HasRead, app_of_form}
+use Rattle.command_line.proofs.Terms.{List, None, Some, [], arith, codes, refl, true, ◌∷◌, ◌≡◌, ArgMatches, found_of, built, rows_of, parts, asm_form, convert_form, diagnose_form, drill_form, fits, replay_form, run_form, serve_form, standby_form, HasRead, app_of_form}
 use Rattle.command_line.proofs.Pieces.{plain_rule}
 use Rattle.command_line.proofs.Rows.{each_optional}
 use Rattle.command_line.proofs.Clapping.{IsReadable, clap_takes, has_read}
@@ -75,6 +75,30 @@ convert_taken words taken = clap_takes convert_form _ _ words convert_readable t
 pub convert_read : (words : List Text) (m : ArgMatches) → fits convert_form (parts words) ≡ true → rows_of (found_of m) ≡ matches_of (app_of_form convert_form) words
     → HasRead convert_form (parts words) m
 convert_read words m taken rows = has_read convert_form _ _ words convert_readable taken m rows
+
+-- ---- `standby`
+
+pub standby_readable : IsReadable standby_form (app_of_form standby_form) (built (app_of_form standby_form))
+unfolding standby_form
+standby_readable = record {
+  built_is = refl;
+  simple = refl;
+  no_subs = refl;
+  all_words = refl;
+  places = (record { by_index = refl; by_id = refl }, refl, refl, (record { by_index = refl; by_id = refl }, refl, refl, (record { by_index = refl; by_id = refl }, refl, refl, tt)));
+  options = each_optional (plain_rule (codes "PROGRAM") None (Some 1) [] ∷ plain_rule (codes "RECORD") None (Some 2) [] ∷ plain_rule (codes "COUNTS") None (Some 3) [] ∷ [])
+      standby_form.positionals standby_form.options refl refl;
+  names = ((refl, refl, omega arith), (((refl, refl), refl, omega arith), (((refl, (refl, refl)), refl, omega arith), tt)));
+  defaults = refl;
+  valid = λ rows. refl;
+}
+
+pub standby_taken : (words : List Text) → fits standby_form (parts words) ≡ true → takes (app_of_form standby_form) words ≡ true
+standby_taken words taken = clap_takes standby_form _ _ words standby_readable taken
+
+pub standby_read : (words : List Text) (m : ArgMatches) → fits standby_form (parts words) ≡ true → rows_of (found_of m) ≡ matches_of (app_of_form standby_form) words
+    → HasRead standby_form (parts words) m
+standby_read words m taken rows = has_read standby_form _ _ words standby_readable taken m rows
 
 -- ---- `run`
 

@@ -11,7 +11,7 @@ use Rattle.command_line.specs.declared.run_words.Form.TheVariants as form
 use Rattle.command_line.specs.declared.run_words.Guard.{Guard}
 use Rattle.command_line.specs.declared.run_words.Guard.TheVariants as guarded
 use Rattle.command_line.specs.declared.command.Command.{Command}
-use Rattle.command_line.specs.declared.command.Command.TheVariants.{Run, Asm, Replay, Convert, Serve, Diagnose, Drill, Frame, Unframe}
+use Rattle.command_line.specs.declared.command.Command.TheVariants.{Run, Asm, Replay, Convert, Standby, Serve, Diagnose, Drill, Frame, Unframe}
 use Rattle.command_line.specs.declared.run_words.RunCommand.{RunCommand}
 use Rattle.command_line.specs.declared.command.Asked.{Asked}
 use Rattle.command_line.specs.declared.options.CommandName.{CommandName}
@@ -22,6 +22,8 @@ use Rattle.command_line.specs.declared.replay_words.ReplayCommand.{ReplayCommand
 use Rattle.command_line.specs.declared.replay_words.TheConstants as replay_table
 use Rattle.command_line.specs.declared.convert_words.ConvertCommand.{ConvertCommand}
 use Rattle.command_line.specs.declared.convert_words.TheConstants as convert_table
+use Rattle.command_line.specs.declared.standby_words.StandbyCommand.{StandbyCommand}
+use Rattle.command_line.specs.declared.standby_words.TheConstants as standby_table
 use Rattle.command_line.specs.declared.serve_words.ServeCommand.{ServeCommand}
 use Rattle.command_line.specs.declared.serve_words.TheConstants as serve_table
 use Rattle.command_line.specs.declared.diagnose_words.DiagnoseCommand.{DiagnoseCommand}
@@ -63,6 +65,14 @@ pub record ConvertValue : Type 0 where
   pub recording : Text
   pub out : Text
 
+-- what a takeover is asked for: the record of the host that stopped, and the record that is written
+pub record StandbyValue : Type 0 where
+  pub program : Text
+  pub recorded : Text
+  pub counts : Text
+  pub recording : Text
+  pub budget : ℕ
+
 -- what a session for the clients of a port is asked for
 pub record ServeValue : Type 0 where
   pub session : RunValue
@@ -87,6 +97,7 @@ pub data CommandValue : Type 0 where
   asm : AsmValue → CommandValue
   replay : ReplayValue → CommandValue
   convert : ConvertValue → CommandValue
+  standby : StandbyValue → CommandValue
   serve : ServeValue → CommandValue
   diagnose : DiagnoseValue → CommandValue
   drill : DrillValue → CommandValue
@@ -105,6 +116,9 @@ replay_form = static_form replay_table.REPLAY
 
 unfoldable pub convert_form : CommandForm
 convert_form = static_form convert_table.CONVERT
+
+unfoldable pub standby_form : CommandForm
+standby_form = static_form standby_table.STANDBY
 
 unfoldable pub serve_form : CommandForm
 serve_form = static_form serve_table.SERVE
@@ -208,6 +222,34 @@ convert_value p = record { program = positional 0 p; recording = positional 1 p;
 unfoldable pub is_convert : Parts → Bool
 is_convert p = fits convert_form p && not (bytes_eq (positional 1 p) (positional 2 p))
 
+-- a text is none of three others
+abbrev pub is_fourth : Text → Text → Text → Text → Bool
+is_fourth first second third fourth = not (bytes_eq first fourth) && (not (bytes_eq second fourth) && not (bytes_eq third fourth))
+
+-- the names and the number of `standby`
+unfoldable pub standby_value : Parts → StandbyValue
+standby_value p = record {
+  program = positional 0 p;
+  recorded = positional 1 p;
+  counts = positional 2 p;
+  recording = value_of record_row p.options;
+  budget = number_at (static_row table.BUDGET) p.options;
+}
+
+-- the number of `standby`, with its row
+abbrev pub standby_numbers : StandbyValue → List (Row × ℕ)
+standby_numbers value = (static_row table.BUDGET, value.budget) ∷ []
+
+-- the program, its record and the counts have three different names, and the record that is written has another one
+abbrev pub have_four : Parts → Bool
+have_four p =
+    differ (positional 0 p) (positional 1 p) (positional 2 p)
+    && is_fourth (positional 0 p) (positional 1 p) (positional 2 p) (value_of record_row p.options)
+
+-- the words are those of `standby`: its names are four different texts
+unfoldable pub is_standby : Parts → Bool
+is_standby p = fits standby_form p && have_four p
+
 -- the number that a positional writes
 abbrev pub number_there : ℕ → Parts → ℕ
 number_there index p = unwrap_or (number_of (positional index p)) 0
@@ -239,10 +281,6 @@ serve_numbers value =
 -- the words are those of `serve`: behind the program stand a port and a number of connections, and its names are three different texts
 unfoldable pub is_serve : Parts → Bool
 is_serve p = fits serve_form p && (takes_of port_row.takes (positional 1 p) && (takes_of conns_row.takes (positional 2 p) && have_names p))
-
--- a text is none of three others
-abbrev pub is_fourth : Text → Text → Text → Text → Bool
-is_fourth first second third fourth = not (bytes_eq first fourth) && (not (bytes_eq second fourth) && not (bytes_eq third fourth))
 
 -- the diagnosis has another name than the program, the record and the report
 abbrev pub has_fourth : Parts → Bool
@@ -281,6 +319,7 @@ form_named named.Run = run_form
 form_named named.Asm = asm_form
 form_named named.Replay = replay_form
 form_named named.Convert = convert_form
+form_named named.Standby = standby_form
 form_named named.Serve = serve_form
 form_named named.Diagnose = diagnose_form
 form_named named.Drill = drill_form
@@ -289,7 +328,7 @@ form_named named.Unframe = unframe_form
 
 -- the commands, in the order of the table
 abbrev pub every_name : List CommandName
-every_name = named.Run ∷ named.Asm ∷ named.Replay ∷ named.Convert ∷ named.Serve ∷ named.Diagnose ∷ named.Drill ∷ named.Frame ∷ named.Unframe ∷ []
+every_name = named.Run ∷ named.Asm ∷ named.Replay ∷ named.Convert ∷ named.Standby ∷ named.Serve ∷ named.Diagnose ∷ named.Drill ∷ named.Frame ∷ named.Unframe ∷ []
 
 -- the command whose name is this word
 unfoldable pub name_of : Text → Option CommandName
@@ -301,6 +340,7 @@ is_of named.Run p = is_run p
 is_of named.Asm p = is_asm p
 is_of named.Replay p = is_replay p
 is_of named.Convert p = is_convert p
+is_of named.Standby p = is_standby p
 is_of named.Serve p = is_serve p
 is_of named.Diagnose p = is_diagnose p
 is_of named.Drill p = is_drill p
@@ -313,6 +353,7 @@ value_by named.Run p = run (run_value p)
 value_by named.Asm p = asm (asm_value p)
 value_by named.Replay p = replay (replay_value p)
 value_by named.Convert p = convert (convert_value p)
+value_by named.Standby p = standby (standby_value p)
 value_by named.Serve p = serve (serve_value p)
 value_by named.Diagnose p = diagnose (diagnose_value p)
 value_by named.Drill p = drill (drill_value p)
@@ -355,6 +396,9 @@ replay_shown c = record { program = c.program.now; recording = c.recording.now }
 abbrev pub convert_shown : ConvertCommand → ConvertValue
 convert_shown c = record { program = c.program.now; recording = c.recording.now; out = c.out.now }
 
+abbrev pub standby_shown : StandbyCommand → StandbyValue
+standby_shown c = record { program = c.program.now; recorded = c.recorded.now; counts = c.counts.now; recording = c.recording.now; budget = c.budget }
+
 abbrev pub serve_shown : ServeCommand → ServeValue
 serve_shown c = record { session = run_shown c.session; port = c.port; conns = c.conns; patience = c.patience; at_once = c.at_once }
 
@@ -369,6 +413,7 @@ shown (Run c) = run (run_shown c)
 shown (Asm c) = asm (asm_shown c)
 shown (Replay c) = replay (replay_shown c)
 shown (Convert c) = convert (convert_shown c)
+shown (Standby c) = standby (standby_shown c)
 shown (Serve c) = serve (serve_shown c)
 shown (Diagnose c) = diagnose (diagnose_shown c)
 shown (Drill c) = drill (drill_shown c)

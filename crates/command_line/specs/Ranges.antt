@@ -3,7 +3,7 @@ use Rattle.std.specs.Prelude.{◌≡◌, ℕ, ◌≤◌, Bool, true, false, List
 use Rattle.command_line.specs.declared.options.TakesOf.TheVariants.{Name, OneOf, Number}
 use Rattle.command_line.specs.Texts.{Text}
 use Rattle.command_line.specs.Table.{Row, Takes, conns_row, count_row, port_row, seed_row}
-use Rattle.command_line.specs.Commands.{CommandValue, DiagnoseValue, DrillValue, RunValue, ServeValue, command_of, diagnose, diagnose_form, drill, drill_form, drill_numbers, numbers, run, run_form, serve, serve_form, serve_numbers}
+use Rattle.command_line.specs.Commands.{CommandValue, DiagnoseValue, DrillValue, RunValue, ServeValue, StandbyValue, command_of, diagnose, diagnose_form, drill, drill_form, drill_numbers, numbers, run, run_form, serve, serve_form, serve_numbers, standby, standby_form, standby_numbers}
 
 -- a row takes numbers
 abbrev pub takes_numbers : Takes → Bool
@@ -32,6 +32,7 @@ abbrev pub HasRanges : CommandValue → Type 0
 HasRanges (run value) = AreInRange value
 HasRanges (serve value) = EachInRange (serve_numbers value) × (value.session.hold ≡ 0)
 HasRanges (diagnose value) = AreInRange value.session
+HasRanges (standby value) = EachInRange (standby_numbers value)
 HasRanges (drill value) = EachInRange (drill_numbers value)
 HasRanges _ = Unit {0}
 
@@ -52,3 +53,4 @@ NumbersOf =
     × ((value : ServeValue) → rows_among (serve_numbers value) ≡ port_row ∷ conns_row ∷ numeric serve_form.options)
     × ((value : DiagnoseValue) → rows_among (numbers value.session) ≡ numeric diagnose_form.options)
     × ((value : DrillValue) → rows_among (drill_numbers value) ≡ seed_row ∷ count_row ∷ numeric drill_form.options)
+    × ((value : StandbyValue) → rows_among (standby_numbers value) ≡ numeric standby_form.options)

@@ -15,14 +15,16 @@ use crate::options::{CommandName, CommandRow};
 use crate::replay_words::{REPLAY, ReplayCommand, are_replay_words, replay_command};
 use crate::run_words::{RUN, RunCommand, are_run_words, run_command};
 use crate::serve_words::{SERVE, ServeCommand, are_serve_words, serve_command};
+use crate::standby_words::{STANDBY, StandbyCommand, are_standby_words, standby_command};
 use std::alloc::{AllocError, Global};
 
 /// The commands.
-pub const COMMANDS: [CommandRow; 9] = [
+pub const COMMANDS: [CommandRow; 10] = [
     RUN,
     ASM,
     REPLAY,
     CONVERT,
+    STANDBY,
     SERVE,
     DIAGNOSE,
     DRILL,
@@ -30,7 +32,7 @@ pub const COMMANDS: [CommandRow; 9] = [
     UNFRAME,
 ];
 
-static ALL: [CommandRow; 9] = COMMANDS;
+static ALL: [CommandRow; 10] = COMMANDS;
 
 // The commands, as the sentences about them want them.
 pub(crate) fn commands() -> &'static [CommandRow] {
@@ -44,6 +46,7 @@ pub enum Command<'a> {
     Asm(AsmCommand<'a>),
     Replay(ReplayCommand<'a>),
     Convert(ConvertCommand<'a>),
+    Standby(StandbyCommand<'a>),
     Serve(ServeCommand<'a>),
     Diagnose(DiagnoseCommand<'a>),
     Drill(DrillCommand),
@@ -88,6 +91,7 @@ fn are_words_of(name: CommandName, words: &[String]) -> bool
         CommandName::Asm => are_asm_words(words),
         CommandName::Replay => are_replay_words(words),
         CommandName::Convert => are_convert_words(words),
+        CommandName::Standby => are_standby_words(words),
         CommandName::Serve => are_serve_words(words),
         CommandName::Diagnose => are_diagnose_words(words),
         CommandName::Drill => are_drill_words(words),
@@ -136,6 +140,7 @@ fn command_by<'a>(
         CommandName::Asm => Ok(Command::Asm(asm_command(alloc, words)?)),
         CommandName::Replay => Ok(Command::Replay(replay_command(alloc, words)?)),
         CommandName::Convert => Ok(Command::Convert(convert_command(alloc, words)?)),
+        CommandName::Standby => Ok(Command::Standby(standby_command(alloc, words)?)),
         CommandName::Serve => Ok(Command::Serve(serve_command(alloc, words)?)),
         CommandName::Diagnose => Ok(Command::Diagnose(diagnose_command(alloc, words)?)),
         CommandName::Drill => Ok(Command::Drill(drill_command(alloc, words)?)),

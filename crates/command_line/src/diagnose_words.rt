@@ -66,7 +66,7 @@ pub(crate) fn diagnosis<'a>(words: &'a [String]) -> &'a str
 }
 
 // Whether a text is none of three others.
-fn is_fourth(first: &str, second: &str, third: &str, fourth: &str) -> bool
+pub(crate) fn is_fourth(first: &str, second: &str, third: &str, fourth: &str) -> bool
     ensures { result ≡ is_fourth first.now second.now third.now fourth.now }
 {
     if first == fourth {

@@ -44,6 +44,7 @@ pub enum CommandName {
     Asm,
     Replay,
     Convert,
+    Standby,
     Serve,
     Diagnose,
     Drill,

@@ -5,9 +5,10 @@ use crate::options::{OptionRow, RowOf, TakesOf};
 use crate::replay_words::RECORDED;
 use crate::run_words::PROGRAM;
 use crate::serve_words::{CONNS, PORT};
+use crate::standby_words::COUNTS;
 
 /// The names that stand behind a command, with what each of them may be. None of them has a default.
-pub const POSITIONALS: [OptionRow; 8] = [
+pub const POSITIONALS: [OptionRow; 9] = [
     RowOf {
         name: PROGRAM,
         takes: TakesOf::Name,
@@ -19,6 +20,12 @@ pub const POSITIONALS: [OptionRow; 8] = [
         takes: TakesOf::Name,
         default: None,
         says: "The file of the record of a session.",
+    },
+    RowOf {
+        name: COUNTS,
+        takes: TakesOf::Name,
+        default: None,
+        says: "The file of how many bytes of its replies each connection has.",
     },
     RowOf {
         name: SOURCE,

@@ -255,7 +255,7 @@ pub(crate) fn report<'a>(words: &'a [String]) -> &'a str
 }
 
 // Whether no two of three texts are alike.
-fn differ(first: &str, second: &str, third: &str) -> bool
+pub(crate) fn differ(first: &str, second: &str, third: &str) -> bool
     ensures { result ≡ differ first.now second.now third.now }
 {
     if first == second {

@@ -8,6 +8,7 @@ use crate::parts::{Part, given, is_there, next_part, positional};
 use crate::positionals::positional_named;
 use crate::replay_words::RECORDED;
 use crate::run_words::{PROGRAM, recording, report};
+use crate::standby_words::COUNTS;
 use crate::texts::is_name;
 use std::alloc::{AllocError, Global};
 
@@ -282,6 +283,43 @@ fn alike_of_convert(alloc: Global, words: &[String]) -> Result<Option<String>, A
     alike(alloc, words, RECORDED, recording, OUT, out)
 }
 
+// Which names of `standby` are alike.
+fn alike_of_standby(alloc: Global, words: &[String]) -> Result<Option<String>, AllocError> {
+    let wrong = alike_of_names(alloc, words)?;
+    if wrong.is_some() {
+        return Ok(wrong);
+    }
+    let to_record = recording(words);
+    let program = name_at(words, 0);
+    let wrong = alike(alloc, words, PROGRAM, program, "--record", to_record)?;
+    if wrong.is_some() {
+        return Ok(wrong);
+    }
+    let recorded = name_at(words, 1);
+    let wrong = alike(alloc, words, RECORDED, recorded, "--record", to_record)?;
+    if wrong.is_some() {
+        return Ok(wrong);
+    }
+    let counts = name_at(words, 2);
+    alike(alloc, words, COUNTS, counts, "--record", to_record)
+}
+
+// Which of the names that stand behind `standby` are alike.
+fn alike_of_names(alloc: Global, words: &[String]) -> Result<Option<String>, AllocError> {
+    let program = name_at(words, 0);
+    let recorded = name_at(words, 1);
+    let counts = name_at(words, 2);
+    let wrong = alike(alloc, words, PROGRAM, program, RECORDED, recorded)?;
+    if wrong.is_some() {
+        return Ok(wrong);
+    }
+    let wrong = alike(alloc, words, PROGRAM, program, COUNTS, counts)?;
+    if wrong.is_some() {
+        return Ok(wrong);
+    }
+    alike(alloc, words, RECORDED, recorded, COUNTS, counts)
+}
+
 // Which names of a command are alike.
 fn alike_of(
     alloc: Global,
@@ -294,6 +332,7 @@ fn alike_of(
         CommandName::Diagnose => alike_of_diagnose(alloc, words),
         CommandName::Asm => alike_of_asm(alloc, words),
         CommandName::Convert => alike_of_convert(alloc, words),
+        CommandName::Standby => alike_of_standby(alloc, words),
         CommandName::Replay => Ok(None),
         CommandName::Drill => Ok(None),
         CommandName::Frame => Ok(None),

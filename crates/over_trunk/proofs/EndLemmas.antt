@@ -9,7 +9,7 @@ use Rattle.session_history.specs.Ends.{EndsBy}
 use Rattle.session_history.proofs.Endings.{events_in-given, received_at_end, given_broken}
 use Rattle.session_history.proofs.Turns.{links_open_once}
 use Rattle.session_history.proofs.Sent.{sent_is_passed}
-use Rattle.over_trunk.proofs.Terms.{Bool, List, None, Option, Some, [], ap, append-nil, append_assoc, arith, false, inl, inr, length, length-append, refl, subst, sym, true, ℕ, ◌++◌, ◌<◌, ◌==◌, ◌∙◌, ◌∷◌, ◌≡◌, none-some, Appends, AllByRecursion, IfSome, ◌&&◌, ◌||◌, IsDrained, Stream, Took, Prefix, Entry, LinkEvent, events_in-append, Coming, Phases, Piece, events_in, phases_after, pieces_in, IsSent, framed_sent, IsRefused, AreFramesOf, frames, AreInOrder, phases_behind, fresh, Image, SessionEnd, Stop, at_its_end, came_to, Session, journal_of, AreInTurn, IsComplete, AtEnd, HasComeTo, IsEnded, IsLastRefused, before_end, Unheeded, Rules, entries_of, nothing_before, refusal, events_alone, StopsTrunk, TookRefused, WritesWhole, WritesSends}
+use Rattle.over_trunk.proofs.Terms.{Bool, List, None, Option, Some, [], ap, append-nil, append_assoc, arith, false, inl, inr, length, length-append, refl, subst, sym, true, ℕ, ◌++◌, ◌<◌, ◌==◌, ◌∙◌, ◌∷◌, ◌≡◌, none-some, Appends, AllByRecursion, IfSome, ◌&&◌, ◌||◌, IsDrained, Stream, Took, Prefix, Entry, LinkEvent, events_in-append, Coming, Phases, Piece, events_in, phases_after, pieces_in, IsSent, framed_sent, IsRefused, AreFramesOf, frames, AreInOrder, phases_behind, fresh, Image, SessionEnd, Stop, at_its_end, came_to, events_alone, Session, journal_of, AreInTurn, IsComplete, AtEnd, HasComeTo, IsEnded, IsLastRefused, before_end, Unheeded, nothing_before, refusal, Rules, entries_of, StopsTrunk, TookRefused, WritesWhole, WritesSends}
 use Rattle.over_trunk.specs.EndLaws.{AreAllHeeded, NoOtherEnd, SendsAreWritten}
 use Rattle.over_trunk.proofs.FrameFronts.{none_behind, whole_reading, next_frame}
 use Rattle.over_trunk.proofs.HeededFronts.{event_counts, heeded_next}

@@ -12,5 +12,7 @@ mod SameRun
 mod FrontLemmas
 mod SendLemmas
 mod TrunkLemmas
+mod StandbyLemmas
+mod StandbyTrunk
 mod ConvertLemmas
 pub mod EndLemmas

@@ -1,7 +1,7 @@
 -- A session's record is replayed over the bytes that the session had.
 use Rattle.run_history.specs.declared.answer.Answer.TheVariants as answer
 use Rattle.session_history.specs.Heeding as unheeded
-use Rattle.over_trunk.proofs.Terms.{List, None, Option, Some, [], ap, append-nil, append_assoc, inl, inr, refl, subst, sym, ℕ, ◌++◌, ◌∙◌, ◌∷◌, ◌≡◌, ◌⊎◌, Err, Ok, Result, IsDrained, Stream, Took, Prefix, Entry, LinkEvent, Coming, Phases, events_alone, events_in, events_of, front-bad, IsRefused, AreFramesOf, AreInOrder, phases_behind, Bad, Part, Whole, front, fresh, Image, Answer, prefix_trans, State, heeded_front, IsAccount, Session, journal_of, Rules, Noted, Keeping, Recorded, Outcome, HasSession, AreAsked, EndsBy, IsAsking, IsReplay, Replay, bounds_of, TookRefused, TookWhole, ServesTrunk, IsAsRecorded, IsConverted, IsWithin, SameBytesAreReplayed, SessionIsConverted, IsRecordedRun, ReplaysTrunk, TakesReplay, WritesReplay, WritesSends, ConvertsTrunk, converted}
+use Rattle.over_trunk.proofs.Terms.{List, None, Option, Some, [], ap, append-nil, append_assoc, inl, inr, refl, subst, sym, ℕ, ◌++◌, ◌∙◌, ◌∷◌, ◌≡◌, ◌⊎◌, Err, Ok, Result, IsDrained, Stream, Took, Prefix, Entry, LinkEvent, Coming, Phases, events_in, front-bad, IsRefused, AreFramesOf, AreInOrder, phases_behind, Bad, Part, Whole, front, fresh, Image, Answer, prefix_trans, State, heeded_front, events_alone, IsAccount, Session, journal_of, events_of, Rules, Noted, Keeping, Recorded, Outcome, HasSession, AreAsked, EndsBy, IsAsking, IsReplay, Replay, bounds_of, TookRefused, TookWhole, ServesTrunk, IsAsRecorded, IsConverted, IsWithin, SameBytesAreReplayed, SessionIsConverted, IsRecordedRun, ReplaysTrunk, TakesReplay, WritesReplay, WritesSends, ConvertsTrunk, converted}
 use Rattle.over_trunk.proofs.FrameFronts.{two_readings, whole_reading, next_frame}
 use Rattle.over_trunk.proofs.SameRun.{brought_not, refused_not, mismatch_not, same_end}
 

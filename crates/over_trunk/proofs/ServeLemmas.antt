@@ -2,7 +2,7 @@
 use Rattle.session_history.specs.declared.ends.SessionBreak.TheVariants as session_break
 use Rattle.session_history.specs.declared.ends.SessionEnd.TheVariants as session_end
 use Rattle.session_history.specs.declared.ends.Stop.TheVariants as stop
-use Rattle.over_trunk.proofs.Terms.{All, Bool, List, None, Option, Some, [], ap, false, inl, inr, length, option_map, refl, subst, sym, true, ℕ, ◌++◌, ◌∙◌, ◌≡◌, fun_ext, same_Some, Appends, IfSome, IsSome, is_some, IsDrained, Stream, Took, Entry, LinkEvent, Coming, Grew, Handed, IsFresh, Piece, Told, events_in, pieces_in, Seen, Countable, count_after, frames, AreInOrder, GivesOn, Intake, IsCut, IsFramed, IsTail, Output, TakesOn, TookFrames, WroteFrames, phases_behind, fresh, told_coming, told_events, told_nothing, told_pieces, trunk_told, Image, SessionBreak, SessionEnd, Stop, end_then, Session, after_ending, journal_of, AtBreak, HandedLast, HasComeTo, StaysKnown, TakesAtEnd, WasAsked, answer_of, before_end, HasHanded, none_had, Bounds, nothing_before, Rules, Try, Noted, Unnoted, Keeping, stands_of, HandledAt, HandlesRequests, HasKept, HasLeft, LeavesBy, keeping_of, HasWatched, Outcome, Telling, BreaksAt, LinkAnswers, outcome_of, SessionState, BreaksTrunk, Carries, StopsTrunk, TakesNoPart, TakesTrunk, TookTrunk, WritesTrunk, WritesWhole, HeadsAt, HeadsDue, HeadsTrunk, IsRecordedLow, IsRecordedUpTo, RecordsAt, WatchesTrunk}
+use Rattle.over_trunk.proofs.Terms.{All, Bool, List, None, Option, Some, [], ap, false, inl, inr, length, option_map, refl, subst, sym, true, ℕ, ◌++◌, ◌∙◌, ◌≡◌, fun_ext, same_Some, Appends, IfSome, IsSome, is_some, IsDrained, Stream, Took, Entry, LinkEvent, Coming, Grew, Handed, IsFresh, Piece, Told, events_in, pieces_in, Seen, Countable, count_after, frames, AreInOrder, GivesOn, Intake, IsCut, IsFramed, IsTail, Output, TakesOn, TookFrames, WroteFrames, phases_behind, fresh, told_coming, told_events, told_nothing, told_pieces, trunk_told, Image, SessionBreak, SessionEnd, Stop, end_then, none_had, Session, after_ending, journal_of, AtBreak, HandedLast, HasComeTo, StaysKnown, TakesAtEnd, WasAsked, answer_of, before_end, HasHanded, Bounds, nothing_before, Rules, Try, Noted, Unnoted, Keeping, stands_of, HandledAt, HandlesRequests, HasKept, HasLeft, LeavesBy, keeping_of, HasWatched, Outcome, Telling, BreaksAt, LinkAnswers, outcome_of, SessionState, BreaksTrunk, Carries, StopsTrunk, TakesNoPart, TakesTrunk, TookTrunk, WritesTrunk, WritesWhole, HeadsAt, HeadsDue, HeadsTrunk, IsRecordedLow, IsRecordedUpTo, RecordsAt, WatchesTrunk}
 use Rattle.over_trunk.proofs.WriteLemmas.{wrote_headed, Short, wrote_trunk, wrote_frames}
 use Rattle.recovery.proofs.Handled.{has_ring}
 use Rattle.over_trunk.proofs.ReadLemmas.{tail_none, tail_asked, events_told, stands_behind}

@@ -6,3 +6,4 @@ pub mod WatchLaws
 pub mod Replaying
 pub mod Converting
 pub mod EndLaws
+pub mod StandingBy

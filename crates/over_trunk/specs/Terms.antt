@@ -10,9 +10,10 @@ pub use Rattle.links.specs.declared.journal.Entry.{Entry}
 pub use Rattle.links.specs.declared.journal.LinkEvent.{LinkEvent}
 pub use Rattle.links.specs.LinkForms.{gives_below_4096, handed_by}
 pub use Rattle.links.specs.Links.{Comes, ComesUntold, Coming, Counts, Grew, Handed, HasEnded, IsFresh, IsInOrder, IsNext, Phases, Piece, Refuses, Told, Unopened, cut_entries, events_in, phases_after, pieces_in}
-pub use Rattle.links.specs.Seen.{Seen, no_faults}
+pub use Rattle.links.specs.Seen.{IsFreshLink, Seen, no_faults}
 pub use Rattle.block_book.specs.declared.choice.Choice.{Choice}
 pub use Rattle.trunk_wire.specs.declared.refusal.Refusal.{Refusal}
+pub use Rattle.trunk_wire.specs.declared.trunk_link.TrunkLink.{TrunkLink}
 pub use Rattle.trunk_wire.specs.Calls.{IsRefused, Writes, WritesBy, count_after}
 pub use Rattle.trunk_wire.specs.Frames.{AreFramesOf, IsFrameOf, frames, header_of, piece_frame}
 pub use Rattle.trunk_wire.specs.Going.{AreInOrder, GivesOn, Intake, IsCut, IsFramed, IsTail, Output, TakesOn, TookFrames, WroteFrames, phases_behind}
@@ -58,3 +59,7 @@ pub use Rattle.replay.specs.Differing.{HasDifference, TellsDifference}
 pub use Rattle.replay.specs.Giving.{AreGiven, BreaksOff, found_gone, piece_of}
 pub use Rattle.replay.specs.Laws.{BringsFirst, HadOneStream, HasSession, IsRecordOf}
 pub use Rattle.replay.specs.Replaying.{AreAsked, AreOfLines, EndsBy, HasAsk, HasReplayed, HasReplayedBy, IsAsking, IsOfLine, IsReplay, LeavesLink, Replay, bounds_of}
+pub use Rattle.standby.specs.declared.follower.Follower.{Follower}
+pub use Rattle.standby.specs.declared.following.Unfollowed.{Unfollowed}
+pub use Rattle.standby.specs.Following.{AreFollowed, BreaksBy, CatchesUp, HasBroken, HasCaughtUp, LinkCatches, WasFollowed}
+pub use Rattle.standby.specs.Serving.{AreServed, AreTold, HasServed, IsFollowed, WasServed}

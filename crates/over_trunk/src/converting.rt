@@ -1,31 +1,21 @@
 // A record is converted: its run is executed over the same events, and its text says what was asked of the allocator.
-ghost use Rattle.std.specs.Prelude.{◌≡◌, ℕ, ◌+◌, ◌*◌, ◌≤◌, ◌++◌, OnOk};
+ghost use Rattle.std.specs.Prelude.{◌≡◌, ℕ, ◌+◌, ◌*◌, ◌≤◌};
 ghost use Rattle.schedule_file.specs.Answers.{Writes};
-ghost use Rattle.schedule_file.specs.Lines.{choice_lines};
 ghost use Rattle.schedule_file.specs.Records.{IsRecord};
 ghost use Rattle.over_trunk.specs.Converting.{converted, ComparesConverted, Concludes, HasConvertCause};
 
 use crate::discard::Discard;
 use crate::frame_giver::FrameGiver;
+use crate::record_lines::add_choices;
 use block_book::Choice;
 use elf_image::Image;
 use replay::{Difference, Filled, fill_by};
 use run_history::Answer;
 use rx_io::{Bytes, Source, Steps};
-use schedule_file::{Recorded, add_choice, end_line, head_line};
+use schedule_file::{Recorded, end_line, head_line};
 use std::alloc::{AllocError, Global};
 use std::sync::ledger::Ledger;
 use trunk_wire::TrunkLink;
-
-// The lines of some answers of the allocator, behind bytes that stand there.
-fn add_choices(bytes: &mut Vec<u8>, list: &[Choice]) -> Result<(), AllocError>
-    ensures { OnOk result (bytes.new.items ≡ bytes.old.items ++ choice_lines list.now) }
-{
-    'choices: for choice in list {
-        add_choice(bytes, *choice)?;
-    }
-    Ok(())
-}
 
 // The text of a record in version 2, by the answers of the allocator that its run used.
 fn text_of(alloc: Global, recorded: &Recorded, choices: &[Choice]) -> Result<Bytes, AllocError>

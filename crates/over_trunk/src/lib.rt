@@ -1,4 +1,4 @@
-//! A session, the replay of a record, and its conversion, over a trunk of many connections.
+//! A session, the replay of a record, its conversion, and the takeover by a second host, over a trunk of many connections.
 //!
 //! A session of `rx_engine` serves a `TrunkLink` of `trunk_wire` over a source and a sink, with any notes.
 //! What is known of it is said of bytes: what was taken and written at each answer.
@@ -17,9 +17,13 @@ mod converting;
 mod discard;
 mod frame_giver;
 pub mod laws;
+mod record_lines;
 mod replaying;
 mod serving;
+mod standing_by;
 
 pub use converting::{Converted, convert_trunk};
+pub use record_lines::rest_lines;
 pub use replaying::{Replayed, replay_trunk};
 pub use serving::serve_trunk;
+pub use standing_by::{catch_up_trunk, serve_on_trunk};

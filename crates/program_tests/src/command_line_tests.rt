@@ -76,6 +76,9 @@ const ACCEPTED: &str = "\
     convert p r o => Some(Convert(ConvertCommand { program: \"p\", recording: \"r\", out: \"o\" }))\n\
     convert p p q => Some(Convert(ConvertCommand { program: \"p\", recording: \"p\", out: \"q\" }))\n\
     convert p r p => Some(Convert(ConvertCommand { program: \"p\", recording: \"r\", out: \"p\" }))\n\
+    standby p r c --record o => Some(Standby(StandbyCommand { program: \"p\", recorded: \"r\", counts: \"c\", recording: \"o\", budget: 1000000 }))\n\
+    standby --budget 16777216 p --record o r c => Some(Standby(StandbyCommand { program: \"p\", recorded: \"r\", counts: \"c\", recording: \"o\", budget: 16777216 }))\n\
+    standby 1 2 3 --budget 1 --record standby => Some(Standby(StandbyCommand { program: \"1\", recorded: \"2\", counts: \"3\", recording: \"standby\", budget: 1 }))\n\
     serve p 80 1 --record r --report t => Some(Serve(ServeCommand { session: RunCommand { program: \"p\", recording: \"r\", report: \"t\", form: Text, frame: Line, window: 4, hold: 0, ring: 8, every: 1, frames: 4, budget: 1000000, guard: Off }, port: 80, conns: 1, patience: 60, at_once: 1 }))\n\
     serve --patience 0 p --record 80 --report 1 65535 --frame whole 4096 --form json --window 64 --ring 16 --every 64 --frames 16 --budget 16777216 => Some(Serve(ServeCommand { session: RunCommand { program: \"p\", recording: \"80\", report: \"1\", form: Json, frame: Whole, window: 64, hold: 0, ring: 16, every: 64, frames: 16, budget: 16777216, guard: Off }, port: 65535, conns: 4096, patience: 0, at_once: 1 }))\n\
     serve 1 1 1 --record r --report t --patience 3600 --guard extent => Some(Serve(ServeCommand { session: RunCommand { program: \"1\", recording: \"r\", report: \"t\", form: Text, frame: Line, window: 4, hold: 0, ring: 8, every: 1, frames: 4, budget: 1000000, guard: Extent }, port: 1, conns: 1, patience: 3600, at_once: 1 }))\n\
@@ -196,6 +199,27 @@ const REFUSED: &str = "\n \n\
     convert p r -o\n\
     convert p r \n\
     converts p r o\n\
+    standby\n\
+    standby p r --record o\n\
+    standby p r c\n\
+    standby p r c o\n\
+    standby p r c q --record o\n\
+    standby p p c --record o\n\
+    standby p r p --record o\n\
+    standby p r r --record o\n\
+    standby p r c --record p\n\
+    standby p r c --record r\n\
+    standby p r c --record c\n\
+    standby p r -c --record o\n\
+    standby p r c --record o --budget 0\n\
+    standby p r c --record o --budget 16777217\n\
+    standby p r c --record o --budget 01\n\
+    standby p r c --record o --record o\n\
+    standby p r c --record o --window 4\n\
+    standby p r c --record o --frame line\n\
+    standby p r c --record o --report t\n\
+    standby p r c --record o --tell off\n\
+    stand p r c --record o\n\
     run p --record r --report t --patience 5\n\
     serve\n\
     serve p 80 --record r --report t\n\
@@ -256,8 +280,8 @@ const REFUSED: &str = "\n \n\
     replay p r --guard off\n";
 
 const COMPLAINTS: &str =
-    " => word 1: the command is missing, run or asm or replay or convert or serve or diagnose or drill or frame or unframe\n\
-    dril p => word 1: the command is run or asm or replay or convert or serve or diagnose or drill or frame or unframe, not dril\n\
+    " => word 1: the command is missing, run or asm or replay or convert or standby or serve or diagnose or drill or frame or unframe\n\
+    dril p => word 1: the command is run or asm or replay or convert or standby or serve or diagnose or drill or frame or unframe, not dril\n\
     drill p => word 2: SEED is 0 to 4294967295, not p\n\
     drill 4294967296 => word 2: SEED is 0 to 4294967295, not 4294967296\n\
     drill 1 100001 => word 3: COUNT is 1 to 100000, not 100001\n\
@@ -304,7 +328,18 @@ const COMPLAINTS: &str =
     convert p r => word 4: OUT is missing\n\
     convert p r r => word 4: RECORD and OUT are two names, not r twice\n\
     convert r r o => \n\
-    convert p r o --ring 2 => word 5: --ring is no option of convert\n";
+    convert p r o --ring 2 => word 5: --ring is no option of convert\n\
+    standby p r => word 4: COUNTS is missing\n\
+    standby p r c => word 5: --record is missing, a name\n\
+    standby p r c --window 4 => word 5: --window is no option of standby\n\
+    standby p r c --budget 0 => word 6: --budget is 1 to 16777216, not 0\n\
+    standby r r c --record o => word 3: PROGRAM and RECORD are two names, not r twice\n\
+    standby c r c --record o => word 4: PROGRAM and COUNTS are two names, not c twice\n\
+    standby p r r --record o => word 4: RECORD and COUNTS are two names, not r twice\n\
+    standby --record p p r c => word 4: PROGRAM and --record are two names, not p twice\n\
+    standby p r c --record r => word 6: RECORD and --record are two names, not r twice\n\
+    standby p r c --record c => word 6: COUNTS and --record are two names, not c twice\n\
+    standby p r c --record o => \n";
 
 const RUN_USAGE: &str = "run PROGRAM and in any place, each once:
   --record a name, always
@@ -320,6 +355,19 @@ const RUN_USAGE: &str = "run PROGRAM and in any place, each once:
   --guard off or extent or block (off)
   --tell auto or on or off (auto)
   --durable on or off (off)
+";
+
+const STANDBY_USAGE: &str = "standby PROGRAM RECORD COUNTS and in any place, each once:
+  --record a name, always
+  --budget 1 to 16777216 (1000000)
+";
+
+const OTHERS_USAGE: &str = "asm SOURCE OUT
+replay PROGRAM RECORD
+convert PROGRAM RECORD OUT
+standby PROGRAM RECORD COUNTS and in any place, each once:
+  --record a name, always
+  --budget 1 to 16777216 (1000000)
 ";
 
 const SERVE_USAGE: &str =
@@ -373,6 +421,7 @@ const ASKED: &str = " => None\n\
     help asm => Some(Of(Asm))\n\
     help replay => Some(Of(Replay))\n\
     help convert => Some(Of(Convert))\n\
+    help standby => Some(Of(Standby))\n\
     help serve => Some(Of(Serve))\n\
     help diagnose => Some(Of(Diagnose))\n\
     help drill => Some(Of(Drill))\n\
@@ -430,6 +479,7 @@ fn usage_is_told(rt: HostRuntime) -> Result<(), Fail> {
         ("run", RUN_USAGE, "", "", ""),
         ("asm", "", "asm SOURCE OUT\n", "", ""),
         ("convert", "", "convert PROGRAM RECORD OUT\n", "", ""),
+        ("standby", "", "", STANDBY_USAGE, ""),
         ("serve", "", "", SERVE_USAGE, ""),
         (
             "drill",
@@ -441,7 +491,7 @@ fn usage_is_told(rt: HostRuntime) -> Result<(), Fail> {
         (
             "help",
             RUN_USAGE,
-            "asm SOURCE OUT\nreplay PROGRAM RECORD\nconvert PROGRAM RECORD OUT\n",
+            OTHERS_USAGE,
             SERVE_USAGE,
             DIAGNOSE_USAGE,
         ),
@@ -487,7 +537,7 @@ fn help_is_told(rt: HostRuntime) -> Result<(), Fail> {
         assert_eq!(rt; told.as_str(), expected, "{name:?}");
     }
     let all = help_text(rt.alloc(), None)?;
-    assert_eq!(rt; all.as_str().lines().count(), 18);
+    assert_eq!(rt; all.as_str().lines().count(), 20);
     Ok(())
 }
 

@@ -1,6 +1,6 @@
 //! `rx`: runs a guest program on the frames of standard input, and writes what it sends as frames on standard output; or serves the
-//! clients of a port with it; diagnoses failures; assembles programs, replays records, and converts them; serves a generated session; and
-//! turns lines into frames and back.
+//! clients of a port with it; takes over from a host that stopped; diagnoses failures; assembles programs, replays records, and converts
+//! them; serves a generated session; and turns lines into frames and back.
 #![tactic(auto)]
 
 ghost use Rattle.std.specs.Prelude.{◌≡◌, ◌<◌};
@@ -15,6 +15,7 @@ mod message;
 mod outputs;
 mod readings;
 mod sentences;
+mod standby_sentences;
 mod std_teller;
 mod text_sentences;
 

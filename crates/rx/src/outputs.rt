@@ -1,5 +1,7 @@
 // The files that a command is to write, looked at before it begins: what would be lost by that.
-use command_line::{AsmCommand, Command, ConvertCommand, DiagnoseCommand, RunCommand};
+use command_line::{
+    AsmCommand, Command, ConvertCommand, DiagnoseCommand, RunCommand, StandbyCommand,
+};
 use std::fs;
 use std::fs::File;
 use std::io::Read;
@@ -178,6 +180,21 @@ fn objection_to_convert<'a>(
     objection_to(rt, record, &[convert.program, convert.recording])
 }
 
+fn objection_to_standby<'a>(
+    rt: &HostRuntime,
+    standby: &StandbyCommand<'a>,
+) -> Option<Objection<'a>> {
+    let record = Output {
+        name: standby.recording,
+        kind: Kind::Record,
+    };
+    objection_to(
+        rt,
+        record,
+        &[standby.program, standby.recorded, standby.counts],
+    )
+}
+
 /// What speaks first against writing the files of a command.
 pub fn find_objection<'a>(rt: &HostRuntime, command: &Command<'a>) -> Option<Objection<'a>> {
     match command {
@@ -186,6 +203,7 @@ pub fn find_objection<'a>(rt: &HostRuntime, command: &Command<'a>) -> Option<Obj
         Command::Diagnose(diagnose) => objection_to_diagnose(rt, diagnose),
         Command::Asm(asm) => objection_to_asm(rt, asm),
         Command::Convert(convert) => objection_to_convert(rt, convert),
+        Command::Standby(standby) => objection_to_standby(rt, standby),
         Command::Replay(_) | Command::Drill(_) | Command::Frame | Command::Unframe => None,
     }
 }

@@ -9,6 +9,7 @@ use crate::differing::write_difference;
 use crate::message::{write_cause, write_outside, write_refused};
 use crate::outputs::Objection;
 use crate::readings::tell_readings;
+use crate::standby_sentences::tell_standby;
 use crate::text_sentences::{tell_drill, tell_frame, tell_unframe};
 use command_line::{
     AsmCommand, Command, ConvertCommand, DiagnoseCommand, ReplayCommand, RunCommand, ServeCommand,
@@ -84,7 +85,7 @@ fn tell_words(rt: &HostRuntime, words: &[String]) {
 }
 
 // The field that the program file is refused for, where that was the answer.
-fn refused_field(
+pub(crate) fn refused_field(
     rt: &HostRuntime,
     answer: Answer,
     program: &str,
@@ -425,18 +426,18 @@ fn tell_asm(rt: &HostRuntime, answer: Answer, asm: &AsmCommand<'_>) {
 
 // The sentence for an answer to `replay`.
 #[derive(Debug, Drop)]
-struct ReplayMessage<'a> {
-    answer: Answer,
+pub(crate) struct ReplayMessage<'a> {
+    pub(crate) answer: Answer,
     /// What differs, where the run isn't the recorded one.
-    difference: Option<Difference>,
-    program: &'a str,
-    recording: &'a str,
+    pub(crate) difference: Option<Difference>,
+    pub(crate) program: &'a str,
+    pub(crate) recording: &'a str,
     /// The field that the program file is refused for, where it was found.
-    field: Option<RefusedField>,
+    pub(crate) field: Option<RefusedField>,
     /// The file that couldn't be used, where it was found.
-    blame: Option<Blame<'a>>,
+    pub(crate) blame: Option<Blame<'a>>,
     /// Whether the record ends before its last line.
-    is_cut: bool,
+    pub(crate) is_cut: bool,
 }
 
 impl ReplayMessage<'_> {
@@ -500,7 +501,7 @@ impl fmt::Display for ReplayMessage<'_> {
 }
 
 // The bytes of a record's window.
-fn recorded_window(rt: &HostRuntime, recording: &str) -> Option<u32>
+pub(crate) fn recorded_window(rt: &HostRuntime, recording: &str) -> Option<u32>
     ensures { IfSome result (λ window. IsWindow window) }
 {
     let text = match StdFiles::make(rt, rt.alloc()).load(rt.alloc(), recording, MAX_RECORD) {
@@ -514,7 +515,7 @@ fn recorded_window(rt: &HostRuntime, recording: &str) -> Option<u32>
 }
 
 // Whether a record that is refused has no such line: the session that wrote it was broken off.
-fn is_cut(rt: &HostRuntime, answer: Answer, recording: &str) -> bool {
+pub(crate) fn is_cut(rt: &HostRuntime, answer: Answer, recording: &str) -> bool {
     let Answer::RecordRefused { line } = answer else {
         return false;
     };
@@ -618,6 +619,7 @@ pub fn tell(rt: &HostRuntime, answer: Answer, difference: Option<Difference>, wo
         Ok(Some(Command::Asm(asm))) => tell_asm(rt, answer, &asm),
         Ok(Some(Command::Replay(replay))) => tell_replay(rt, answer, difference, &replay),
         Ok(Some(Command::Convert(convert))) => tell_convert(rt, answer, difference, &convert),
+        Ok(Some(Command::Standby(standby))) => tell_standby(rt, answer, difference, &standby),
         Ok(Some(Command::Serve(serve))) => tell_serve(rt, answer, &serve),
         Ok(Some(Command::Diagnose(diagnose))) => tell_diagnose(rt, answer, &diagnose),
         Ok(Some(Command::Drill(_))) => tell_drill(rt, answer),

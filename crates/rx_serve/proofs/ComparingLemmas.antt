@@ -1,9 +1,5 @@
 -- What `replay` and `convert` leave, by what the recorded run left and what differs from the record.
-use Rattle.rx_serve.proofs.Terms.{Option, subst, sym, ◌≡◌, Answer, CallsConvert, CallsFront, CommandValue, ConvertValue, ReplayValue, End, HasNoSession, Outside, Some, convert, replay, replaying}
-use Rattle.rx_serve.specs.Terms.{Difference}
-use Rattle.rx_serve.specs.Commands.{ConvertEnds, ReplayEnds, Replays}
-use Rattle.rx_serve.specs.Converting.{ComparesConversion}
-use Rattle.rx_serve.specs.Replaying.{ComparesFile}
+use Rattle.rx_serve.proofs.Terms.{Option, Some, subst, sym, ◌≡◌, Answer, CallsFront, Difference, CommandValue, ConvertValue, ReplayValue, StandbyValue, convert, replay, standby, End, Outside, HasNoSession, CallsConvert, replaying, ComparesFile, ComparesConversion, ConvertEnds, ReplayEnds, Replays}
 
 pub replay_ends : (value : ReplayValue) (old new : Outside) (answered : Answer) (found : Option Difference) (end : End) → ComparesFile value old new answered found → end.answer ≡ answered → end.difference ≡ found
     → CallsFront old.calls new.calls (replaying value) → new.files ≡ old.files → HasNoSession end → ReplayEnds value old new end
@@ -31,3 +27,6 @@ replay_replays asked value is = subst (λ (a : Option CommandValue). Replays a) 
 
 pub convert_replays : (asked : Option CommandValue) (value : ConvertValue) → asked ≡ Some (convert value) → Replays asked
 convert_replays asked value is = subst (λ (a : Option CommandValue). Replays a) (sym is) tt
+
+pub standby_replays : (asked : Option CommandValue) (value : StandbyValue) → asked ≡ Some (standby value) → Replays asked
+standby_replays asked value is = subst (λ (a : Option CommandValue). Replays a) (sym is) tt

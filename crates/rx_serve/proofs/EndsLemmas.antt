@@ -4,9 +4,10 @@ use Rattle.session_history.specs.declared.ends.Stop.TheVariants as stop
 use Rattle.rx_io.specs.declared.fault.IoFault.TheVariants as fault
 use Rattle.run_history.specs.declared.answer.Answer.TheVariants as answer
 use Rattle.trunk_text.specs.declared.turning.Ended.TheVariants as ended
-use Rattle.rx_serve.proofs.Terms.{List, None, Option, Some, inl, inr, refl, subst, sym, ℕ, ◌-◌, ◌∙◌, ◌≡◌, Result, IoFault, ListenEntry, Binds, CrowdBinds, number_cases, Ended, Answer, Stop, is_end_answer, IsEnd, answer_of, DrillEnds, DiagnoseValue, RunValue, ServeValue, asm, convert, diagnose, drill, frame, replay, run, serve, unframe, End, Outside, HasLoadCause, HasAsmCause, window_of, Port, Route, Several, trunk_of, IsFilesAnswer, HasNotBegun, HasServed, EndsOver, Heard, IsBindAnswer, ServeEnds, limits_of, DiagnoseEnds, turned_answer, RunEnds, OnlyBadWordsAreRefused}
+use Rattle.rx_serve.proofs.Terms.{List, None, Option, Some, inl, inr, refl, subst, sym, ℕ, ◌-◌, ◌∙◌, ◌≡◌, Result, IoFault, ListenEntry, Binds, CrowdBinds, number_cases, Ended, Answer, Stop, is_end_answer, IsEnd, answer_of, DrillEnds, DiagnoseValue, RunValue, ServeValue, asm, convert, diagnose, drill, frame, replay, run, serve, standby, unframe, End, Outside, HasLoadCause, HasAsmCause, window_of, Port, Route, Several, trunk_of, IsFilesAnswer, HasNotBegun, HasServed, EndsOver, Heard, IsBindAnswer, ServeEnds, limits_of, DiagnoseEnds, turned_answer, RunEnds, OnlyBadWordsAreRefused}
 use Rattle.rx_serve.proofs.ReplayLemmas.{replay_not_refused}
 use Rattle.rx_serve.proofs.ConvertLemmas.{convert_not_refused}
+use Rattle.rx_serve.proofs.StandbyLemmas.{standby_not_refused}
 
 note_not_refused : (why : IoFault) (end : Answer) → IsFilesAnswer why end → end ≡ answer.BadWords → ⊥
 note_not_refused fault.Failed end note is = absurd (let other : answer.FileFault ≡ answer.BadWords = sym note ∙ is in cc)
@@ -77,6 +78,7 @@ only_bad_words (Some (run value)) before later old new end ends is = absurd (run
 only_bad_words (Some (asm value)) before later old new end ends is = absurd (subst (HasAsmCause old.files value.source) is ends.cause)
 only_bad_words (Some (replay value)) before later old new end ends is = absurd (replay_not_refused value old new end.answer ends.replays is)
 only_bad_words (Some (convert value)) before later old new end ends is = absurd (convert_not_refused value old new end.answer ends.converts is)
+only_bad_words (Some (standby value)) before later old new end ends is = absurd (standby_not_refused value old new end ends is)
 only_bad_words (Some (serve value)) before later old new end ends is = absurd (serve_not_refused value before later old new end ends is)
 only_bad_words (Some (diagnose value)) before later old new end ends is = absurd (diagnose_not_refused value old new end ends is)
 only_bad_words (Some (drill value)) before later old new end ends is = absurd (subst (DrillEnds value.seed value.count (new.counter - old.counter) old.output new.output) is ends.drilled)

@@ -15,6 +15,8 @@ pub mod DiagnosingLemmas
 mod RecordLemmas
 mod ReplayLemmas
 mod ConvertLemmas
+mod StandbyFileLemmas
+mod StandbyLemmas
 mod ChoiceRanges
 mod CommandLemmas
 mod EndsLemmas

@@ -1,11 +1,9 @@
 -- What stands in a session's files at its end, and that the counts of it fit into a record.
-use Rattle.std.proofs.lemmas.Nat.{mul-le}
 use Rattle.file_notes.proofs.LawLemmas.{whole_texts}
 use Rattle.rx_io.specs.declared.fault.IoFault.TheVariants as fault
 use Rattle.run_history.specs.declared.answer.Answer.TheVariants as answer
-use Rattle.rx_serve.proofs.Terms.{Bool, List, None, Ok, Option, Some, [], arith, inl, inr, refl, subst, sym, ℕ, ◌*◌, ◌+◌, ◌<◌, ◌^◌, ◌∙◌, ◌≡◌, ◌≤◌, IoFault, FileCall, Contents, Stream, Choice, Heap, Image, Answer, Stop, is_end_answer, Session, journal_of, IsEnd, answer_of, Rules, Episode, Try, NoneFailed, Shown, noted, Keeping, Form, MAX_TAKEN, AreAsks, InRecord, InReport, Left, Nothing, unnoted_of, Names, Stands, Options, AreInRange, keeping_for, rules_of, IsHandedLast, IsNoteStop, Outcome, SessionState, HasServedTrunk, RunValue, Outside, outside, status_of, Route, Watches, ClosesFiles, EndsFiles, HaveTexts, IsFilesAnswer, ServesNoted, StartsFiles, WatchesNoted, names_of, report_form}
+use Rattle.rx_serve.proofs.Terms.{Bool, List, None, Ok, Option, Some, [], arith, inl, inr, refl, subst, sym, ℕ, ◌*◌, ◌+◌, ◌<◌, ◌^◌, ◌∙◌, ◌≡◌, ◌≤◌, mul-le, IoFault, FileCall, Contents, Stream, Choice, Heap, Image, Answer, Stop, is_end_answer, Session, journal_of, IsEnd, answer_of, Rules, Episode, Try, NoneFailed, Shown, noted, few_items, Keeping, Form, MAX_TAKEN, AreAsks, InRecord, InReport, Left, Nothing, unnoted_of, Names, Stands, Options, AreInRange, keeping_for, rules_of, IsHandedLast, IsNoteStop, Outcome, SessionState, HasServedTrunk, RunValue, Outside, outside, status_of, Route, Watches, ClosesFiles, EndsFiles, HaveTexts, IsFilesAnswer, ServesNoted, StartsFiles, WatchesNoted, names_of, report_form}
 use Rattle.rx_serve.proofs.FewSteps.{few_steps}
-use Rattle.recovery.proofs.Few.{few_items}
 use Rattle.session_history.specs.declared.ends.SessionBreak.TheVariants as session_break
 use Rattle.session_history.specs.declared.ends.Stop.TheVariants as stop
 
@@ -23,7 +21,7 @@ texts value choices episodes ended taken steps (Some before) (Some started) (Som
 -- ---- the ends
 
 -- a fault of the notes is no end
-note_is_no_end : (why : IoFault) (end : Answer) → IsFilesAnswer why end → IsEnd end → ⊥
+pub note_is_no_end : (why : IoFault) (end : Answer) → IsFilesAnswer why end → IsEnd end → ⊥
 note_is_no_end fault.Failed end note is = subst IsEnd note is
 note_is_no_end fault.Memory end note is = subst IsEnd note is
 

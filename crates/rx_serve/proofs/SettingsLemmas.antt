@@ -1,7 +1,7 @@
 -- The settings of a session, by the ranges of its command's numbers.
 use Rattle.command_line.specs.Ranges.{AreInRange as RangesHold}
 use Rattle.elf_image.specs.Layout.{IsWindow}
-use Rattle.rx_serve.proofs.Terms.{arith, subst, sym, ◌<◌, ◌^◌, ◌≡◌, ◌≤◌, Options, AreInRange, RunValue, ServeValue, serve, HasRanges, conns_row, port_row, options_of}
+use Rattle.rx_serve.proofs.Terms.{arith, subst, sym, ◌<◌, ◌^◌, ◌≡◌, ◌≤◌, Options, AreInRange, RunValue, ServeValue, StandbyValue, serve, standby, HasRanges, conns_row, port_row, options_of}
 
 pub window_few : (value : RunValue) → RangesHold value → value.window ≤ 64
 window_few value (window, others) = window.1
@@ -40,6 +40,10 @@ port_few value ((port, others), none) =
 pub conns_few : (value : ServeValue) → HasRanges (serve value) → (1 ≤ value.conns) × (value.conns ≤ 4096)
 unfolding conns_row
 conns_few value ((port, (conns, others)), none) = conns
+
+-- the budget of a takeover
+pub budget_few : (value : StandbyValue) → HasRanges (standby value) → (1 ≤ value.budget) × (value.budget ≤ 2 ^ 24)
+budget_few value (budget, others) = budget
 
 -- and of clients at the same time
 pub at_once_few : (value : ServeValue) → HasRanges (serve value) → (1 ≤ value.at_once) × (value.at_once ≤ 256)

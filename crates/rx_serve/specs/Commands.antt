@@ -1,7 +1,7 @@
 -- What each command leaves.
 use Rattle.std.specs.Prelude.{◌≡◌, ◌≢◌, ◌⊎◌, ℕ, Option, Some, None}
 use Rattle.run_history.specs.declared.answer.Answer.TheVariants as answer
-use Rattle.rx_serve.specs.Terms.{ListenEntry, framing, unframing, CallsFront, AsmValue, CommandValue, ConvertValue, ReplayValue, RunValue, asm, convert, diagnose, drill, frame, replay, run, serve, unframe}
+use Rattle.rx_serve.specs.Terms.{ListenEntry, framing, unframing, CallsFront, AsmValue, CommandValue, ConvertValue, ReplayValue, RunValue, asm, convert, diagnose, drill, frame, replay, run, serve, standby, unframe}
 use Rattle.rx_serve.specs.declared.ending.End.{End}
 use Rattle.rx_serve.specs.Assembly.{Assembles, HasAsmCause}
 use Rattle.rx_serve.specs.Calling.{CallsAsm, CallsConvert, replaying}
@@ -14,6 +14,7 @@ use Rattle.rx_serve.specs.Route.{trunk_of}
 use Rattle.rx_serve.specs.Running.{HasNotBegun, HasServed}
 use Rattle.rx_serve.specs.Serving.{Heard, ServeEnds, heard_at}
 use Rattle.rx_serve.specs.Diagnosing.{DiagnoseEnds}
+use Rattle.rx_serve.specs.StandingBy.{StandbyEnds}
 use Rattle.rx_serve.specs.TextFrames.{TurnsInput}
 
 -- what `run` leaves
@@ -58,6 +59,7 @@ Ends (Some (run value)) before later old new end = RunEnds value old new end
 Ends (Some (asm value)) before later old new end = AsmEnds value old new end
 Ends (Some (replay value)) before later old new end = ReplayEnds value old new end
 Ends (Some (convert value)) before later old new end = ConvertEnds value old new end
+Ends (Some (standby value)) before later old new end = StandbyEnds value old new end
 Ends (Some (serve value)) before later old new end = ServeEnds value before later old new end
 Ends (Some (diagnose value)) before later old new end = DiagnoseEnds value old new end
 Ends (Some (drill value)) before later old new end = DrillLeaves value old new end
@@ -78,6 +80,7 @@ Gathers _ = ⊥
 abbrev pub Replays : Option CommandValue → Type 0
 Replays (Some (replay value)) = Unit {0}
 Replays (Some (convert value)) = Unit {0}
+Replays (Some (standby value)) = Unit {0}
 Replays _ = ⊥
 
 -- where a command's events come from, of three counts of faults: that of the input, that of the listener, and that of the crowd

@@ -17,6 +17,8 @@ pub mod Serving
 pub mod Diagnosing
 pub mod Replaying
 pub mod Converting
+pub mod StandbyFiles
+pub mod StandingBy
 pub mod Drilling
 pub mod TextFrames
 pub mod Commands

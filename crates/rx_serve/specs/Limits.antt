@@ -3,6 +3,7 @@ use Rattle.std.specs.Prelude.{ℕ}
 use Rattle.rx_serve.specs.declared.loading.TheConstants.{MAX_PROGRAM}
 use Rattle.rx_serve.specs.declared.assembly.TheConstants.{MAX_SOURCE, ASSEMBLY_WINDOW}
 use Rattle.rx_serve.specs.declared.replaying.TheConstants.{MAX_RECORD}
+use Rattle.rx_serve.specs.declared.standby_files.TheConstants.{MAX_COUNTS}
 
 -- the greatest number of bytes of a program file
 abbrev pub program_limit : ℕ
@@ -11,6 +12,10 @@ program_limit = MAX_PROGRAM
 -- of a record
 abbrev pub record_limit : ℕ
 record_limit = MAX_RECORD
+
+-- of how many bytes each client has
+abbrev pub counts_limit : ℕ
+counts_limit = MAX_COUNTS
 
 -- and of an assembler's text
 abbrev pub source_limit : ℕ

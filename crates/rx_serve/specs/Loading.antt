@@ -1,7 +1,6 @@
 -- The program file, by its name.
 use Rattle.std.specs.Prelude.{◌≡◌, ℕ, ◌<◌, ◌≤◌, List, length, Option, Some, IfSome, IsSomeAnd, Result, Ok, Err, Vec}
-use Rattle.std.specs.declared.alloc.Global.{Global}
-use Rattle.rx_serve.specs.Terms.{Contents, Image, IsImage, refusal, Answer, ElfRefused, FileFault, Memory, TooLarge}
+use Rattle.rx_serve.specs.Terms.{Global, Contents, Image, IsImage, refusal, Answer, ElfRefused, FileFault, Memory, TooLarge}
 use Rattle.rx_serve.specs.Limits.{program_limit}
 
 -- the files say that a name has these bytes, if they tell

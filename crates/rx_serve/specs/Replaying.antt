@@ -1,7 +1,8 @@
 -- The command `replay`: a program and a record of it are loaded, and the recorded run is done again.
 use Rattle.std.specs.Prelude.{◌≡◌, ◌⊎◌, ℕ, ◌+◌, ◌*◌, ◌^◌, List, Option, None, Some, Result, Ok, Err}
 use Rattle.std.proofs.Common.{inl, inr}
-use Rattle.rx_serve.specs.Terms.{Calls, Contents, Image, IsImage, refusal, Answer, ElfRefused, FileFault, Memory, RecordRefused, TooLarge, Recorded, Difference, TellsDifference, IsReading, refused_line, ReplaysTrunk, ReplayValue}
+use Rattle.replay.specs.Differing.{TellsDifference}
+use Rattle.rx_serve.specs.Terms.{Calls, Contents, Image, IsImage, refusal, Answer, ElfRefused, FileFault, Memory, RecordRefused, TooLarge, Recorded, IsReading, refused_line, Difference, ReplaysTrunk, ReplayValue}
 use Rattle.rx_serve.specs.Limits.{program_limit, record_limit}
 use Rattle.rx_serve.specs.Loading.{HasFile, IsTooLarge}
 use Rattle.rx_serve.specs.Calling.{replaying}

@@ -1,4 +1,5 @@
 -- The words that this crate's definitions are written in: those of crates below, and types of its code.
+pub use Rattle.std.specs.declared.alloc.Global.{Global}
 pub use Rattle.rx_io.specs.declared.bytes.Item.{Item}
 pub use Rattle.rx_io.specs.declared.fault.IoFault.{IoFault}
 pub use Rattle.rx_io.specs.declared.file_calls.FileCall.{FileCall}
@@ -13,7 +14,7 @@ pub use Rattle.rx_io.specs.Prefix.{Prefix}
 pub use Rattle.rx_io.specs.Sends.{Send, sent_to}
 pub use Rattle.links.specs.declared.journal.Entry.{Entry}
 pub use Rattle.links.specs.declared.journal.LinkEvent.{LinkEvent}
-pub use Rattle.links.specs.Links.{ComesUntold, Coming, Piece, events_in, pieces_in}
+pub use Rattle.links.specs.Links.{ComesUntold, Coming, Counts, Piece, events_in, pieces_in}
 pub use Rattle.crowd.specs.declared.crowd_calls.CrowdEntry.{CrowdEntry}
 pub use Rattle.crowd.specs.Crowding.{CrowdBinds}
 pub use Rattle.crowd_link.specs.declared.place.Limits.{Limits}
@@ -55,15 +56,21 @@ pub use Rattle.recovery.specs.Handling.{Keeping}
 pub use Rattle.recovery.specs.Watching.{TellsMore}
 pub use Rattle.run_report.specs.declared.form.Form.{Form}
 pub use Rattle.diagnosis.specs.Diagnosis.{diagnosis_text, head_text, rest_text}
+pub use Rattle.schedule_file.specs.declared.recorded.RecordRefusal.{RecordRefusal}
+pub use Rattle.schedule_file.specs.declared.recorded.RecordRefusal.TheVariants.{Refused}
 pub use Rattle.schedule_file.specs.declared.recorded.Recorded.{Recorded}
 pub use Rattle.schedule_file.specs.declared.recorded.TheConstants.{MAX_TAKEN, VERSION}
+pub use Rattle.schedule_file.specs.Answers.{ReadsRecord}
+pub use Rattle.schedule_file.specs.Lines.{choice_line, choice_lines, line_of, lines_text}
+unfoldable pub use Rattle.schedule_file.specs.Lines.{end_line, head_line, line_text}
 pub use Rattle.schedule_file.specs.Records.{IsAsk, IsChoice, IsReading, IsRecord, record_of, text_of}
 pub use Rattle.schedule_file.specs.Refusals.{lines_of, onto, refused_behind, refused_from, refused_line, refused_lines, refused_under}
 pub use Rattle.schedule_file.specs.Telling.{is_ask}
 unfoldable pub use Rattle.schedule_file.specs.Telling.{end_of, head_of}
+pub use Rattle.counts_file.specs.Counts.{count_of}
 pub use Rattle.file_notes.specs.Asks.{AreAsks}
 pub use Rattle.file_notes.specs.Beside.{IsThird, StandsBeside}
-pub use Rattle.file_notes.specs.Calling.{AddsAlone, CallsFront, ending, is_addition, starting, starts_of}
+pub use Rattle.file_notes.specs.Calling.{AddsAlone, CallsFront, CallsUpTo, ending, is_addition, starting, starts_of}
 pub use Rattle.file_notes.specs.Left.{InRecord, InReport, Left, Nothing, unnoted_of}
 pub use Rattle.file_notes.specs.Names.{AreTwo, Names}
 pub use Rattle.file_notes.specs.Standing.{Stands}
@@ -71,21 +78,22 @@ pub use Rattle.file_notes.specs.Writing.{AddsBoth, StartsBoth, Writes, all_kept,
 pub use Rattle.session_state.specs.declared.options.Options.{Options}
 pub use Rattle.session_state.specs.Options.{AreInRange, keeping_for, rules_of}
 pub use Rattle.session_state.specs.Recovered.{AreAllTables, HasNoted, IsHandedLast, IsNoteStop, IsOutcome, Outcome, Telling, story_of}
+pub use Rattle.session_state.specs.Serving.{IsReadyToServe, rules_by}
 pub use Rattle.session_state.specs.Sessions.{IsBegun, SessionState}
 pub use Rattle.replay.specs.declared.difference.Difference.{Difference}
-pub use Rattle.replay.specs.Differing.{TellsDifference}
 pub use Rattle.replay.specs.Replaying.{EndsBy, bounds_of}
-pub use Rattle.over_trunk.specs.Converting.{ConvertsTrunk, TellsConverted}
+pub use Rattle.over_trunk.specs.Converting.{ComparesConverted, ConvertsTrunk, TellsConverted}
 pub use Rattle.over_trunk.specs.EndLaws.{AreAllHeeded, NoOtherEnd, SendsAreWritten}
 pub use Rattle.over_trunk.specs.Replaying.{ReplaysTrunk, WritesSends}
 pub use Rattle.over_trunk.specs.Serving.{GoesOverTrunk, HasServedTrunk, RecordsAt, ServesTrunk, WatchesTrunk}
+pub use Rattle.over_trunk.specs.StandingBy.{BreaksOffTrunk, FollowsTrunk, ServesOnTrunk}
 pub use Rattle.over_trunk.specs.WatchLaws.{BeginWith, NotedTablesAreTold}
 pub use Rattle.over_port.specs.Calls.{given_to}
 pub use Rattle.over_port.specs.Serving.{CalledPort, EndsAfter, GoesOverPort, ServesPort}
 pub use Rattle.over_crowd.specs.Serving.{CalledCrowd, GoesOverCrowd, ServesCrowd}
 pub use Rattle.drill.specs.Drilling.{DrillEnds}
 pub use Rattle.command_line.specs.declared.run_words.Guard.{Guard}
-pub use Rattle.command_line.specs.Commands.{AsmValue, CommandValue, ConvertValue, DiagnoseValue, DrillValue, ReplayValue, RunValue, ServeValue, asm, command_of, convert, convert_shown, diagnose, diagnose_shown, drill, drill_shown, fits, frame, has_fourth, have_names, positional, replay, replay_shown, run, run_shown, serve, serve_shown, unframe}
+pub use Rattle.command_line.specs.Commands.{AsmValue, CommandValue, ConvertValue, DiagnoseValue, DrillValue, ReplayValue, RunValue, ServeValue, StandbyValue, asm, command_of, convert, convert_shown, diagnose, diagnose_shown, drill, drill_shown, fits, frame, has_fourth, have_names, positional, replay, replay_shown, run, run_shown, serve, serve_shown, standby, standby_shown, unframe}
 unfoldable pub use Rattle.command_line.specs.Commands.{diagnose_form, diagnose_value, is_diagnose, is_run, is_serve, run_form, run_value, serve_form, serve_value}
 pub use Rattle.command_line.specs.Parts.{Parts, texts_of}
 pub use Rattle.command_line.specs.Ranges.{HasRanges}

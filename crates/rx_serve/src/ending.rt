@@ -2,12 +2,14 @@
 ghost use Rattle.std.specs.Prelude.{◌≡◌};
 ghost use Rattle.rx_serve.specs.Status.{status_of};
 
+use crate::noting::is_end;
 use block_book::Choices;
 use guest_space::AccessRule;
 use over_trunk::Replayed;
 use replay::Difference;
 use run_history::Answer;
 use rx_engine::Left;
+use standby::{Followed, Unfollowed};
 use std::alloc::Global;
 
 /// How a command ended: its answer, the status for the shell, and of a session's run how many answers of the allocator stand in
@@ -51,6 +53,7 @@ pub(crate) fn status_of_answer(answer: Answer) -> u8
 
 impl End {
     ghost use Rattle.rx_serve.specs.Ended.{HasNoSession};
+    ghost use Rattle.rx_serve.specs.StandingBy.{TellsChoices};
 
     /// The end of a command without a session, or before it began.
     pub(crate) fn without_session(alloc: Global, answer: Answer) -> End
@@ -79,6 +82,38 @@ impl End {
     {
         let mut end = End::without_session(alloc, replayed.answer);
         end.difference = replayed.difference;
+        end
+    }
+
+    /// The end of a takeover whose recorded run wasn't followed to its end.
+    pub(crate) fn of_unfollowed(alloc: Global, unfollowed: Unfollowed) -> End
+        ensures answer { result.answer ≡ unfollowed.answer }
+        ensures status { result.status ≡ status_of unfollowed.answer }
+        ensures nothing { HasNoSession result }
+        ensures differs { result.difference ≡ unfollowed.difference }
+    {
+        let mut end = End::without_session(alloc, unfollowed.answer);
+        end.difference = unfollowed.difference;
+        end
+    }
+
+    /// The end of a run that was taken over. At an end each answer of the allocator stands in the record that was written, else none.
+    pub(crate) fn of_takeover(alloc: Global, answer: Answer, followed: Followed) -> End
+        ensures answer { result.answer ≡ answer }
+        ensures status { result.status ≡ status_of answer }
+        ensures told { TellsChoices followed.tail result }
+        ensures steps { result.steps ≡ followed.steps }
+        ensures taken { result.taken ≡ followed.taken }
+        ensures differs { result.difference ≡ None }
+    {
+        let mut end = End::without_session(alloc, answer);
+        end.steps = followed.steps;
+        end.taken = followed.taken;
+        if is_end(answer) {
+            end.recorded = followed.tail.as_slice().len() as u64;
+        } else {
+            end.tail = followed.tail;
+        }
         end
     }
 

@@ -22,6 +22,8 @@ mod replaying;
 mod run;
 mod serving;
 mod settings;
+mod standby_files;
+mod standing_by;
 mod text_frames;
 
 pub use assembly::MAX_SOURCE;
@@ -30,3 +32,4 @@ pub use loading::MAX_PROGRAM;
 pub use replaying::MAX_RECORD;
 pub use run::run_rx;
 pub use settings::{MAX_EVENTS, MAX_ITEMS};
+pub use standby_files::MAX_COUNTS;

@@ -15,6 +15,7 @@ use crate::drilling::drill_session;
 use crate::ending::End;
 use crate::replaying::replay_file;
 use crate::serving::run_program;
+use crate::standing_by::stand_by;
 use crate::text_frames::{frame_input, unframe_input};
 use command_line::{Command, read_command};
 use crowd::Crowd;
@@ -32,6 +33,8 @@ use telling::Teller;
 /// assembles it in a window of 1 MiB, and writes its executable. `replay PROGRAM RECORD` loads a program and a record of it, and does
 /// the recorded run again over the trunk of `input` and `output`: its sends are frames, and events are taken only where it asks for an item.
 /// `convert PROGRAM RECORD OUT` does the recorded run again over `input`, gives nothing, and writes the record of version 2 of that run.
+/// `standby PROGRAM RECORD COUNTS --record R` follows the recorded run over the trunk of `input` and `output`, writes what its clients lack by their counts,
+/// and lets it serve on, with a record of its own.
 /// `serve PROGRAM PORT CONNS --record RECORD --report REPORT` lets the program serve so many connections of `listener` at a port, one after
 /// another, with a record and a report as of `run`; with `--at-once N` those of `crowd`, up to N at the same time.
 /// `diagnose PROGRAM --record RECORD --report REPORT --diagnosis DIAGNOSIS` is a `run` that tries all environments at all checkpoints at each
@@ -54,7 +57,8 @@ pub fn run_rx<F: Files, S: Source, K: Sink, N: Listener, C: Crowd, L: Ledger, T:
     // cause. `serve`: the same, over the calls on the listener or on the crowd. `diagnose`: what a `run` leaves, and beside it a file with each failure's
     // table. `asm`: the executable of the text's image, and nothing else is touched. `replay`: the recorded run is done again, or no replay began, by its
     // cause. `convert`: the recorded run is done again, and at its end its record of version 2 is written; or no run began or came to its end, by its
-    // cause. `drill`: five lines of one session. `frame` and `unframe`: what each line or frame of the input becomes. Words of no command are refused, and
+    // cause. `standby`: the recorded run is followed, and served on, with the record of the whole run at its end; or nothing was taken over, by its cause.
+    // `drill`: five lines of one session. `frame` and `unframe`: what each line or frame of the input becomes. Words of no command are refused, and
     // nothing is touched.
     ensures ends { Ends (command_of (texts_of words.now)) (heard (N.told listener.old) (C.told crowd.old)) (heard (N.told listener.new) (C.told crowd.new)) (outside (F.told files.old) (F.calls files.old) (S.told input.old) (K.told output.old) steps.old) (outside (F.told files.new) (F.calls files.new) (S.told input.new) (K.told output.new) steps.new) result }
 
@@ -67,7 +71,7 @@ pub fn run_rx<F: Files, S: Source, K: Sink, N: Listener, C: Crowd, L: Ledger, T:
     ensures crowd { (Gathers (command_of (texts_of words.now)) → ⊥) → crowd.new ≡ crowd.old }
     ensures fixed { (N.fixed listener.new ≡ N.fixed listener.old) × (C.fixed crowd.new ≡ C.fixed crowd.old) }
 
-    // What differs from a record stands beside the answer of a `replay` or a `convert` alone.
+    // What differs from a record stands beside the answer of a `replay`, a `convert` or a `standby` alone.
     ensures differs { (Replays (command_of (texts_of words.now)) → ⊥) → result.difference ≡ None }
     ensures status { result.status ≡ status_of result.answer }
     ensures counted_at_least { steps.old + result.steps ≤ steps.new }
@@ -87,6 +91,9 @@ pub fn run_rx<F: Files, S: Source, K: Sink, N: Listener, C: Crowd, L: Ledger, T:
         Ok(Some(Command::Convert(convert))) => {
             let replayed = convert_file(alloc, &convert, files, input, steps);
             End::of_replay(alloc, replayed)
+        }
+        Ok(Some(Command::Standby(standby))) => {
+            stand_by(alloc, &standby, files, input, output, steps)
         }
         Ok(Some(Command::Serve(serve))) => serve_clients(
             alloc, &serve, files, listener, crowd, teller, steps,

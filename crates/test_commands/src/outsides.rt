@@ -29,7 +29,7 @@ fn before_in(alloc: Global, before: &str, row: &str) -> Result<Vec<u8>, Fail> {
     Ok(bytes)
 }
 
-// Files in memory with the file `p`, and with `r` and `t` where a row says what they have.
+// Files in memory with the file `p`, and with `r`, `t` and `c` where a row says what they have.
 fn files_of(alloc: Global, program: &[u8], row: &str) -> Result<MemoryFiles, Fail> {
     let mut held = Vec::new(alloc);
     held.push((String::from_str(alloc, "p")?, program.to_vec(alloc)?))?;
@@ -38,6 +38,10 @@ fn files_of(alloc: Global, program: &[u8], row: &str) -> Result<MemoryFiles, Fai
             let bytes = before_in(alloc, before, row)?;
             held.push((String::from_str(alloc, name)?, bytes))?;
         }
+    }
+    if let Some(counts) = cell_of(row, "counts") {
+        let bytes = text_of(alloc, counts)?.into_bytes();
+        held.push((String::from_str(alloc, "c")?, bytes))?;
     }
     let fails = number_of(row, "files", 0)? as u64;
     Ok(MemoryFiles::make(alloc, held, [fails].to_vec(alloc)?))

@@ -23,7 +23,7 @@ returns-clause-served g c =
             rules,
             serves c.args.limits (rules_by g.R.AccessRule.rule c.args.session.now) (keeping_for c.args.session.now.options) image
                 (seen_of (λ s. g.C.Crowd.told s.now) (λ s. g.C.Crowd.faults s.now) c.make-link.result) (seen_of (λ s. g.C.Crowd.told s.now) (λ s. g.C.Crowd.faults s.now) c.serve_told.new.link)
-                refl
+                begun.nothing_came
                 (subst IsJustBound (λ i. g.C.Crowd.told ((sym made.crowd) i).now) c.requires.bound)
                 (search (rules, made.limits)) went.limits went.went (crowd_stands c.serve_told.new.link)
                 (made.told ∙ (λ i. told_nothing (g.C.Crowd.told ((sym made.crowd) i).now))) refl refl

@@ -21,7 +21,7 @@ returns-clause-served g c =
             rules,
             serves c.args.conns (rules_by g.R.AccessRule.rule c.args.session.now) (keeping_for c.args.session.now.options) image
                 (seen_of (λ s. g.E.Listener.told s.now) (λ s. g.E.Listener.faults s.now) c.make-link.result) (seen_of (λ s. g.E.Listener.told s.now) (λ s. g.E.Listener.faults s.now) c.serve_told.new.link)
-                refl
+                begun.nothing_came
                 (subst IsJustBound (λ i. g.E.Listener.told ((sym made.listener) i).now) c.requires.bound)
                 (search (rules, made.conns)) went.conns went.went (port_stands c.serve_told.new.link)
                 (made.told ∙ (λ i. told_nothing (g.E.Listener.told ((sym made.listener) i).now))) refl refl

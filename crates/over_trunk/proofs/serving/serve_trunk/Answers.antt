@@ -15,7 +15,7 @@ returns-clause-served g c =
     watches (rules_by g.R.AccessRule.rule c.args.session.now) (keeping_for c.args.session.now.options) image {old = intake_of (λ s. g.S.Source.told s.now) c.make-link.result} {new = intake_of (λ s. g.S.Source.told s.now) c.serve_watched_told.new.link}
     {out = output_of (λ s. g.K.Sink.told s.now) c.make-link.result} {later = output_of (λ s. g.K.Sink.told s.now) c.serve_watched_told.new.link}
     (seen_of (λ s. g.S.Source.told s.now) (λ s. g.S.Source.faults s.now) (λ s. g.K.Sink.told s.now) (λ s. g.K.Sink.faults s.now) c.make-link.result) (seen_of (λ s. g.S.Source.told s.now) (λ s. g.S.Source.faults s.now) (λ s. g.K.Sink.told s.now) (λ s. g.K.Sink.faults s.now) c.serve_watched_told.new.link)
-    refl
+    begun.nothing_came
     (record {
       phases = made.shows.phases;
       took = made.fresh.took;

@@ -1,8 +1,6 @@
-use Rattle.rx_serve.proofs.Lemmas.{convert_broken, convert_none, convert_written, no_read_cause, no_write_cause, as_replay, leaves_text, not_file_fault, not_read_of_writes, not_write_of_writes}
-use Rattle.std.specs.Prelude.{IsErrOf}
-use Rattle.over_trunk.specs.Converting.{ComparesConverted}
 use Rattle.run_history.specs.declared.answer.Answer.TheVariants as answer
-use Rattle.rx_serve.proofs.Terms.{List, Ok, ap, arith, inl, inr, refl, rules, subst, sym, ℕ, ◌-◌, Err, Result, Answer, ConvertsTrunk, convert_shown, outside}
+use Rattle.rx_serve.proofs.Lemmas.{convert_broken, convert_none, convert_written, no_read_cause, no_write_cause, as_replay, leaves_text, not_file_fault, not_read_of_writes, not_write_of_writes}
+use Rattle.rx_serve.proofs.Terms.{List, Ok, ap, arith, inl, inr, refl, rules, subst, sym, ℕ, ◌-◌, Err, IsErrOf, Result, Answer, ComparesConverted, ConvertsTrunk, convert_shown, outside}
 use Rattle.rx_serve.proofs.converting.convert_file.Goals as goal
 
 -- ---- no run began

@@ -1,8 +1,5 @@
-use Rattle.schedule_file.specs.Answers.{ReadsRecord}
-use Rattle.schedule_file.specs.declared.recorded.RecordRefusal.{RecordRefusal}
-use Rattle.schedule_file.specs.declared.recorded.RecordRefusal.TheVariants.{Refused}
-use Rattle.rx_serve.proofs.Terms.{List, arith, subst, ℕ, Err}
-use Rattle.rx_serve.proofs.RecordLemmas.{line_few}
+use Rattle.rx_serve.proofs.Lemmas.{line_few}
+use Rattle.rx_serve.proofs.Terms.{List, arith, subst, ℕ, Err, RecordRefusal, Refused, ReadsRecord}
 
 pub overflow_cast-result : Rattle.rx_serve.proofs.replaying.load_record.Goals.overflow_cast-result
 overflow_cast-result g c =

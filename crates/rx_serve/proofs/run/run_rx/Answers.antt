@@ -1,7 +1,7 @@
 use Rattle.command_line.proofs.Ranges.{session_in_range}
-use Rattle.rx_serve.proofs.Lemmas.{at_once_few, conns_few, port_few}
-use Rattle.rx_serve.proofs.Terms.{Some, refl, rules, ◌≡◌, command_of, convert, convert_shown, diagnose, diagnose_shown, drill, drill_shown, replay, replay_shown, run, run_shown, serve, serve_shown, texts_of}
-use Rattle.rx_serve.proofs.ComparingLemmas.{convert_ends, convert_replays, replay_ends, replay_replays}
+use Rattle.rx_serve.proofs.Lemmas.{at_once_few, budget_few, conns_few, port_few}
+use Rattle.rx_serve.proofs.Terms.{Some, refl, rules, ◌≡◌, command_of, convert, convert_shown, diagnose, diagnose_shown, drill, drill_shown, replay, replay_shown, run, run_shown, serve, serve_shown, standby, standby_shown, texts_of}
+use Rattle.rx_serve.proofs.ComparingLemmas.{convert_ends, convert_replays, replay_ends, replay_replays, standby_replays}
 use Rattle.rx_serve.proofs.MemoryLemmas.{memory_ends}
 use Rattle.rx_serve.proofs.NamesLemmas.{names_differ, port_names_differ, diagnose_names_differ, diagnosis_differs}
 
@@ -56,6 +56,19 @@ pub returns-in-Ok-Some-Convert-clause-differs : Rattle.rx_serve.proofs.run.run_r
 returns-in-Ok-Some-Convert-clause-differs g c =
     let asked : command_of (texts_of c.args.words.now) ≡ Some (convert (convert_shown c.in-Ok-Some-Convert.convert)) = search (rules, c.in-Ok-Some-Convert.ensures.read) in
     λ other. absurd (other (convert_replays _ (convert_shown c.in-Ok-Some-Convert.convert) asked))
+
+pub stand_by-requires-clause-budget : Rattle.rx_serve.proofs.run.run_rx.Goals.stand_by-requires-clause-budget
+stand_by-requires-clause-budget g c = budget_few (standby_shown c.in-Ok-Some-Standby.standby) (search (rules, c.in-Ok-Some-Standby.ensures.ranges))
+
+pub returns-in-Ok-Some-Standby-clause-ends : Rattle.rx_serve.proofs.run.run_rx.Goals.returns-in-Ok-Some-Standby-clause-ends
+returns-in-Ok-Some-Standby-clause-ends g c =
+    let asked : command_of (texts_of c.args.words.now) ≡ Some (standby (standby_shown c.in-Ok-Some-Standby.standby)) = search (rules, c.in-Ok-Some-Standby.ensures.read) in
+    rw asked c.stand_by.ensures.ends
+
+pub returns-in-Ok-Some-Standby-clause-differs : Rattle.rx_serve.proofs.run.run_rx.Goals.returns-in-Ok-Some-Standby-clause-differs
+returns-in-Ok-Some-Standby-clause-differs g c =
+    let asked : command_of (texts_of c.args.words.now) ≡ Some (standby (standby_shown c.in-Ok-Some-Standby.standby)) = search (rules, c.in-Ok-Some-Standby.ensures.read) in
+    λ other. absurd (other (standby_replays _ (standby_shown c.in-Ok-Some-Standby.standby) asked))
 
 pub returns-in-Ok-Some-Drill-clause-ends : Rattle.rx_serve.proofs.run.run_rx.Goals.returns-in-Ok-Some-Drill-clause-ends
 returns-in-Ok-Some-Drill-clause-ends g c =
