@@ -14,7 +14,7 @@ use Rattle.session_state.specs.Sessions.{SessionState}
 use Rattle.session_state.specs.Standing.{Since}
 use Rattle.session_state.proofs.events.HearingLemmas.{HeardEvent, closes_closed, run_of, with_heard}
 use Rattle.session_state.proofs.guest.GuestLemmas.{received_is}
-use Rattle.follow.proofs.Terms.{List, None, Option, [], arith, subst, ℕ, ◌++◌, ◌∙◌, ◌∷◌, ◌≡◌, ◌≤◌, Image, AsksFor, Path, received, Rules, plan_of, Handed}
+use Rattle.follow.proofs.Terms.{List, None, Option, [], arith, subst, ℕ, ◌++◌, ◌∷◌, ◌≡◌, ◌≤◌, Image, AsksFor, Path, received, Rules, plan_of, Handed}
 use Rattle.session_following.specs.Following.{plan_up_to}
 use Rattle.session_following.specs.Followed.{IsFollowing, rules_following}
 use Rattle.session_following.specs.Reaching.{IsNotReached}

@@ -207,3 +207,20 @@ held_fits old new conn bytes taken {count = count} is front few =
     ap (λ (l : Ledger). length (sent_to conn l.kept)) is ∙ (ap length (one_sent old.kept send) ∙ length-append (sent_to conn old.kept) bytes) in
     let part : length (sent_to conn old.kept) ≡ length (passed_to old conn) + length front.0 = ap length (sym front.1) ∙ length-append (passed_to old conn) front.0 in
     omega (arith, passed, sent, part, few)
+
+-- How many bytes a client has beyond what was sent to it is told by the ledger: beyond what it gave up and what was passed.
+pub left_is : (counts : List (ℕ × ℕ)) (sends : List Send) (ledger : Ledger) (conn : ℕ) → Shows ledger sends (held counts sends)
+    → count_of counts conn - (earlier_at ledger.connections conn + length (passed_to ledger conn)) ≡ count_of counts conn - length (sent_to conn sends)
+left_is counts sends ledger conn shows =
+    let pieces : List Send = held counts sends in
+    let known : length (passed_to ledger conn) ≡ length (stamped_of conn pieces) - earlier_at ledger.connections conn =
+    length-bytes_of (stamped_to ledger.connections conn) ∙ (ap length (shows.passed conn) ∙ length-drop (earlier_at ledger.connections conn) (stamped_of conn pieces)) in
+    let whole : length (stamped_of conn pieces) ≡ length (sent_to conn pieces) = sym (length-bytes_of (stamped_of conn pieces)) ∙ ap length (bytes_of-stamped_of conn pieces) in
+    let split : length (sent_to conn sends) ≡ length (sent_to conn (take ledger.first sends)) + length (sent_to conn (drop ledger.first sends)) =
+    ap (λ (l : List Send). length (sent_to conn l)) (sym (take-append-drop ledger.first sends)) ∙ (ap length (sent_to-append conn (take ledger.first sends) (drop ledger.first sends)) ∙ length-append (sent_to conn (take ledger.first sends)) (sent_to conn (drop ledger.first sends))) in
+    let early = shows.earlier conn in
+    let front : length (sent_to conn pieces) ≡ length (take (count_of counts conn) (sent_to conn sends)) = ap length (held_is_front counts sends conn) in
+    elim (cases_lt (count_of counts conn) (length (sent_to conn sends))) [
+      | inl less ↦ let part = length-take-le (count_of counts conn) (sent_to conn sends) (omega (arith, less)) in omega (arith, known, whole, split, early, front, part, less)
+      | inr covered ↦ let all = ap length (take_all (count_of counts conn) (sent_to conn sends) covered) in omega (arith, known, whole, split, early, front, all, covered)
+    ]

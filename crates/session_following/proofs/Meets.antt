@@ -1,22 +1,24 @@
 -- A session that follows meets what the parts of an ordinary one ask for: it stands between two events of its guest, or waits for an item; and a send may be noted.
-use Rattle.links.specs.Links.{Grew, Phases}
+use Rattle.links.specs.Links.{Grew, Phases, Told}
 use Rattle.links.specs.Seen.{Seen}
 use Rattle.reply_ledger.specs.Ledger.{IsOpened, NotBefore, times_of}
 use Rattle.reply_ledger.specs.Shows.{Shows}
 use Rattle.run_history.specs.Call.{may_send}
 use Rattle.link_gate.specs.Passing.{AreStampedBy}
 use Rattle.session_history.specs.Terms.{Send}
+use Rattle.session_notes.specs.Noting.{Noted}
 use Rattle.recovery.specs.Watching.{TellsMore}
 use Rattle.recovery.proofs.Sending.{between_behind, times_low}
 use Rattle.session_state.specs.Recovered.{AreTables}
 use Rattle.session_state.specs.Sessions.{SessionState}
-use Rattle.session_state.specs.Standing.{IsBetween, IsGoing, IsWaitingFor, Since}
+use Rattle.session_state.specs.Standing.{IsBetween, IsGoing, IsWaitingFor, Since, told_since}
 use Rattle.session_state.proofs.passing.PassLemmas.{stamped_by}
-use Rattle.follow.proofs.Terms.{List, [], append-nil, arith, drop, subst, sym, true, ℕ, ◌<◌, ◌∙◌, ◌≡◌, Image, LinkEvent, AsksFor, Path, Rules, items_in, held, plan_of, Handed}
+use Rattle.follow.proofs.Terms.{List, [], append-nil, arith, drop, subst, sym, true, ℕ, ◌<◌, ◌∙◌, ◌≡◌, Image, LinkEvent, AsksFor, Path, Rules, items_in, held, plan_of, Handed, None, Some, ap, refl, take}
 use Rattle.follow.proofs.Stamps.{held_is_in_order}
 use Rattle.session_following.specs.Following.{plan_up_to}
 use Rattle.session_following.specs.Followed.{IsFollowing, rules_following}
 use Rattle.session_following.proofs.Rebased.{just_due, just_going, just_hearing}
+use Rattle.session_following.proofs.Steps.{IsMarked}
 
 module _ {R : Type 0} where
   -- it stands between two events of its guest, since now, where it holds back more items than it may receive
@@ -49,3 +51,49 @@ module _ {R : Type 0} where
   stamped_following {rules = rules} {image = image} {handed = handed} {events = events} {now = now} {session = session} f =
       stamped_by now.state.machine.taken (subst (Shows session.replies now.state.sends) (append-nil (held handed.counts now.state.sends)) f.stands.replies.shows)
       (held_is_in_order rules.limits (items_in (rules_following rules handed events now).bounds []) (plan_up_to (plan_of handed.episodes) now.state.machine.taken) image now handed.counts f.stands.sound.carries.served)
+
+-- Something told since, of which all is told, and nothing was: what a method of an ordinary session makes of one that follows is told so.
+abbrev pub nothing_told : Told
+nothing_told = record { events = None; pieces = None; journal = Some [] }
+
+abbrev pub marked : Noted → Noted → Since
+marked before now = told_since nothing_told before now (Some []) (Some []) 0
+
+pub is_marked : (before now : Noted) → IsMarked (marked before now) nothing_told
+is_marked before now = record { told = refl; still = refl; tables_before = refl; tables = refl }
+
+module _ {R : Type 0} where
+  -- of what is told since, a session that follows looks at what its notes had alone
+  pub since_following : {rules : Rules} {image : Image} {handed : Handed} {events : List LinkEvent} {now : Path} {began other : Since} {phases : Phases} {session : SessionState R} → other.noted_before ≡ began.noted_before → other.noted ≡ began.noted → IsFollowing rules image handed events now began phases session
+      → IsFollowing rules image handed events now other phases session
+  since_following {now = now} {began = began} {other = other} {session = session} before noted f =
+      let a = f.stands.answers in
+      record {
+        stands = record {
+          sound = f.stands.sound;
+          answers = record {
+            low = a.low;
+            recorded =
+                subst (λ (n : Noted). Grew n.choices other.noted.choices (take session.recorded now.choices)) (sym before)
+                (subst (λ (n : Noted). Grew began.noted_before.choices n.choices (take session.recorded now.choices)) (sym noted) a.recorded);
+            choices = a.choices;
+            unnoted = ap (λ (n : Noted). n.unnoted) noted ∙ (a.unnoted ∙ sym (ap (λ (n : Noted). n.unnoted) before));
+            taken = a.taken;
+            steps = a.steps;
+          };
+          goes = f.stands.goes;
+          saved = f.stands.saved;
+          replies = f.stands.replies;
+          no_trial = f.stands.no_trial;
+        };
+        env = f.env;
+        until = f.until;
+        before = f.before;
+        asked = f.asked;
+      }
+
+  -- where it waits for an item, it does as an ordinary session, told so
+  pub marked_following : {rules : Rules} {image : Image} {handed : Handed} {events : List LinkEvent} {now : Path} {before noted : Noted} (seen : Seen) {session : SessionState R} → IsFollowing rules image handed events now (marked before noted) seen.phases session → Grew before.episodes noted.episodes []
+      → rules.bounds.max_items < rules.hold → AsksFor rules.limits (plan_up_to (plan_of handed.episodes) now.state.machine.taken) now now.state.machine.taken
+      → IsWaitingFor (rules_following rules handed events now) image (marked before noted) (record seen { told = nothing_told }) session
+  marked_following seen f episodes most asks = waiting_following {seen = record seen { told = nothing_told }} f refl refl episodes ([], refl, tt) most asks

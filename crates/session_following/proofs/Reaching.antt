@@ -2,8 +2,8 @@
 use Rattle.std.proofs.Common.{suc, zero}
 use Rattle.std.proofs.lemmas.Option.{option_and_then_some, same_Some}
 use Rattle.session_history.specs.Terms.{serve}
-use Rattle.trials.proofs.Results.{asks_on, ended_on, fails_on}
-use Rattle.follow.proofs.Terms.{List, Some, [], ap, arith, inl, inr, length, length-append, refl, subst, sym, ℕ, ◌++◌, ◌+◌, ◌<◌, ◌∙◌, ◌∷◌, ◌≡◌, ◌≤◌, ◌⊎◌, cases_lt, Item, LinkEvent, Image, Limits, Override, Path, Served, env_at, origin, planned_next, later_of, served_on, served_with, serves_to, taken_later, Rules, plan_of, AtExit, AtFailure, AtRequest, Handed, HasReached, Stand, AsksForMore}
+use Rattle.trials.proofs.Results.{apart_asks_fails, apart_ended, asks_on, ended_on, fails_on}
+use Rattle.follow.proofs.Terms.{List, Some, [], ap, arith, inl, inr, length, length-append, refl, subst, sym, ℕ, ◌++◌, ◌+◌, ◌<◌, ◌∙◌, ◌∷◌, ◌≡◌, ◌≤◌, ◌⊎◌, cases_lt, Item, LinkEvent, Image, Limits, Override, Path, Served, env_at, origin, planned_next, later_of, served_on, served_with, serves_to, taken_later, Rules, plan_of, AtExit, AtFailure, AtRequest, Handed, HasReached, Stand, AsksForMore, AsksFor}
 use Rattle.session_following.specs.Reaching.{HasAskedBefore, HasNotReached, IsNotReached}
 use Rattle.session_following.specs.Laws.{NotReachedStays}
 use Rattle.session_following.proofs.Planned.{goes_to, same_steps}
@@ -113,3 +113,9 @@ asked_then rules image handed events event before now front back one split =
       | IsLast is ↦ subst (AsksForMore rules image handed) is now
       | IsWithin more within ↦ before front more one within
     ]
+
+-- where it stands at its request it stands nowhere else, so what isn't reached there isn't reached
+pub not_at_request : (limits : Limits) (handed : Handed) (path : Path) (asks : AsksFor limits (plan_of handed.episodes) path path.state.machine.taken) → ¬ HasReached limits handed path (AtRequest asks) → IsNotReached limits handed path
+not_at_request limits handed path asks none (AtRequest other) reached = none (record { past = reached.past; chose = reached.chose; finished = reached.finished; covers = reached.covers })
+not_at_request limits handed path asks none (AtExit ended) reached = apart_ended path asks.lives ended
+not_at_request limits handed path asks none (AtFailure cause fails) reached = apart_asks_fails limits (plan_of handed.episodes) path path.state.machine.taken cause asks fails
