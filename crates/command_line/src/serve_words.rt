@@ -12,8 +12,8 @@ use crate::accepted::{have_form, name_at};
 use crate::matching::{out_of_memory, parser, value_in};
 use crate::options::{CommandName, CommandOf, CommandRow, OptionRow, RowOf, TakesOf, takes_value};
 use crate::run_words::{
-    BUDGET, DURABLE, EVERY, FORM, FRAME, FRAMES, GUARD, PROGRAM, RECORD, REPORT, RING, RunCommand, TELL,
-    WINDOW, have_names, number_or_zero, session_from,
+    BUDGET, DURABLE, EVERY, FORM, FRAME, FRAMES, GUARD, PROGRAM, RECORD, REPORT, RING, RunCommand,
+    TELL, WINDOW, have_names, number_or_zero, session_from,
 };
 use clap::{ArgMatches, Error};
 use std::alloc::{AllocError, Global};

@@ -488,13 +488,7 @@ fn usage_is_told(rt: HostRuntime) -> Result<(), Fail> {
             "",
             "",
         ),
-        (
-            "help",
-            RUN_USAGE,
-            OTHERS_USAGE,
-            SERVE_USAGE,
-            DIAGNOSE_USAGE,
-        ),
+        ("help", RUN_USAGE, OTHERS_USAGE, SERVE_USAGE, DIAGNOSE_USAGE),
     ] {
         let told = usage(rt.alloc(), command)?;
         let expected = format!(in rt.alloc(); "{first}{rest}{last}{others}")?;

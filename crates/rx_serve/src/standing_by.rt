@@ -119,13 +119,7 @@ fn take_over<F: Files, S: Source, K: Sink, L: Ledger>(
     if let Err(fault) = start_recording(alloc, files, standby, recorded) {
         return End::without_session(alloc, note_answer(fault));
     }
-    let ended = serve_on_trunk(
-        &mut follower,
-        &takeover.counts,
-        standby.budget,
-        link,
-        steps,
-    );
+    let ended = serve_on_trunk(&mut follower, &takeover.counts, standby.budget, link, steps);
     let followed = follower.into_end();
     let answer = end_recording(alloc, files, standby, &followed, ended);
     End::of_takeover(alloc, answer, followed)
