@@ -4,7 +4,7 @@ use Rattle.run_history.specs.declared.answer.Answer.TheVariants as answer
 use Rattle.rx_io.specs.declared.fault.IoFault.TheVariants as fault
 use Rattle.session_history.specs.Answering.{HasAnswerCause}
 use Rattle.standby.specs.declared.following.Unfollowed.{Unfollowed}
-use Rattle.standby.specs.declared.follower.Kept.{Kept}
+use Rattle.standby.specs.declared.kept.Kept.{Kept}
 use Rattle.standby.specs.Following.{BreaksBy, kept_to}
 use Rattle.standby.specs.Missing.{AllGiven, IsShort}
 use Rattle.standby.specs.Serving.{EndsBy, WasServed, plain_limits}
