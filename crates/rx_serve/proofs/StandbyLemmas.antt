@@ -137,6 +137,18 @@ short_faults conn before now answered same = record {
   write_fault = λ is. absurd (let other : answer.Short conn ≡ answer.WriteFault = sym same ∙ is in cc);
 }
 
+-- the record that is written wasn't started
+pub unstarted_faults : (before now : Faults) (why : IoFault) (answered : Answer) → IsFilesAnswer why answered → HasCause {T = Unit {0}} before.files now.files (Err why) → HasFaults before now answered
+unstarted_faults before now why answered note cause = record {
+  file_fault = λ is. by_files why (subst (λ (a : Answer). IsFilesAnswer why a) is note) cause;
+  read_fault = λ is. absurd (not_read why (subst (λ (a : Answer). IsFilesAnswer why a) is note));
+  write_fault = λ is. absurd (not_write why (subst (λ (a : Answer). IsFilesAnswer why a) is note));
+}
+  where
+    by_files : (why : IoFault) → IsFilesAnswer why answer.FileFault → HasCause {T = Unit {0}} before.files now.files (Err why) → Rose before.files now.files
+    by_files fault.Failed note cause = cause.failed refl
+    by_files fault.Memory note cause = absurd (let never : answer.FileFault ≡ answer.Memory = note in cc)
+
 -- a run was served on: files, source and sink were called before
 pub served_faults : {files started closed input output : ℕ} {mid last : Counts} (value : StandbyValue) (choices : List Choice) (steps taken : ℕ) (before later : Option Contents) (ended end answered : Answer) → files ≤ started
     → (end ≡ answer.FileFault → (ended ≡ answer.FileFault) ⊎ Rose started closed) → (ended ≡ answer.FileFault → ⊥) → started ≤ closed → input ≤ mid.takes → output ≤ mid.gives → HasAnswerCause mid last ended
