@@ -1,11 +1,11 @@
 #!/usr/bin/env python3
-"""What --durable costs: a server that fails at each of many messages and is recovered each time, with the report on the disk before the reply, and without.
+"""What --durable costs: a server that fails again and again and is recovered each time, with the report on the disk before the reply, and without.
 
-One message is given after another, and the time from it to its reply is taken. guests/overrun fails by each line with a double quote. Sessions with and
-without take turns, in a folder of the disk that is to be measured. The middle time of a reply and the slowest one are printed, and by how much a failure
-is dearer; beside that an fdatasync of as many bytes alone.
+One message is given after another, and the time from it to its reply is taken. guests/overrun fails by a line with a double quote, but while the
+environment that helped is in force. Sessions with and without take turns, in a folder of the disk that is to be measured. By how much a reply that was
+recovered is dearer is the difference of all times, by the number of recoveries; beside that stands an fdatasync of as many bytes alone.
 
-usage: durable.py [--failures N] [--runs N] [--folder FOLDER] [RX]
+usage: durable.py [--messages N] [--runs N] [--folder FOLDER] [RX]
 RX is the built rx, crates/rx/out/rx unless it is given. The status is 0 where each reply was right.
 """
 
@@ -29,13 +29,13 @@ ROW = b"<tr><td>hand saw 12&quot;</td><td>steel</td><td>19.90</td></tr>\n"
 EPISODE = 120  # bytes of an episode's text, about
 
 
-def replies(rx, folder, durable, failures):
-    """The seconds from each message to its reply."""
+def replies(rx, folder, durable, messages):
+    """The seconds from all messages to their replies, and how often the server was recovered."""
     words = [rx, "run", SERVER, "--record", os.path.join(folder, "r"), "--report", os.path.join(folder, "t"), "--tell", "off", "--durable", durable]
     server = subprocess.Popen(words, stdin=subprocess.PIPE, stdout=subprocess.PIPE, bufsize=0)
     server.stdin.write(frame(OPENS, 0))
     took, message = [], piece_frame(0, LINE)
-    for _ in range(failures):
+    for _ in range(messages):
         began = time.perf_counter()
         server.stdin.write(message)
         header = read(server, 5)
@@ -46,7 +46,8 @@ def replies(rx, folder, durable, failures):
     server.stdin.close()
     if server.wait() != 0:
         sys.exit(f"durable.py: status {server.returncode}")
-    return took
+    with open(os.path.join(folder, "t"), encoding="ascii") as report:
+        return sum(took), sum(line.startswith("failure ") for line in report)
 
 
 def read(server, count):
@@ -71,28 +72,25 @@ def syncs(folder, count):
     return took
 
 
-def told(name, took):
-    print(f"{name}: {statistics.median(took) * 1e6:.0f} microseconds, {max(took) * 1e6:.0f} at most")
-
-
 def main():
     parser = argparse.ArgumentParser()
-    parser.add_argument("--failures", type=int, default=200)
+    parser.add_argument("--messages", type=int, default=1000)
     parser.add_argument("--runs", type=int, default=5)
     parser.add_argument("--folder")
     parser.add_argument("rx", nargs="?", default=os.path.join(HERE, "..", "crates", "rx", "out", "rx"))
     asked = parser.parse_args()
-    took = {"off": [], "on": []}
+    dearer = []
     with tempfile.TemporaryDirectory(dir=asked.folder) as folder:
         for _ in range(asked.runs):
-            for durable in took:
-                took[durable] += replies(os.path.abspath(asked.rx), folder, durable, asked.failures)
-        alone = syncs(folder, asked.failures)
-    told("a reply that is recovered", took["off"])
-    told("with --durable on", took["on"])
-    told("an fdatasync alone", alone)
-    dearer = statistics.median(took["on"]) - statistics.median(took["off"])
-    print(f"a failure is dearer by {dearer * 1e6:.0f} microseconds")
+            plain, recovered = replies(os.path.abspath(asked.rx), folder, "off", asked.messages)
+            durable, again = replies(os.path.abspath(asked.rx), folder, "on", asked.messages)
+            if recovered != again:
+                sys.exit(f"durable.py: {recovered} recoveries, and {again}")
+            dearer.append((durable - plain) / recovered)
+        alone = syncs(folder, asked.messages)
+    print(f"{asked.messages} messages, {recovered} recovered")
+    print(f"one that is recovered is dearer by {statistics.median(dearer) * 1e6:.0f} microseconds")
+    print(f"an fdatasync alone: {statistics.median(alone) * 1e6:.0f} microseconds")
 
 
 if __name__ == "__main__":
