@@ -2,7 +2,7 @@
 _rx() {
     local word=${COMP_WORDS[COMP_CWORD]} before=${COMP_WORDS[COMP_CWORD-1]}
     if [ "$COMP_CWORD" -eq 1 ]; then
-        COMPREPLY=($(compgen -W 'run asm replay convert serve diagnose drill frame unframe help --help --version' -- "$word"))
+        COMPREPLY=($(compgen -W 'run asm replay convert standby serve diagnose drill frame unframe help --help --version' -- "$word"))
         return
     fi
     case "${COMP_WORDS[1]} $before" in
@@ -18,6 +18,9 @@ _rx() {
     'run --tell')
         COMPREPLY=($(compgen -W 'auto on off' -- "$word"))
         return ;;
+    'run --durable')
+        COMPREPLY=($(compgen -W 'on off' -- "$word"))
+        return ;;
     'serve --form')
         COMPREPLY=($(compgen -W 'text json' -- "$word"))
         return ;;
@@ -29,6 +32,9 @@ _rx() {
         return ;;
     'serve --tell')
         COMPREPLY=($(compgen -W 'auto on off' -- "$word"))
+        return ;;
+    'serve --durable')
+        COMPREPLY=($(compgen -W 'on off' -- "$word"))
         return ;;
     'diagnose --form')
         COMPREPLY=($(compgen -W 'text json' -- "$word"))
@@ -42,16 +48,21 @@ _rx() {
     'diagnose --tell')
         COMPREPLY=($(compgen -W 'auto on off' -- "$word"))
         return ;;
+    'diagnose --durable')
+        COMPREPLY=($(compgen -W 'on off' -- "$word"))
+        return ;;
     esac
     case "${COMP_WORDS[1]}" in
     run)
-        [[ $word == -* ]] && COMPREPLY=($(compgen -W '--record --report --form --frame --window --hold --ring --every --frames --budget --guard --tell' -- "$word")) && return ;;
+        [[ $word == -* ]] && COMPREPLY=($(compgen -W '--record --report --form --frame --window --hold --ring --every --frames --budget --guard --tell --durable' -- "$word")) && return ;;
+    standby)
+        [[ $word == -* ]] && COMPREPLY=($(compgen -W '--record --budget' -- "$word")) && return ;;
     serve)
-        [[ $word == -* ]] && COMPREPLY=($(compgen -W '--record --report --form --frame --window --ring --every --frames --budget --guard --patience --at-once --tell' -- "$word")) && return ;;
+        [[ $word == -* ]] && COMPREPLY=($(compgen -W '--record --report --form --frame --window --ring --every --frames --budget --guard --patience --at-once --tell --durable' -- "$word")) && return ;;
     diagnose)
-        [[ $word == -* ]] && COMPREPLY=($(compgen -W '--record --report --diagnosis --form --frame --window --hold --ring --every --frames --budget --guard --tell' -- "$word")) && return ;;
+        [[ $word == -* ]] && COMPREPLY=($(compgen -W '--record --report --diagnosis --form --frame --window --hold --ring --every --frames --budget --guard --tell --durable' -- "$word")) && return ;;
     help)
-        COMPREPLY=($(compgen -W 'run asm replay convert serve diagnose drill frame unframe' -- "$word"))
+        COMPREPLY=($(compgen -W 'run asm replay convert standby serve diagnose drill frame unframe' -- "$word"))
         return ;;
     esac
     COMPREPLY=($(compgen -f -- "$word"))
