@@ -9,7 +9,7 @@ pub use Rattle.rx_serve.proofs.RecordLemmas.{line_few}
 pub use Rattle.rx_serve.proofs.ReplayLemmas.{has_recording, no_file_fault, no_read_cause, no_write_cause}
 pub use Rattle.rx_serve.proofs.ConvertLemmas.{as_replay, leaves_text, not_file_fault, not_read_of_writes, not_write_of_writes}
 pub use Rattle.rx_serve.proofs.StandbyFileLemmas.{answers_few, called_none, called_one, called_two, no_counts, no_record, same_loads}
-pub use Rattle.rx_serve.proofs.StandbyLemmas.{broken_faults, broken_off, closed_text, closes_as, faults_at, first_short, none_short, served_faults, served_no_file, serves_as, short_faults, takes_at, wider_faults}
+pub use Rattle.rx_serve.proofs.StandbyLemmas.{broken_faults, broken_off, closed_text, closes_as, faults_at, first_short, none_short, served_faults, served_no_file, serves_as, short_faults, takes_at, unstarted_faults, wider_faults}
 pub use Rattle.rx_serve.proofs.CommandLemmas.{records_are_converted, records_are_replayed, second_version_stays}
 pub use Rattle.rx_serve.proofs.SessionLaws.{all_sends_are_written, good_input_is_taken}
 pub use Rattle.rx_serve.proofs.ServeLaws.{all_sends_are_given, good_clients_are_served, no_serve_is_refused}

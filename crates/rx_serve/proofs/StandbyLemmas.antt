@@ -4,7 +4,7 @@ use Rattle.run_history.specs.declared.answer.Answer.TheVariants as answer
 use Rattle.rx_io.specs.declared.fault.IoFault.TheVariants as fault
 use Rattle.session_history.specs.Answering.{HasAnswerCause}
 use Rattle.standby.specs.declared.following.Unfollowed.{Unfollowed}
-use Rattle.standby.specs.declared.follower.Kept.{Kept}
+use Rattle.standby.specs.declared.kept.Kept.{Kept}
 use Rattle.standby.specs.Following.{BreaksBy, kept_to}
 use Rattle.standby.specs.Missing.{AllGiven, IsShort}
 use Rattle.standby.specs.Serving.{EndsBy, WasServed, plain_limits}
@@ -136,6 +136,18 @@ short_faults conn before now answered same = record {
   read_fault = λ is. absurd (let other : answer.Short conn ≡ answer.ReadFault = sym same ∙ is in cc);
   write_fault = λ is. absurd (let other : answer.Short conn ≡ answer.WriteFault = sym same ∙ is in cc);
 }
+
+-- the record that is written wasn't started
+pub unstarted_faults : (before now : Faults) (why : IoFault) (answered : Answer) → IsFilesAnswer why answered → HasCause {T = Unit {0}} before.files now.files (Err why) → HasFaults before now answered
+unstarted_faults before now why answered note cause = record {
+  file_fault = λ is. by_files why (subst (λ (a : Answer). IsFilesAnswer why a) is note) cause;
+  read_fault = λ is. absurd (not_read why (subst (λ (a : Answer). IsFilesAnswer why a) is note));
+  write_fault = λ is. absurd (not_write why (subst (λ (a : Answer). IsFilesAnswer why a) is note));
+}
+  where
+    by_files : (why : IoFault) → IsFilesAnswer why answer.FileFault → HasCause {T = Unit {0}} before.files now.files (Err why) → Rose before.files now.files
+    by_files fault.Failed note cause = cause.failed refl
+    by_files fault.Memory note cause = absurd (let never : answer.FileFault ≡ answer.Memory = note in cc)
 
 -- a run was served on: files, source and sink were called before
 pub served_faults : {files started closed input output : ℕ} {mid last : Counts} (value : StandbyValue) (choices : List Choice) (steps taken : ℕ) (before later : Option Contents) (ended end answered : Answer) → files ≤ started

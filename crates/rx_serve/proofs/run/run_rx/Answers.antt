@@ -57,8 +57,8 @@ returns-in-Ok-Some-Convert-clause-differs g c =
     let asked : command_of (texts_of c.args.words.now) ≡ Some (convert (convert_shown c.in-Ok-Some-Convert.convert)) = search (rules, c.in-Ok-Some-Convert.ensures.read) in
     λ other. absurd (other (convert_replays _ (convert_shown c.in-Ok-Some-Convert.convert) asked))
 
-pub stand_by-requires-clause-budget : Rattle.rx_serve.proofs.run.run_rx.Goals.stand_by-requires-clause-budget
-stand_by-requires-clause-budget g c = budget_few (standby_shown c.in-Ok-Some-Standby.standby) (search (rules, c.in-Ok-Some-Standby.ensures.ranges))
+pub stand_by-requires : Rattle.rx_serve.proofs.run.run_rx.Goals.stand_by-requires
+stand_by-requires g c = record { budget = budget_few (standby_shown c.in-Ok-Some-Standby.standby) (search (rules, c.in-Ok-Some-Standby.ensures.ranges)) }
 
 pub returns-in-Ok-Some-Standby-clause-ends : Rattle.rx_serve.proofs.run.run_rx.Goals.returns-in-Ok-Some-Standby-clause-ends
 returns-in-Ok-Some-Standby-clause-ends g c =

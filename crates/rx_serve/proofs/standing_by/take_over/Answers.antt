@@ -1,4 +1,4 @@
-use Rattle.rx_serve.proofs.Lemmas.{broken_faults, broken_off, closed_text, closes_as, first_short, none_short, served_faults, served_no_file, serves_as, short_faults}
+use Rattle.rx_serve.proofs.Lemmas.{broken_faults, broken_off, closed_text, closes_as, first_short, none_short, served_faults, served_no_file, serves_as, short_faults, unstarted_faults}
 use Rattle.rx_serve.proofs.Terms.{arith, inl, inr, refl, subst, sym, ◌-◌, ◌∙◌, ◌≡◌, Answer, standby_shown, IsFilesAnswer, CallsRecording}
 use Rattle.rx_serve.proofs.StandbyLemmas.{counts_fit}
 use Rattle.rx_serve.proofs.standing_by.take_over.Goals as goal
@@ -50,6 +50,13 @@ returns-in-Err-start_recording-clause-takes g c =
       nothing = c.without_session-in-Err-start_recording.ensures.nothing;
       differs = c.without_session-in-Err-start_recording.ensures.differs;
     }))
+
+pub returns-in-Err-start_recording-clause-faults : goal.returns-in-Err-start_recording-clause-faults
+returns-in-Err-start_recording-clause-faults g c =
+    let fault = c.in-Err-start_recording.fault in
+    let note : IsFilesAnswer fault c.without_session-in-Err-start_recording.result.answer =
+    subst (λ (a : Answer). IsFilesAnswer fault a) (sym c.without_session-in-Err-start_recording.ensures.answer) c.note_answer.ensures in
+    unstarted_faults _ _ fault c.without_session-in-Err-start_recording.result.answer note c.in-Err-start_recording.ensures.cause
 
 -- ---- the run was served on
 
