@@ -26,6 +26,12 @@ def plan_of(episodes):
     return plan
 
 
+def is_well_placed(episode):
+    """Whether the environment of the trial that was adopted begins no later than the failure."""
+    start = episode.tries[-1].checkpoint
+    return start == 0 or start < episode.point
+
+
 class Short(Exception):
     """A client has more than the run sends; the argument is the least such connection."""
 
@@ -63,25 +69,23 @@ class Followed(Session):
 
     def follow(self):
         """Follows the run to where it is released; or the answer of an event that is refused before."""
+        if any(not is_well_placed(episode) for episode in self.episodes_before):
+            self.differ(0)
         while True:
             stand = self.to_a_stand()
-            if stand == "asks" and self.survivor.taken - self.ring[-1].machine.taken >= self.options.every:
-                self.save()
-            if self.is_reached(stand):
+            if self.judge(stand, stand != "asks"):
                 self.is_released, self.shut_before = True, set(self.shut)
                 return None
-            if stand != "asks" or self.is_at_the_end():
-                self.judge(stand)
+            if self.survivor.taken - self.ring[-1].machine.taken >= self.options.every:
+                self.save()
             answer = self.hear(stand)
             if answer:
                 return answer
 
     def to_a_stand(self):
-        """Goes on to a request, an exit or a failure. Answers of the allocator have to be the record's, and so have the items at its end."""
-        machine, lines, finish = self.survivor, self.recorded_before.lines, self.recorded_before.finish
+        """Goes on to a request, an exit or a failure. Answers of the allocator have to be the record's."""
+        machine, lines = self.survivor, self.recorded_before.lines
         while True:
-            if finish and machine.steps == finish[0] and machine.taken != finish[1]:
-                self.differ(machine.steps)
             if machine.exited is not None:
                 return "exits"
             try:
@@ -96,7 +100,7 @@ class Followed(Session):
                 self.hold(*event[1:])
             if event[0] == "chose" and len(machine.choices) <= len(lines):
                 line = lines[len(machine.choices) - 1]
-                if line._replace(ask=None) != event[1]._replace(ask=None) or line.ask not in (None, event[1].ask):
+                if line != event[1]:
                     self.differ(machine.steps - 1)
 
     def hold(self, connection, content):
@@ -112,7 +116,7 @@ class Followed(Session):
         while len(self.items.received) == machine.taken:
             event = self.next_event()
             if event[0] == "ends":
-                self.judge(stand)
+                self.judge(stand, True)
             refusal = event if event[0] == "InputRefused" else self.items.event(event)
             if refusal:
                 return refusal
@@ -136,10 +140,10 @@ class Followed(Session):
         point = self.episodes_before[-1].point
         return point <= self.survivor.taken if stand == "asks" else point < self.survivor.taken
 
-    def is_at_the_end(self):
-        """Whether it has come to the record's last line, all of whose answers it used."""
+    def is_elsewhere(self):
+        """Whether it stands at or behind the record's last line, and not where that says."""
         finish = self.recorded_before.finish
-        return finish is not None and self.survivor.steps >= finish[0] and self.has_chosen() and self.is_past("asks")
+        return finish is not None and finish[0] <= self.survivor.steps and finish != (self.survivor.steps, self.survivor.taken)
 
     def has_chosen(self):
         return len(self.survivor.choices) >= len(self.recorded_before.lines)
@@ -151,13 +155,19 @@ class Followed(Session):
         finish = self.recorded_before.finish
         return self.is_past(stand) and self.has_chosen() and (finish is None or self.survivor.steps >= finish[0])
 
-    def is_reached(self, stand):
-        return self.is_as_told(stand) and not self.uncovered()
-
-    def judge(self, stand):
+    def judge(self, stand, is_stuck):
+        """Whether it has reached all that was handed over. Where it can't go on, or stands where the record's last line says, and hasn't, this raises why."""
+        machine, finish = self.survivor, self.recorded_before.finish
+        if self.is_elsewhere():
+            self.differ(machine.steps)
         if not self.is_as_told(stand):
-            self.differ(self.survivor.steps)
-        raise Short(self.uncovered()[0])
+            if is_stuck:
+                self.differ(machine.steps)
+            return False
+        lacking = self.uncovered()
+        if lacking and (is_stuck or finish == (machine.steps, machine.taken)):
+            raise Short(lacking[0])
+        return not lacking
 
     def differ(self, steps):
         self.apart = steps
@@ -189,6 +199,8 @@ def resume(program, files_of_first, source, sink, options, files, form="text", m
     of_record, of_report, of_counts = files_of_first
     try:
         recorded = record.read_unfinished(of_record)
+        if recorded.version == 1:
+            raise record.RecordRefused(1)  # its lines don't say what was asked
         told = report.read_report(of_report)
         counts = counts_file.read_counts(of_counts)
     except record.RecordRefused as error:

@@ -7,7 +7,7 @@ from second.session import Options
 from second.takeover import plan_of, resume, standby
 from second.report import Episode, SURVIVED, Try
 
-HEAD = b"rx record 1 window 4 frame line\n"
+HEAD = b"rx record 2 window 4 frame line\n"
 REPORT = b"rx report 1\n"
 OPENS_1, CLOSES_0 = trunk.frame(trunk.OPENS, 1), trunk.frame(trunk.CLOSES, 0)
 OVERRUN = b"*" * 39 + b"\n"
@@ -131,7 +131,7 @@ def _():
 
 @row("after GaveUp, with other options")
 def _():
-    whole = HEAD + b"m 00013000 -\nm 00013010 -\nend 247 2\n"
+    whole = HEAD + b"m 00013000 - 00000010\nm 00013010 - 00000010\nend 247 2\n"
     results = ("Contradicts", "AssertFailed 5", "Contradicts", "AssertFailed 5", "Contradicts") * 2
     tries = b"".join(b"try %d checkpoint %d env %s result %s\n" % (i, 1 - i // 5, e, r.encode())
                      for i, (e, r) in enumerate(zip((b"pad", b"zero", b"isolate", b"delay", b"all") * 2, results)))
@@ -157,10 +157,19 @@ def _():
     Taken("echo", stream, HEAD, REPORT, b"0 02\n").says(("CountsRefused", 1), 3, b"")
     Taken("echo", stream, HEAD, REPORT + b"failure 1 point 2 cause Hang at 00010000\n", b"").says(("ReportRefused", 2), 3, b"")
     Taken("stale", OPENS_0, HEAD, STALE, b"").says(("Mismatch", 18), 3, b"")
-    Taken("overflow", lines_in(OVERRUN, b"hi\n"), HEAD + b"m 00012010 -\n", NOTED, b"").says(("Mismatch", 26), 3, b"")
-    taken = Taken("overflow", lines_in(b"hi\n"), HEAD + b"m 00012000 -\nm 00012010 -\nend 81 2\n", REPORT, b"")
+    Taken("overflow", lines_in(OVERRUN, b"hi\n"), HEAD + b"m 00012010 - 00000010\n", NOTED, b"").says(("Mismatch", 26), 3, b"")
+    taken = Taken("overflow", lines_in(b"hi\n"), HEAD + b"m 00012000 - 00000010\nm 00012010 - 00000010\nend 81 2\n", REPORT, b"")
     taken.says(("Finished",), 0, out((0, b"hi\n")), 81, 2)
     taken.records("00012000", "00012010")
+
+
+@row("files that are of no session")
+def _():
+    old = b"rx record 1 window 4 frame line\n"
+    Taken("echo", TWO_LINES, old, REPORT, b"").says(("RecordRefused", 1), 3, b"")
+    late = REPORT + b"failure 0 point 2 cause Hang at 00010000\ntry 0 checkpoint 2 env pad result survived\n"
+    Taken("echo", TWO_LINES, HEAD, late, b"").says(("Mismatch", 0), 3, b"")
+    Taken("echo", TWO_LINES, HEAD + b"end 33 2\n", REPORT, b"").says(("Mismatch", 34), 3, b"")
 
 
 @row("closed connections of a second host")
@@ -215,6 +224,6 @@ def _():
 
 @row("a standby of a run with blocks")
 def _():
-    whole = HEAD + b"m 00012000 -\nm 00012010 -\nend 81 2\n"
+    whole = HEAD + b"m 00012000 - 00000010\nm 00012010 - 00000010\nend 81 2\n"
     _, files = stands_by(("Finished",), 0, out((0, b"hi\n")), "overflow", lines_in(b"hi\n"), whole, b"")
     say([line.split()[1] for line in files["r"].decode().splitlines()[1:3]], ["00012000", "00012010"])

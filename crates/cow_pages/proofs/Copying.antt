@@ -1,9 +1,9 @@
 -- A page of the live space that moves to a free frame.
-use Rattle.cow_pages.proofs.Terms.{All, Bool, List, None, Some, [], ap, arith, cond, drop, false, get_or, inl, inr, length, map, nat_lt, refl, set, subst, sym, take, true, ℕ, ◌*◌, ◌++◌, ◌+◌, ◌<◌, ◌||◌, ◌∙◌, ◌∷◌, ◌≡◌, ◌≤◌, ◌⊎◌, cases_Bool, cases_eq, cases_lt, false≢true, ltb-true, or_parts, get_or-set_other, get_or-set_same, get_or_append_left, get_or_push, length-append, length-set, take_at, All-cons, All-head, All-nil, All-tail, PAGE, Slot, Pages, different, has, saved_numbers, used_of, IsFree, NumberAfter, Owns, is_shared, IsSlot, IsSound, IsStack, IsTable, Parts, contents, pages_of, places, slot_numbers, slot_space, space_of, table_numbers}
-use Rattle.cow_pages.proofs.Counting.{AreBelow, has-append, has-is, places-append, has-get_or, different-append-lt, places-here, places-set, places-there}
+use Rattle.cow_pages.proofs.Terms.{All, List, [], ap, arith, cond, drop, false, get_or, inl, inr, length, map, nat_lt, refl, set, subst, sym, take, true, ℕ, ◌*◌, ◌++◌, ◌+◌, ◌<◌, ◌∙◌, ◌∷◌, ◌≡◌, ◌≤◌, ◌⊎◌, cases_Bool, cases_eq, cases_lt, false≢true, ltb-true, or_parts, get_or-set_other, get_or-set_same, get_or_append_left, get_or_push, length-append, length-set, take_at, All-cons, All-head, All-nil, All-tail, PAGE, Slot, Pages, different, has, saved_numbers, used_of, IsFree, NumberAfter, Owns, is_shared, put_at, IsSlot, IsSound, IsStack, IsTable, Parts, contents, pages_of, places, slot_numbers, slot_space, table_numbers}
+use Rattle.cow_pages.proofs.Counting.{has-append, has-is, places-append, has-get_or, different-append-lt, places-here, places-set, places-there}
 use Rattle.cow_pages.proofs.Walks.{by_count, by_live, in_use, table_put}
-use Rattle.cow_pages.proofs.Frames.{copied, length-copied, copy_within-copied, contents-copied, contents-copied_apart}
-use Rattle.cow_pages.proofs.Stores.{held-is, live_below, saved_numbers-is, table_below, shared-is, use-has, used-sum}
+use Rattle.cow_pages.proofs.Frames.{AreFrames, copied, length-copied, contents-copied, contents-copied_apart}
+use Rattle.cow_pages.proofs.Stores.{held-is, live_frames, saved_numbers-is, table_frames, shared-is, use-has, used-sum}
 
 pub has-set_other : (n : ℕ) (xs : List ℕ) (k y : ℕ) → k < length xs → (get_or xs k 0 ≡ n → ⊥) → (y ≡ n → ⊥) → has n (set xs k y) ≡ has n xs
 has-set_other n xs k y less old new =
@@ -26,13 +26,10 @@ top_below counts live rest fresh so =
     let inside : length rest < length (rest ++ fresh ∷ []) = omega (arith, length-append rest (fresh ∷ [])) in
     subst (λ n. n < length counts) (get_or_push rest fresh 0 (length rest) refl) (so.below (length rest) inside)
 
-free_test : (b : Bool) → 0 < cond b 0 1 → b ≡ false
-free_test b some = grind arith
-
 pub top_unused : (counts live rest : List ℕ) (fresh : ℕ) → IsStack counts live (rest ++ fresh ∷ []) → in_use counts live fresh ≡ false
 top_unused counts live rest fresh so =
     let some : 0 < places fresh (rest ++ fresh ∷ []) = omega (arith, places-append fresh rest (fresh ∷ []), places-here fresh []) in
-    free_test (in_use counts live fresh) (subst (λ n. 0 < n) (so.each fresh (top_below counts live rest fresh so)) some)
+    elim (in_use counts live fresh) as (λ b. 0 < cond b 0 1 → b ≡ false) [ true ↦ λ e. absurd (omega arith) | false ↦ λ e. refl ] (subst (λ n. 0 < n) (so.each fresh (top_below counts live rest fresh so)) some)
 
 -- a list without a number has it at no place
 pub not-at : (n : ℕ) (xs : List ℕ) → has n xs ≡ false → (k : ℕ) → k < length xs → get_or xs k 0 ≡ n → ⊥
@@ -40,10 +37,7 @@ not-at n xs none k less e = false≢true (sym none ∙ subst (λ m. has m xs ≡
 
 still : (counts live : List ℕ) (page fresh : ℕ) → page < length live → 0 < get_or counts (get_or live page 0) 0 → (n : ℕ) → (fresh ≡ n → ⊥) → in_use counts (set live page fresh) n ≡ in_use counts live n
 still counts live page fresh inside counted n other =
-    elim (cases_eq (get_or live page 0) n) [
-      | inl old ↦ subst (λ m. in_use counts (set live page fresh) m ≡ in_use counts live m) old (by_count _ _ counted ∙ sym (by_count _ _ counted))
-      | inr apart ↦ ap (λ b. nat_lt 0 (get_or counts n 0) || b) (has-set_other n live page fresh inside apart other)
-    ]
+    elim (cases_eq (get_or live page 0) n) [ inl old ↦ rw (← old, by_count _ _ counted, by_count _ _ counted) refl | inr apart ↦ rw (has-set_other n live page fresh inside apart other) refl ]
 
 -- the stack without its top, which a page of the live table has now
 pub stack_taken : (counts live rest : List ℕ) (page fresh : ℕ) → IsStack counts live (rest ++ fresh ∷ []) → page < length live → 0 < get_or counts (get_or live page 0) 0 → IsStack counts (set live page fresh) rest
@@ -52,13 +46,9 @@ stack_taken counts live rest page fresh so inside counted = record {
   each = λ n less.
       elim (cases_eq fresh n) [
         | inl here ↦
-            subst (λ m. places m rest ≡ cond (in_use counts (set live page fresh) m) 0 1) here
-            (let one : places fresh (rest ++ fresh ∷ []) ≡ 1 = so.each fresh (top_below counts live rest fresh so) ∙ ap (λ b. cond b 0 1) (top_unused counts live rest fresh so) in
-            let gone : places fresh rest ≡ 0 = omega (arith, places-append fresh rest (fresh ∷ []), places-here fresh []) in
-            gone ∙ ap (λ b. cond b 0 1) (sym (by_live (get_or counts fresh 0) _ (has-set_same live page fresh inside))))
-        | inr other ↦
-            (let same : places n rest ≡ places n (rest ++ fresh ∷ []) = omega (arith, places-append n rest (fresh ∷ []), places-there n fresh [] other) in
-            same ∙ so.each n less ∙ ap (λ b. cond b 0 1) (sym (still counts live page fresh inside counted n other)))
+            rw (← here, by_live (get_or counts fresh 0) _ (has-set_same live page fresh inside))
+            (let one : places fresh (rest ++ fresh ∷ []) ≡ 1 = rw (top_unused counts live rest fresh so) at (so.each fresh (top_below counts live rest fresh so)) in omega (arith, one, places-append fresh rest (fresh ∷ []), places-here fresh []))
+        | inr other ↦ rw (still counts live page fresh inside counted n other, ← so.each n less, places-append n rest (fresh ∷ []), places-there n fresh [] other) (omega arith)
       ];
 }
 
@@ -89,19 +79,14 @@ slots_kept pages homes page fresh (slot ∷ slots) all none =
     (slots_kept pages homes page fresh slots (All-tail (IsSlot pages homes) slot slots all) (none_parts fresh slot slots none).1)
 
 -- slots whose tables haven't a frame don't change with its bytes
-pub slots_same : (pages frames n : ℕ) (homes pool after : List ℕ) (slots : List Slot) → length homes ≡ frames → All (IsSlot pages homes) slots → has n (table_numbers slots) ≡ false → ((table : List ℕ) → AreBelow frames table → has n table ≡ false → contents after table ≡ contents pool table) → map (slot_space after) slots ≡ map (slot_space pool) slots
-slots_same pages frames n homes pool after [] many all none same = refl
-slots_same pages frames n homes pool after (slot ∷ slots) many all none same =
-    let one : IsSlot pages homes slot = All-head (IsSlot pages homes) slot slots all in
-    let rest : map (slot_space after) slots ≡ map (slot_space pool) slots = slots_same pages frames n homes pool after slots many (All-tail (IsSlot pages homes) slot slots all) (none_parts n slot slots none).1 same in
-    let first : slot_space after slot ≡ slot_space pool slot =
-    elim (cases_Bool slot.saved) [
-      | inl saved ↦
-          (let e : contents after slot.table.items ≡ contents pool slot.table.items = same slot.table.items (table_below (one.table saved) many) (first_none n slot (none_parts n slot slots none).0 saved) in
-          ap (λ bytes. cond slot.saved (Some (record { numbers = slot.table.items; bytes = bytes })) None) e)
-      | inr unsaved ↦ ap (λ b. cond b (Some (space_of after slot.table.items)) None) unsaved ∙ sym (ap (λ b. cond b (Some (space_of pool slot.table.items)) None) unsaved)
-    ] in
-    ap (λ s. s ∷ map (slot_space after) slots) first ∙ ap (λ xs. slot_space pool slot ∷ xs) rest
+pub slots_same : {parts : Parts} (n : ℕ) (after : List ℕ) (so : IsSound parts) (slots : List Slot) → All (IsSlot parts.pages so.tables.homes) slots → has n (table_numbers slots) ≡ false → ((table : List ℕ) → AreFrames parts.frames parts.pool table → has n table ≡ false → contents after table ≡ contents parts.pool table) → map (slot_space after) slots ≡ map (slot_space parts.pool) slots
+slots_same n after so [] all none same = refl
+slots_same {parts = parts} n after so (slot ∷ slots) all none same =
+    let one : IsSlot parts.pages so.tables.homes slot = All-head (IsSlot parts.pages so.tables.homes) slot slots all in
+    let rest : map (slot_space after) slots ≡ map (slot_space parts.pool) slots = slots_same n after so slots (All-tail (IsSlot parts.pages so.tables.homes) slot slots all) (none_parts n slot slots none).1 same in
+    let first : slot_space after slot ≡ slot_space parts.pool slot =
+    elim (cases_Bool slot.saved) [ inl saved ↦ rw (same slot.table.items (table_frames so (one.table saved)) (first_none n slot (none_parts n slot slots none).0 saved)) refl | inr unsaved ↦ rw unsaved refl ] in
+    ap (λ s. s ∷ map (slot_space after) slots) first ∙ ap (λ xs. slot_space parts.pool slot ∷ xs) rest
 
 -- a shared page moves to the frame on top of the stack
 pub record Moved (parts : Parts) (page fresh : ℕ) (rest : List ℕ) : Type 0 where
@@ -133,7 +118,7 @@ fresh_is {parts = parts} {page = page} {fresh = fresh} {rest = rest} m =
       unused = unused;
       unsaved = has-is fresh (table_numbers parts.slots) ∙ ap (nat_lt 0) (sym (m.so.accounts.counted.each fresh)) ∙ neither.0;
       unlive = neither.1;
-      old = live_below m.so page (omega (arith, m.so.tables.live_table.size, m.less));
+      old = (live_frames m.so).below page (omega (arith, m.so.tables.live_table.size, m.less));
       new = omega (arith, top_below parts.counts parts.live rest fresh stack, m.so.accounts.counts_size);
     }
 
@@ -170,8 +155,8 @@ copy_owns {parts = parts} {page = page} {fresh = fresh} {rest = rest} m =
     record {
       pages = refl;
       frames = refl;
-      slots = slots_same parts.pages parts.frames fresh so.tables.homes parts.pool pool parts.slots so.tables.homes_size so.tables.slot_tables f.unsaved (λ table under gone. contents-copied_apart parts.frames (get_or parts.live page 0) fresh parts.pool table so.pool_size under f.old f.new (not-at fresh table gone));
-      bytes = contents-copied parts.frames page fresh parts.pool parts.live so.pool_size (live_below so) here f.new (not-at fresh parts.live f.unlive);
+      slots = slots_same fresh pool so parts.slots so.tables.slot_tables f.unsaved (λ table under gone. contents-copied_apart (get_or parts.live page 0) fresh under f.old f.new (not-at fresh table gone));
+      bytes = contents-copied page fresh (live_frames so) here f.new (not-at fresh parts.live f.unlive);
       others = λ place inside other. get_or-set_other parts.live page place fresh 0 other;
       number = subst (λ b. NumberAfter b (pages_of parts) page (get_or (set parts.live page fresh) page 0)) (sym m.shared) (subst (IsFree (pages_of parts)) (sym (get_or-set_same parts.live page fresh 0 here)) free);
       used = more ∙ ap (λ b. used_of (pages_of parts) + cond b 1 0) (sym m.shared);
@@ -192,17 +177,11 @@ stay_owns store page own =
     }
 
 -- the pool after the copy is the pool with the frame copied
-pub moved_pool : {parts : Parts} {page fresh n : ℕ} {rest whole written : List ℕ} (from to : ℕ) → Moved parts page fresh rest → written ≡ take to whole ++ take PAGE (drop from whole) ++ drop (to + PAGE) whole → whole ≡ parts.pool → from ≡ PAGE * get_or parts.live page 0 → to ≡ PAGE * fresh → n ≡ length parts.pool → take n (written ++ drop (length written) parts.pool) ≡ copied parts.pool (get_or parts.live page 0) fresh
+pub moved_pool : {parts : Parts} {page fresh n : ℕ} {rest whole written : List ℕ} (from to : ℕ) → Moved parts page fresh rest → written ≡ put_at to (take PAGE (drop from whole)) whole → whole ≡ parts.pool → from ≡ PAGE * get_or parts.live page 0 → to ≡ PAGE * fresh → n ≡ length parts.pool → take n (written ++ drop (length written) parts.pool) ≡ copied parts.pool (get_or parts.live page 0) fresh
 moved_pool {parts = parts} {page = page} {fresh = fresh} {n = n} {written = written} from to m copy full start place whole =
     let f = fresh_is m in
-    let pool = parts.pool in
-    let e : written ≡ copied pool (get_or parts.live page 0) fresh =
-    copy
-    ∙ ap (λ xs. take to xs ++ take PAGE (drop from xs) ++ drop (to + PAGE) xs) full
-    ∙ ap (λ k. take to pool ++ take PAGE (drop k pool) ++ drop (to + PAGE) pool) start
-    ∙ ap (λ k. take k pool ++ take PAGE (drop (PAGE * get_or parts.live page 0) pool) ++ drop (k + PAGE) pool) place
-    ∙ copy_within-copied parts.frames (get_or parts.live page 0) fresh pool m.so.pool_size f.old in
-    take_at written (drop (length written) pool) n (ap length e ∙ length-copied parts.frames (get_or parts.live page 0) fresh pool m.so.pool_size f.old f.new ∙ sym whole) ∙ e
+    let e : written ≡ copied parts.pool (get_or parts.live page 0) fresh = rw (← start, ← place, ← full) copy in
+    take_at written (drop (length written) parts.pool) n (ap length e ∙ length-copied parts.frames (get_or parts.live page 0) fresh parts.pool m.so.pool_size f.old f.new ∙ sym whole) ∙ e
 
 -- the fields of a store whose shared page has moved, and what it holds
 pub moved_sound : {parts : Parts} {page fresh reserve : ℕ} {rest pool : List ℕ} → Moved parts page fresh rest → pool ≡ copied parts.pool (get_or parts.live page 0) fresh → reserve ≡ parts.reserved → IsSound (record parts { pool = pool; live = set parts.live page fresh; free = rest; reserved = reserve })

@@ -1,6 +1,6 @@
 -- How many times a number stands in a list, and how many different ones do.
 use Rattle.std.proofs.Math.ListN.{set}
-use Rattle.cow_pages.proofs.Terms.{Bool, List, [], ap, arith, cond, drop, false, get_or, inl, inr, length, nat_lt, refl, subst, suc, sym, take, true, zero, ℕ, ◌++◌, ◌+◌, ◌<◌, ◌==◌, ◌||◌, ◌∙◌, ◌∷◌, ◌≡◌, ◌≤◌, or_assoc, cases_Bool, cases_eq, eq-eqb, eqb-true, false_from_ne_true, le-ltb, lt-ltb, ltb-false, ltb-true, ne_eqb, or_cases, or_left, or_right, nat_tests, common_steps, take-append-drop, different, has, places}
+use Rattle.cow_pages.proofs.Terms.{Bool, List, [], ap, arith, cond, drop, false, get_or, inl, inr, length, nat_lt, refl, subst, suc, sym, take, true, zero, ℕ, ◌++◌, ◌+◌, ◌<◌, ◌==◌, ◌||◌, ◌∙◌, ◌∷◌, ◌≡◌, ◌≤◌, or_assoc, cases_Bool, cases_eq, eqb-true, false_from_ne_true, lt-ltb, ltb-false, ltb-true, or_cases, or_left, or_right, nat_tests, common_steps, take-append-drop, different, has, places}
 
 -- each element of a list is below a number
 abbrev pub AreBelow : ℕ → List ℕ → Type 0
@@ -37,11 +37,7 @@ places-there n x xs other = grind (arith, nat_tests)
 -- a number is in a list if it stands there at least once
 pub has-is : (n : ℕ) (xs : List ℕ) → has n xs ≡ nat_lt 0 (places n xs)
 has-is n [] = refl
-has-is n (x ∷ xs) =
-    elim (x == n) as (λ b. (b || has n xs) ≡ nat_lt 0 (cond b 1 0 + places n xs)) [
-      | true ↦ sym (lt-ltb 0 (1 + places n xs) (omega arith))
-      | false ↦ (let e : 0 + places n xs ≡ places n xs = omega arith in has-is n xs ∙ ap (nat_lt 0) (sym e))
-    ]
+has-is n (x ∷ xs) = grind (arith, nat_tests, has-is n xs)
 
 pub has-some : (n : ℕ) (xs : List ℕ) → 0 < places n xs → has n xs ≡ true
 has-some n xs some = has-is n xs ∙ lt-ltb 0 (places n xs) some
@@ -55,8 +51,8 @@ places-some n xs some = ltb-true 0 (places n xs) (sym (has-is n xs) ∙ some)
 -- an element stands in its list
 pub has-get_or : (xs : List ℕ) (k : ℕ) → k < length xs → has (get_or xs k 0) xs ≡ true
 has-get_or [] k less = absurd (omega arith)
-has-get_or (x ∷ xs) zero less = or_left (x == x) (has x xs) (eq-eqb x x refl)
-has-get_or (x ∷ xs) (suc k) less = or_right (x == get_or xs k 0) (has (get_or xs k 0) xs) (has-get_or xs k (omega arith))
+has-get_or (x ∷ xs) zero less = grind (arith, nat_tests)
+has-get_or (x ∷ xs) (suc k) less = rw (has-get_or xs k (omega arith)) (grind (arith, nat_tests))
 
 -- a number that is in a list stands at some place
 pub has-at : (n : ℕ) (xs : List ℕ) → has n xs ≡ true → (k : ℕ) × (k < length xs) × (get_or xs k 0 ≡ n)
@@ -90,12 +86,9 @@ occupied-nil : (k : ℕ) → occupied k [] ≡ 0
 occupied-nil zero = refl
 occupied-nil (suc k) = omega (arith, occupied-nil k)
 
-occupied-step : (o more k x : ℕ) (first here : Bool) → more ≡ o + cond (nat_lt x k) (cond first 0 1) 0 → (x ≡ k → here ≡ first) → more + cond ((x == k) || here) 1 0 ≡ o + cond here 1 0 + cond (nat_lt x (suc k)) (cond first 0 1) 0
-occupied-step o more k x first here is same = elim (cases_eq x k) [ inl e ↦ rw (same e) (grind (arith, nat_tests)) | inr other ↦ grind (arith, nat_tests) ]
-
 occupied-cons : (k x : ℕ) (xs : List ℕ) → occupied k (x ∷ xs) ≡ occupied k xs + cond (nat_lt x k) (cond (has x xs) 0 1) 0
-occupied-cons zero x xs = ap (λ b. 0 + cond b (cond (has x xs) 0 1) 0) (sym (le-ltb x 0 (omega arith)))
-occupied-cons (suc k) x xs = occupied-step (occupied k xs) (occupied k (x ∷ xs)) k x (has x xs) (has k xs) (occupied-cons k x xs) (λ e. ap (λ n. has n xs) (sym e))
+occupied-cons zero x xs = grind (arith, nat_tests)
+occupied-cons (suc k) x xs = elim (cases_eq x k) [ inl e ↦ rw (← e) (grind (arith, nat_tests, occupied-cons k x xs)) | inr other ↦ grind (arith, nat_tests, occupied-cons k x xs) ]
 
 chosen : (b : Bool) (n : ℕ) → cond b n (n + 1) ≡ n + cond b 0 1
 chosen b n = grind arith
@@ -123,9 +116,7 @@ below_top more (x ∷ xs) (suc k) less = let rest : get_or xs k 0 < top_of xs + 
 
 occupied-le : (k : ℕ) (xs ys : List ℕ) → ((n : ℕ) → has n xs ≡ true → has n ys ≡ true) → occupied k xs ≤ occupied k ys
 occupied-le zero xs ys among = omega arith
-occupied-le (suc k) xs ys among =
-    let fewer : occupied k xs ≤ occupied k ys = occupied-le k xs ys among in
-    elim (cases_Bool (has k xs)) [ inl is ↦ (let too : has k ys ≡ true = among k is in rw (is, too) (omega arith)) | inr isnt ↦ rw isnt (omega arith) ]
+occupied-le (suc k) xs ys among = let fewer = occupied-le k xs ys among in let one = among k in grind (arith, fewer, one)
 
 -- a list that has no number which another one hasn't has no more different ones
 pub different-le : (xs ys : List ℕ) → ((n : ℕ) → has n xs ≡ true → has n ys ≡ true) → different xs ≤ different ys
@@ -155,15 +146,12 @@ different-apart : (free xs : List ℕ) → ((n : ℕ) → places n free ≤ cond
 different-apart [] xs apart = omega arith
 different-apart (x ∷ free) xs apart =
     let rest : different (free ++ xs) ≡ length free + different xs = different-apart free xs (λ n. omega (arith, apart n)) in
-    let few : 1 + places x free ≤ cond (has x xs) 0 1 = subst (λ b. cond b 1 0 + places x free ≤ cond (has x xs) 0 1) (eq-eqb x x refl) (apart x) in
-    let new : has x xs ≡ false = false_from_ne_true (has x xs) (λ is. let h : 1 + places x free ≤ 0 = subst (λ b. 1 + places x free ≤ cond b 0 1) is few in omega arith) in
-    let none : 1 + places x free ≤ 1 = subst (λ b. 1 + places x free ≤ cond b 0 1) new few in
-    let gone : has x (free ++ xs) ≡ false = has-append x free xs ∙ ap (λ b. b || has x xs) (has-is x free ∙ le-ltb 0 (places x free) (omega arith)) ∙ new in
-    rw gone (omega arith)
+    let few = apart x in
+    rw (has-append x free xs, has-is x free) (grind (arith, nat_tests, few, rest))
 
 occupied-top : (k : ℕ) (xs : List ℕ) → occupied k xs ≤ k
 occupied-top zero xs = omega arith
-occupied-top (suc k) xs = elim (has k xs) as (λ b. occupied k xs + cond b 1 0 ≤ suc k) [ true ↦ omega (arith, occupied-top k xs) | false ↦ omega (arith, occupied-top k xs) ]
+occupied-top (suc k) xs = grind (arith, occupied-top k xs)
 
 occupied-all : (k : ℕ) (xs : List ℕ) → ((n : ℕ) → n < k → has n xs ≡ true) → occupied k xs ≡ k
 occupied-all zero xs each = refl
@@ -191,31 +179,19 @@ length-free top free xs bf bx each =
 pub length-missing : (top m : ℕ) (free : List ℕ) → AreBelow top free → ((n : ℕ) → n < top → places n free ≤ 1) → m < top → places m free ≡ 0 → length free < top
 length-missing top m free below each less none =
     let once : (n : ℕ) → places n free ≤ 1 = λ n. elim (cases_Bool (has n free)) [ inl is ↦ each n (has-below top n free below is) | inr isnt ↦ omega (arith, places-none n free isnt) ] in
-    let apart : (n : ℕ) → places n free ≤ cond (has n (m ∷ [])) 0 1 =
-    λ n.
-    elim (cases_eq m n) [
-      | inl here ↦ subst (λ k. places k free ≤ cond (has k (m ∷ [])) 0 1) here (omega arith)
-      | inr other ↦ subst (λ b. places n free ≤ cond (b || false) 0 1) (sym (ne_eqb m n other)) (once n)
-    ] in
+    let apart : (n : ℕ) → places n free ≤ cond (has n (m ∷ [])) 0 1 = λ n. elim (cases_eq m n) [ inl here ↦ rw (← here) (grind (arith, nat_tests, none)) | inr other ↦ let one = once n in grind (arith, nat_tests, one) ] in
     let both : AreBelow top (free ++ m ∷ []) = below_append top free (m ∷ []) below (below_front top m [] less (λ k inside. absurd (omega arith))) in
     omega (arith, different-apart free (m ∷ []) apart, different-occupied top (free ++ m ∷ []) both, occupied-top top (free ++ m ∷ []))
 
 -- a list adds at most its length to the different numbers, and less where it has a number that stood there
 pub different-append-le : (xs ys : List ℕ) → different (xs ++ ys) ≤ length xs + different ys
 different-append-le [] ys = omega arith
-different-append-le (x ∷ xs) ys =
-    let rest : different (xs ++ ys) ≤ length xs + different ys = different-append-le xs ys in
-    elim (has x (xs ++ ys)) as (λ b. cond b (different (xs ++ ys)) (different (xs ++ ys) + 1) ≤ suc (length xs) + different ys) [ true ↦ omega arith | false ↦ omega arith ]
+different-append-le (x ∷ xs) ys = grind (arith, different-append-le xs ys)
 
 pub different-append-lt : (xs ys : List ℕ) (k : ℕ) → k < length xs → has (get_or xs k 0) ys ≡ true → different (xs ++ ys) < length xs + different ys
 different-append-lt [] ys k less is = absurd (omega arith)
-different-append-lt (x ∷ xs) ys zero less is =
-    let rest : different (xs ++ ys) ≤ length xs + different ys = different-append-le xs ys in
-    let found : has x (xs ++ ys) ≡ true = has-append x xs ys ∙ or_right (has x xs) (has x ys) is in
-    rw found (omega arith)
-different-append-lt (x ∷ xs) ys (suc k) less is =
-    let rest : different (xs ++ ys) < length xs + different ys = different-append-lt xs ys k (omega arith) is in
-    elim (has x (xs ++ ys)) as (λ b. cond b (different (xs ++ ys)) (different (xs ++ ys) + 1) < suc (length xs) + different ys) [ true ↦ omega arith | false ↦ omega arith ]
+different-append-lt (x ∷ xs) ys zero less is = rw (has-append x xs ys, is) (grind (arith, different-append-le xs ys))
+different-append-lt (x ∷ xs) ys (suc k) less is = let rest = different-append-lt xs ys k (omega arith) is in grind (arith, rest)
 
 -- a number more and one less where one is put in place of another
 pub places-set : (n : ℕ) (xs : List ℕ) (k y : ℕ) → k < length xs → places n (set xs k y) + places n (get_or xs k 0 ∷ []) ≡ places n xs + places n (y ∷ [])

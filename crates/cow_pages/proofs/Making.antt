@@ -1,8 +1,8 @@
 -- A store that was just made.
-use Rattle.cow_pages.proofs.Terms.{All, List, None, Some, [], ap, arith, cond, false, get_or, inl, inr, length, map, nat_lt, refl, replicate, subst, sym, true, ℕ, ◌%◌, ◌*◌, ◌++◌, ◌+◌, ◌-◌, ◌/◌, ◌<◌, ◌||◌, ◌∙◌, ◌∷◌, ◌≡◌, ◌≤◌, cases_lt, false≢true, same_number_lists, get_or-replicate, get_or_append_left, get_or_past, length-append, length-replicate, All-head, All-nil, All-push, All-tail, All-weaker, PAGE, Slot, MAX_FRAMES_PER_PAGE, MAX_PAGES, MAX_SLOTS, IsMade, different, has, AreBlank, Counts, IsRow, IsSlot, IsSound, IsStack, Parts, contents, pages_of, places, slot_space, space_of, table_numbers}
+use Rattle.cow_pages.proofs.Terms.{All, List, None, Some, [], ap, arith, cond, false, get_or, inl, inr, length, map, nat_lt, refl, replicate, subst, sym, true, ℕ, ◌%◌, ◌*◌, ◌++◌, ◌+◌, ◌-◌, ◌/◌, ◌<◌, ◌||◌, ◌∙◌, ◌∷◌, ◌≡◌, ◌≤◌, cases_lt, false≢true, common_steps, same_number_lists, get_or_append_left, length-append, length-replicate, All-head, All-nil, All-push, All-tail, All-weaker, PAGE, Slot, MAX_FRAMES_PER_PAGE, MAX_PAGES, MAX_SLOTS, IsMade, different, has, AreBlank, Counts, IsRow, IsSlot, IsSound, IsStack, Parts, contents, pages_of, places, slot_space, space_of, table_numbers}
 use Rattle.cow_pages.proofs.Counting.{has-get_or, has-nowhere, places-none, places-some, places-le-one}
 use Rattle.cow_pages.proofs.Frames.{get_or-contents, length-contents}
-use Rattle.cow_pages.proofs.Stores.{live_below, used-sum}
+use Rattle.cow_pages.proofs.Stores.{live_frames, used-sum}
 
 -- nothing is saved in any slot
 abbrev pub IsBlank : ℕ → Slot → Type 0
@@ -31,27 +31,21 @@ blank_more count pages slots slot so unsaved size = record {
 }
 
 get_or-zeros : (size k : ℕ) → get_or (replicate {A = ℕ} size 0) k 0 ≡ 0
-get_or-zeros size k =
-    elim (cases_lt k size) [ inl less ↦ get_or-replicate size k 0 0 less | inr past ↦ get_or_past (replicate {A = ℕ} size 0) k 0 (omega (arith, length-replicate {A = ℕ} size 0)) ]
-
-row_once : (start end : ℕ) (row : List ℕ) → IsRow start end row → (k j : ℕ) → k < length row → j < length row → get_or row k 0 ≡ get_or row j 0 → k ≡ j
-row_once start end row so k j lk lj e = omega (arith, so.each k lk, so.each j lj)
+get_or-zeros size k = grind (arith, common_steps)
 
 row_places : (pages frames : ℕ) (live free : List ℕ) (n : ℕ) → IsRow 0 pages live → IsRow pages frames free → pages ≤ frames → n < frames → places n free ≡ cond (has n live) 0 1
 row_places pages frames live free n low high less under =
+    let once : places n free ≤ 1 = places-le-one n free (λ k j lk lj e. omega (arith, high.each k lk, high.each j lj, e)) in
     elim (cases_lt n pages) [
       | inl inside ↦
-          (let here : has n live ≡ true = subst (λ m. has m live ≡ true) (low.each n (omega (arith, low.size)) ∙ (let e : 0 + n ≡ n = omega arith in e)) (has-get_or live n (omega (arith, low.size))) in
+          (let number : get_or live n 0 ≡ n = omega (arith, low.each n (omega (arith, low.size))) in
           let none : places n free ≡ 0 = places-none n free (has-nowhere n free (λ k near e. absurd (omega (arith, high.each k near, e)))) in
-          none ∙ sym (ap (λ b. cond b 0 1) here))
+          rw (none, subst (λ m. has m live ≡ true) number (has-get_or live n (omega (arith, low.size)))) refl)
       | inr past ↦
-          (let gone : has n live ≡ false = has-nowhere n live (λ k near e. absurd (omega (arith, low.each k near, low.size, e))) in
-          let there : n - pages < length free = omega (arith, high.size) in
-          let number : get_or free (n - pages) 0 ≡ n = high.each (n - pages) there ∙ (let e : pages + (n - pages) ≡ n = omega arith in e) in
+          (let there : n - pages < length free = omega (arith, high.size) in
+          let number : get_or free (n - pages) 0 ≡ n = omega (arith, high.each (n - pages) there) in
           let some : 0 < places n free = places-some n free (subst (λ m. has m free ≡ true) number (has-get_or free (n - pages) there)) in
-          let once : places n free ≤ 1 = places-le-one n free (row_once pages frames free high) in
-          let one : places n free ≡ 1 = omega arith in
-          one ∙ sym (ap (λ b. cond b 0 1) gone))
+          rw (has-nowhere n live (λ k near e. absurd (omega (arith, low.each k near, low.size, e)))) (omega arith))
     ]
 
 first_stack : (pages frames : ℕ) (live free counts : List ℕ) → IsRow 0 pages live → IsRow pages frames free → pages ≤ frames → counts ≡ replicate frames 0 → IsStack counts live free
@@ -99,9 +93,9 @@ made_is {parts = parts} so bytes high blank =
     record {
       pages_are = refl;
       frames_are = refl;
-      zeros = same_number_lists (contents parts.pool live) (replicate (PAGE * parts.pages) 0) (omega (arith, length-contents parts.frames parts.pool live so.pool_size (live_below so), length-replicate {A = ℕ} (PAGE * parts.pages) 0, so.tables.live_table.size))
+      zeros = same_number_lists (contents parts.pool live) (replicate (PAGE * parts.pages) 0) (omega (arith, length-contents live (live_frames so), length-replicate {A = ℕ} (PAGE * parts.pages) 0, so.tables.live_table.size))
           (λ k less.
-          get_or-contents parts.frames parts.pool live k so.pool_size (live_below so) (omega (arith, length-contents parts.frames parts.pool live so.pool_size (live_below so)))
+          get_or-contents live k (live_frames so) (omega (arith, length-contents live (live_frames so)))
           ∙ ap (λ xs. get_or xs (PAGE * get_or live (k / PAGE) 0 + k % PAGE) 0) bytes
           ∙ get_or-zeros (parts.frames * PAGE) (PAGE * get_or live (k / PAGE) 0 + k % PAGE) ∙ sym (get_or-zeros (PAGE * parts.pages) k));
       empty = blank_seen parts.pages parts.pool parts.slots blank.each ∙ ap (λ n. replicate n None) blank.size;

@@ -6,11 +6,7 @@ use Rattle.cow_pages.proofs.Making.{IsBlank}
 inside_more : (pages page i : ℕ) (recent : List ℕ) → AreInside pages recent → page < pages → AreInside pages (set recent i page)
 inside_more pages page i recent so less = record {
   size = length-set recent i page ∙ so.size;
-  below = λ k under.
-      elim (cases_eq i k) [
-        | inl here ↦ subst (λ m. get_or (set recent i page) m 0 < pages) here (omega (arith, get_or-set_same recent i page 0 (omega (arith, length-set recent i page)), less))
-        | inr other ↦ omega (arith, get_or-set_other recent i k page 0 (λ e. other (sym e)), so.below k (omega (arith, length-set recent i page)))
-      ];
+  below = λ k under. grind (arith, get_or-set_same, get_or-set_other, length-set, so.below k);
 }
 
 one_moved : (pages count after page fresh : ℕ) (recent live : List ℕ) (slot : Slot) → AreInside pages recent → (count < MOST → after ≡ count + 1) → (MOST ≤ count → after ≡ count) → IsLogged count recent live slot → IsLogged after (set recent (count % RECENT) page) (set live page fresh) slot
@@ -54,21 +50,15 @@ logged_lost {pages = pages} {count = count} {after = after} {recent = recent} {l
       each = All-weaker (IsLogged count recent live) (IsLogged after recent line) (λ slot one. one_lost count after recent live line slot rise still one) slots so.each;
     }
 
--- a slot holds the live table
-pub logged_saved : {pages count : ℕ} {recent live : List ℕ} {slots : List Slot} (i : ℕ) (next : Slot) → AreLogged pages count recent live slots → next.seen ≡ count → next.table.items ≡ live → AreLogged pages count recent live (set slots i next)
-logged_saved {count = count} {recent = recent} {live = live} {slots = slots} i next so seen table = record {
-  inside = so.inside;
-  each = All-set (IsLogged count recent live) slots i next
-      record { seen = λ saved. omega (arith, seen); moved = λ saved few short k inside other. absurd (other (ap (λ xs. get_or xs k 0) table)) } so.each;
-}
+-- a slot holds the live table, or nothing
+pub log_saved : {count : ℕ} {recent live : List ℕ} {slot : Slot} → slot.seen ≡ count → slot.table.items ≡ live → IsLogged count recent live slot
+log_saved seen table = record { seen = λ saved. omega (arith, seen); moved = λ saved few short k inside other. absurd (other (ap (λ xs. get_or xs k 0) table)) }
 
--- a slot holds nothing
-pub logged_released : {pages count : ℕ} {recent live : List ℕ} {slots : List Slot} (i : ℕ) (next : Slot) → AreLogged pages count recent live slots → next.saved ≡ false → AreLogged pages count recent live (set slots i next)
-logged_released {count = count} {recent = recent} {live = live} {slots = slots} i next so unsaved = record {
-  inside = so.inside;
-  each = All-set (IsLogged count recent live) slots i next
-      record { seen = λ saved. absurd (false≢true (sym unsaved ∙ saved)); moved = λ saved few short k inside other. absurd (false≢true (sym unsaved ∙ saved)) } so.each;
-}
+pub log_none : {count : ℕ} {recent live : List ℕ} {slot : Slot} → slot.saved ≡ false → IsLogged count recent live slot
+log_none unsaved = record { seen = λ saved. absurd (false≢true (sym unsaved ∙ saved)); moved = λ saved few short k inside other. absurd (false≢true (sym unsaved ∙ saved)) }
+
+pub logged_set : {pages count : ℕ} {recent live : List ℕ} {slots : List Slot} (i : ℕ) (next : Slot) → AreLogged pages count recent live slots → IsLogged count recent live next → AreLogged pages count recent live (set slots i next)
+logged_set {count = count} {recent = recent} {live = live} {slots = slots} i next so one = record { inside = so.inside; each = All-set (IsLogged count recent live) slots i next one so.each }
 
 -- no slot holds anything
 pub logged_made : {pages size count : ℕ} {recent live : List ℕ} {slots : List Slot} → 1 ≤ pages → recent ≡ replicate RECENT 0 → AreBlank size pages slots → AreLogged pages count recent live slots
@@ -82,7 +72,7 @@ logged_made {pages = pages} {count = count} {recent = recent} {live = live} {slo
             let none : get_or recent k 0 ≡ 0 = ap (λ xs. get_or xs k 0) zeros ∙ get_or-replicate {A = ℕ} RECENT k 0 0 near in
             omega arith;
       };
-      each = All-weaker (IsBlank pages) (IsLogged count recent live) (λ slot h. record { seen = λ saved. absurd (false≢true (sym h.0 ∙ saved)); moved = λ saved few short k inside other. absurd (false≢true (sym h.0 ∙ saved)) }) slots blank.each;
+      each = All-weaker (IsBlank pages) (IsLogged count recent live) (λ slot h. log_none h.0) slots blank.each;
     }
 
 -- what a save over a slot asks of the moves

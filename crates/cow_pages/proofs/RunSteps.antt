@@ -2,6 +2,7 @@
 use Rattle.cow_pages.proofs.Terms.{Bool, List, [], ap, arith, cond, drop, false, get_or, inl, inr, length, refl, replicate, subst, suc, sym, take, true, zero, ℕ, ◌&&◌, ◌*◌, ◌++◌, ◌+◌, ◌<◌, ◌||◌, ◌∙◌, ◌≡◌, ◌≤◌, ◌⊎◌, take-add, and_parts, cases_Bool, false_from_ne_true, false≢true, or_parts, nat_tests, common_steps, append-nil, drop-drop, length-append, length-drop, length-replicate, length-take-le, replicate-append-replicate, take-append-drop, PAGE, IsLawful, IsSpace, Pages, has, saved_numbers, used_of, IsFree, NumberAfter, Writes, copied_pages, is_shared, put_at, reaches}
 use Rattle.cow_pages.proofs.Counting.{has-append, has-get_or, has-at}
 use Rattle.cow_pages.proofs.Frames.{put_at-put_at, run-put_apart}
+use Rattle.cow_pages.proofs.Runs.{number_shared}
 
 copied_nothing : (store : Pages) (at pages : ℕ) → copied_pages store at 0 pages ≡ 0
 copied_nothing store at zero = refl
@@ -26,17 +27,7 @@ reaches-append at first second page = grind (arith, nat_tests)
 
 -- a page that was copied isn't shared any more, and every other one is as it was
 pub shared_after : (old new : Pages) (at : ℕ) (bytes : List ℕ) (page : ℕ) → Writes old new at bytes → page < old.pages → is_shared new page ≡ cond (reaches at (length bytes) page && is_shared old page) false (is_shared old page)
-shared_after old new at bytes page so less =
-    ap (λ xs. has (get_or new.live.numbers page 0) (saved_numbers xs)) so.slots
-    ∙ elim (cases_Bool (reaches at (length bytes) page && is_shared old page)) [
-      | inl copied ↦
-          (let free : IsFree old (get_or new.live.numbers page 0) = subst (λ b. NumberAfter b old page (get_or new.live.numbers page 0)) copied (so.numbers page less) in
-          let none : has (get_or new.live.numbers page 0) (saved_numbers old.slots) ≡ false = (or_parts (has (get_or new.live.numbers page 0) old.live.numbers) (has (get_or new.live.numbers page 0) (saved_numbers old.slots)) (sym (has-append (get_or new.live.numbers page 0) old.live.numbers (saved_numbers old.slots)) ∙ free.1)).1 in
-          none ∙ sym (ap (λ b. cond b false (is_shared old page)) copied))
-      | inr kept ↦
-          (let same : get_or new.live.numbers page 0 ≡ get_or old.live.numbers page 0 = subst (λ b. NumberAfter b old page (get_or new.live.numbers page 0)) kept (so.numbers page less) in
-          ap (λ n. has n (saved_numbers old.slots)) same ∙ sym (ap (λ b. cond b false (is_shared old page)) kept))
-    ]
+shared_after old new at bytes page so less = number_shared old new page (reaches at (length bytes) page && is_shared old page) so.slots (so.numbers page less)
 
 -- a number that is free after a write was free before it
 pub free_before : (old new : Pages) (at : ℕ) (bytes : List ℕ) (n : ℕ) → Writes old new at bytes → length old.live.numbers ≡ old.pages → length new.live.numbers ≡ new.pages → IsFree new n → IsFree old n
@@ -78,13 +69,9 @@ both_counts one two shared = grind arith
 copied-append : (old mid : Pages) (at second : ℕ) (bytes : List ℕ) (pages : ℕ) → Writes old mid at bytes → pages ≤ old.pages → copied_pages old at (length bytes + second) pages ≡ copied_pages old at (length bytes) pages + copied_pages mid (at + length bytes) second pages
 copied-append old mid at second bytes zero so less = refl
 copied-append old mid at second bytes (suc page) so less =
-    let one = reaches at (length bytes) page in
-    let two = reaches (at + length bytes) second page in
-    let shared = is_shared old page in
-    let fewer : copied_pages old at (length bytes + second) page ≡ copied_pages old at (length bytes) page + copied_pages mid (at + length bytes) second page = copied-append old mid at second bytes page so (omega arith) in
-    let whole : ◌≡◌ {A = ℕ} (cond (reaches at (length bytes + second) page && shared) 1 0) (cond ((one || two) && shared) 1 0) = ap (λ b. cond (b && shared) 1 0) (reaches-append at (length bytes) second page) in
-    let later : ◌≡◌ {A = ℕ} (cond (two && is_shared mid page) 1 0) (cond (two && cond (one && shared) false shared) 1 0) = ap (λ b. cond (two && b) 1 0) (shared_after old mid at bytes page so (omega arith)) in
-    omega (arith, fewer, whole, later, both_counts one two shared)
+    let fewer = copied-append old mid at second bytes page so (omega arith) in
+    rw (reaches-append at (length bytes) second page, shared_after old mid at bytes page so (omega arith))
+    (omega (arith, fewer, both_counts (reaches at (length bytes) page) (reaches (at + length bytes) second page) (is_shared old page)))
 
 -- a write right behind another one is a write of both
 pub writes_more : (old mid new : Pages) (at : ℕ) (first second : List ℕ) → Writes old mid at first → Writes mid new (at + length first) second → IsLawful old → IsLawful mid → at + length first + length second ≤ PAGE * old.pages → Writes old new at (first ++ second)

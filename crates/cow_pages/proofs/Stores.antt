@@ -1,16 +1,12 @@
 -- What the fields of a store say of what it holds.
-use Rattle.cow_pages.proofs.Terms.{All, Bool, IsSome, List, None, Some, [], ap, arith, cond, drop, false, get_or, inl, inr, length, map, nat_lt, refl, subst, suc, sym, take, true, zero, ℕ, ◌%◌, ◌*◌, ◌++◌, ◌+◌, ◌/◌, ◌<◌, ◌||◌, ◌∙◌, ◌∷◌, ◌≡◌, or_comm, cases_lt, false≢true, get_or-map, get_or_past, get_or_read, length-map, All-get_or, All-head, All-tail, cond_some, PAGE, Slot, MAX_FRAMES_PER_PAGE, MAX_PAGES, Agree, IsLawful, IsSpace, Pages, Space, Stands, different, has, held_of, page_of, saved_numbers, slot_at, used_of, is_shared, Counts, IsSlot, IsSound, IsTable, Parts, pages_of, slot_space, space_of, table_numbers}
+use Rattle.cow_pages.proofs.Terms.{All, Bool, IsSome, List, None, Some, [], ap, arith, cond, drop, false, get_or, inl, inr, length, map, nat_lt, refl, subst, suc, sym, take, true, zero, ℕ, ◌%◌, ◌*◌, ◌++◌, ◌+◌, ◌/◌, ◌<◌, ◌||◌, ◌∙◌, ◌∷◌, ◌≡◌, or_comm, cases_Bool, cases_lt, false≢true, get_or-map, get_or_past, get_or_read, length-map, All-get_or, All-head, All-tail, cond_some, PAGE, Slot, MAX_FRAMES_PER_PAGE, MAX_PAGES, Agree, IsLawful, IsSpace, Pages, Space, Stands, different, has, held_of, page_of, saved_numbers, slot_at, used_of, is_shared, Counts, IsSlot, IsSound, IsTable, Parts, pages_of, slot_space, space_of, table_numbers}
 use Rattle.cow_pages.proofs.Counting.{AreBelow, below_append, has-append, has-get_or, has-is, length-free, places-some}
 use Rattle.cow_pages.proofs.Walks.{counted_below, in_use, table_home}
-use Rattle.cow_pages.proofs.Frames.{length-contents, run-contents}
+use Rattle.cow_pages.proofs.Frames.{AreFrames, length-contents, run-contents}
 
 pub saved_numbers-is : (pool : List ℕ) (slots : List Slot) → saved_numbers (map (slot_space pool) slots) ≡ table_numbers slots
 saved_numbers-is pool [] = refl
-saved_numbers-is pool (slot ∷ slots) =
-    elim slot.saved as (λ b. saved_numbers (cond b (Some (space_of pool slot.table.items)) None ∷ map (slot_space pool) slots) ≡ cond b slot.table.items [] ++ table_numbers slots) [
-      | true ↦ ap (λ xs. slot.table.items ++ xs) (saved_numbers-is pool slots)
-      | false ↦ saved_numbers-is pool slots
-    ]
+saved_numbers-is pool (slot ∷ slots) = elim (cases_Bool slot.saved) [ inl is ↦ rw is (ap (λ xs. slot.table.items ++ xs) (saved_numbers-is pool slots)) | inr is ↦ rw is (saved_numbers-is pool slots) ]
 
 -- the counts of used and held frames
 pub used-is : (parts : Parts) → used_of (pages_of parts) ≡ different (parts.live ++ table_numbers parts.slots)
@@ -19,11 +15,12 @@ used-is parts = ap (λ xs. different (parts.live ++ xs)) (saved_numbers-is parts
 pub held-is : {parts : Parts} → IsSound parts → parts.held ≡ held_of (pages_of parts)
 held-is {parts = parts} so = so.accounts.held_count ∙ ap different (sym (saved_numbers-is parts.pool parts.slots))
 
-pub table_below : {pages frames : ℕ} {homes table : List ℕ} → IsTable pages homes table → length homes ≡ frames → AreBelow frames table
-table_below so size k less = omega (arith, so.below k (omega (arith, so.size)), size)
+-- the frames of a table, and those of the live one
+pub table_frames : {parts : Parts} {table : List ℕ} (so : IsSound parts) → IsTable parts.pages so.tables.homes table → AreFrames parts.frames parts.pool table
+table_frames so is = record { size = so.pool_size; below = λ k less. omega (arith, is.below k (omega (arith, is.size)), so.tables.homes_size) }
 
-pub live_below : {parts : Parts} → IsSound parts → AreBelow parts.frames parts.live
-live_below so = table_below so.tables.live_table so.tables.homes_size
+pub live_frames : {parts : Parts} → IsSound parts → AreFrames parts.frames parts.pool parts.live
+live_frames so = table_frames so so.tables.live_table
 
 -- a saved slot at a place of the tables
 pub record HasSlot (parts : Parts) (i : ℕ) (slot : Slot) : Type 0 where
@@ -52,34 +49,29 @@ slot_here {parts = parts} {i = i} {slot = slot} so seen some is =
 pub slot_is : {parts : Parts} {i : ℕ} {slot : Slot} (so : IsSound parts) → HasSlot parts i slot → IsSlot parts.pages so.tables.homes slot
 slot_is {parts = parts} {i = i} {slot = slot} so at = subst (IsSlot parts.pages so.tables.homes) (sym at.is) (All-get_or (IsSlot parts.pages so.tables.homes) parts.slots i slot at.less so.tables.slot_tables)
 
-table_found : (pages : ℕ) (pool homes : List ℕ) (space : Space) (slots : List Slot) (i : ℕ) → i < length slots → get_or (map (slot_space pool) slots) i None ≡ Some space → All (IsSlot pages homes) slots → (table : List ℕ) × (IsTable pages homes table) × (space ≡ space_of pool table)
-table_found pages pool homes space [] i less e all = absurd (omega arith)
-table_found pages pool homes space (slot ∷ slots) zero less e all =
-    let h = cond_some slot.saved (space_of pool slot.table.items) space e in
-    (slot.table.items, (All-head (IsSlot pages homes) slot slots all).table h.0, sym h.1)
-table_found pages pool homes space (slot ∷ slots) (suc i) less e all = table_found pages pool homes space slots i (omega arith) e (All-tail (IsSlot pages homes) slot slots all)
+table_found : {parts : Parts} (so : IsSound parts) (space : Space) (slots : List Slot) (i : ℕ) → i < length slots → get_or (map (slot_space parts.pool) slots) i None ≡ Some space → All (IsSlot parts.pages so.tables.homes) slots → (table : List ℕ) × (IsTable parts.pages so.tables.homes table) × (space ≡ space_of parts.pool table)
+table_found so space [] i less e all = absurd (omega arith)
+table_found {parts = parts} so space (slot ∷ slots) zero less e all =
+    let h = cond_some slot.saved (space_of parts.pool slot.table.items) space e in
+    (slot.table.items, (All-head (IsSlot parts.pages so.tables.homes) slot slots all).table h.0, sym h.1)
+table_found {parts = parts} so space (slot ∷ slots) (suc i) less e all = table_found so space slots i (omega arith) e (All-tail (IsSlot parts.pages so.tables.homes) slot slots all)
 
 -- the table in which a space stands
 table_of : {parts : Parts} (so : IsSound parts) (space : Space) → Stands (pages_of parts) space → (table : List ℕ) × (IsTable parts.pages so.tables.homes table) × (space ≡ space_of parts.pool table)
 table_of {parts = parts} so space stands =
     elim stands [
       | inl is ↦ (parts.live, so.tables.live_table, is)
-      | inr there ↦ table_found parts.pages parts.pool so.tables.homes space parts.slots there.0 (slot_within parts.pool parts.slots there.0 (subst IsSome (sym there.1) refl)) there.1 so.tables.slot_tables
+      | inr there ↦ table_found so space parts.slots there.0 (slot_within parts.pool parts.slots there.0 (subst IsSome (sym there.1) refl)) there.1 so.tables.slot_tables
     ]
 
-page_is : (pages frames : ℕ) (pool homes table : List ℕ) (page : ℕ) → length pool ≡ PAGE * frames → length homes ≡ frames → IsTable pages homes table → page < length table → page_of (space_of pool table) page ≡ take PAGE (drop (PAGE * get_or table page 0 + 0) pool)
-page_is pages frames pool homes table page size many so less =
+page_is : {parts : Parts} {table : List ℕ} (so : IsSound parts) (page : ℕ) → IsTable parts.pages so.tables.homes table → page < length table → page_of (space_of parts.pool table) page ≡ take PAGE (drop (PAGE * get_or table page 0 + 0) parts.pool)
+page_is so page is less =
     let here : PAGE * page / PAGE ≡ page = omega arith in
     let start : PAGE * page % PAGE ≡ 0 = omega arith in
-    run-contents frames pool table (PAGE * page) PAGE size (table_below so many) (omega arith) (omega arith)
-    ∙ ap (λ p. take PAGE (drop (PAGE * get_or table p 0 + PAGE * page % PAGE) pool)) here
-    ∙ ap (λ n. take PAGE (drop (PAGE * get_or table page 0 + n) pool)) start
+    rw (here, start) at (run-contents (PAGE * page) PAGE (table_frames so is) (omega arith) (omega arith))
 
-agree_is : (pages frames : ℕ) (pool homes table other : List ℕ) → length pool ≡ PAGE * frames → length homes ≡ frames → IsTable pages homes table → IsTable pages homes other → Agree (space_of pool table) (space_of pool other)
-agree_is pages frames pool homes table other size many so too = λ page place lp lq e. (
-  table_home so too page place lp lq e,
-  page_is pages frames pool homes table page size many so lp ∙ ap (λ n. take PAGE (drop (PAGE * n + 0) pool)) e ∙ sym (page_is pages frames pool homes other place size many too lq),
-)
+agree_is : {parts : Parts} {table other : List ℕ} (so : IsSound parts) → IsTable parts.pages so.tables.homes table → IsTable parts.pages so.tables.homes other → Agree (space_of parts.pool table) (space_of parts.pool other)
+agree_is {parts = parts} so one two = λ page place lp lq e. (table_home one two page place lp lq e, page_is so page one lp ∙ ap (λ n. take PAGE (drop (PAGE * n + 0) parts.pool)) e ∙ sym (page_is so place two lq))
 
 pub use-has : {counts numbers : List ℕ} (live : List ℕ) (n : ℕ) → Counts counts numbers → in_use counts live n ≡ has n (live ++ numbers)
 use-has {numbers = numbers} live n so =
@@ -95,7 +87,7 @@ used-sum {parts = parts} so =
       arith,
       used-is parts,
       length-free parts.frames parts.free (parts.live ++ table_numbers parts.slots) (subst (λ n. AreBelow n parts.free) so.accounts.counts_size so.stack.below)
-          (below_append parts.frames parts.live (table_numbers parts.slots) (live_below so) (subst (λ n. AreBelow n (table_numbers parts.slots)) so.accounts.counts_size (counts_below so.accounts.counted))) each,
+          (below_append parts.frames parts.live (table_numbers parts.slots) ((live_frames so).below) (subst (λ n. AreBelow n (table_numbers parts.slots)) so.accounts.counts_size (counts_below so.accounts.counted))) each,
     )
 
 -- what holds of every store
@@ -111,12 +103,12 @@ lawful {parts = parts} so is =
           subst (IsSpace parts.pages parts.frames) (sym found.2) record {
             numbers = found.1.size;
             below = λ page less. omega (arith, found.1.below page less, so.tables.homes_size);
-            bytes = length-contents parts.frames parts.pool found.0 so.pool_size (table_below found.1 so.tables.homes_size) ∙ ap (λ n. PAGE * n) found.1.size;
+            bytes = length-contents found.0 (table_frames so found.1) ∙ ap (λ n. PAGE * n) found.1.size;
           };
       agree = λ one other stands too.
           let first = table_of so one stands in
           let second = table_of so other too in
-          subst (λ s. Agree s other) (sym first.2) (subst (Agree (space_of parts.pool first.0)) (sym second.2) (agree_is parts.pages parts.frames parts.pool so.tables.homes first.0 second.0 so.pool_size so.tables.homes_size first.1 second.1));
+          subst (λ s. Agree s other) (sym first.2) (subst (Agree (space_of parts.pool first.0)) (sym second.2) (agree_is so first.1 second.1));
     }
 
 -- whether a page is shared is what its count says
@@ -131,7 +123,7 @@ frame_read {parts = parts} {at = at} {frame = frame} so seen inside read =
     let near : at < PAGE * parts.pages = subst (λ s. at < PAGE * s.pages) (sym seen) inside in
     let page : at / PAGE < length parts.live = omega (arith, so.tables.live_table.size) in
     let is : frame ≡ get_or parts.live (at / PAGE) 0 = get_or_read parts.live (at / PAGE) frame page read 0 in
-    let less : frame < parts.frames = omega (arith, live_below so (at / PAGE) page) in
+    let less : frame < parts.frames = omega (arith, (live_frames so).below (at / PAGE) page) in
     (is, less, omega (arith, so.bounds.enough.1, so.bounds.few.1))
 
 pub shared_read : {parts : Parts} {store : Pages} {at frame count : ℕ} → IsSound parts → pages_of parts ≡ store → at < PAGE * store.pages → frame ≡ get_or parts.live (at / PAGE) frame → count ≡ get_or parts.counts frame count → is_shared store (at / PAGE) ≡ nat_lt 0 count

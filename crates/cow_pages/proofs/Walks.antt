@@ -1,6 +1,6 @@
 -- One step of each walk over a table.
-use Rattle.cow_pages.proofs.Terms.{Bool, List, [], ap, arith, cond, drop, false, get_or, inl, inr, length, nat_lt, refl, set, subst, sym, take, true, ℕ, ◌++◌, ◌+◌, ◌-◌, ◌<◌, ◌||◌, ◌∙◌, ◌∷◌, ◌≡◌, ◌≤◌, cases_Bool, cases_eq, cases_lt, le-ltb, lt-ltb, ne_eqb, or_left, or_right, nat_tests, drop_all, drop_more, get_or-drop, get_or-set_other, get_or-set_same, get_or_past, length-drop, length-set, take_all, take_more, different, has, CanCount, CanGiveUp, CanUncount, Counts, IsStack, IsTable, Recounts, places}
-use Rattle.cow_pages.proofs.Counting.{Alike, below_append, below_front, different-alike, different-front, has-at, has-get_or, has-nowhere, length-missing, places-append, places-here, places-take-drop, places-there}
+use Rattle.cow_pages.proofs.Terms.{Bool, List, [], ap, arith, cond, drop, false, get_or, inl, inr, length, nat_lt, refl, set, subst, sym, take, true, ℕ, ◌++◌, ◌+◌, ◌-◌, ◌<◌, ◌||◌, ◌∙◌, ◌∷◌, ◌≡◌, ◌≤◌, cases_Bool, cases_eq, cases_lt, le-ltb, lt-ltb, ne_eqb, or_left, or_right, common_steps, drop_all, drop_more, get_or-drop, get_or-set_other, get_or-set_same, length-drop, length-set, take_all, take_more, different, has, CanCount, CanGiveUp, CanUncount, Counts, IsStack, IsTable, Recounts, places}
+use Rattle.cow_pages.proofs.Counting.{Alike, different-alike, different-front, has-at, has-get_or, has-nowhere, length-missing, places-append, places-here, places-take-drop, places-there}
 
 -- a frame has one place in all tables
 pub table_home : {pages : ℕ} {homes table other : List ℕ} → IsTable pages homes table → IsTable pages homes other → (k j : ℕ) → k < length table → j < length other → get_or table k 0 ≡ get_or other j 0 → k ≡ j
@@ -9,14 +9,11 @@ table_home {homes = homes} so too k j lk lj e =
 
 -- a table with another frame of a page
 pub table_put : {pages : ℕ} {homes table : List ℕ} (i x : ℕ) → IsTable pages homes table → x < length homes → get_or homes x 0 ≡ i → IsTable pages homes (set table i x)
-table_put {pages = pages} {homes = homes} {table = table} i x so near home =
-    let entry : (k : ℕ) → k < pages → (get_or (set table i x) k 0 < length homes) × (get_or homes (get_or (set table i x) k 0) 0 ≡ k) =
-    λ k less.
-    elim (cases_eq i k) [
-      | inl here ↦ subst (λ n. (n < length homes) × (get_or homes n 0 ≡ k)) (sym (subst (λ m. get_or (set table i x) m 0 ≡ x) here (get_or-set_same table i x 0 (omega (arith, so.size))))) (near, home ∙ here)
-      | inr other ↦ subst (λ n. (n < length homes) × (get_or homes n 0 ≡ k)) (sym (get_or-set_other table i k x 0 (λ e. other (sym e)))) (so.below k less, so.home k less)
-    ] in
-    record { size = length-set table i x ∙ so.size; below = λ k less. (entry k less).0; home = λ k less. (entry k less).1 }
+table_put {homes = homes} {table = table} i x so near home = record {
+  size = length-set table i x ∙ so.size;
+  below = λ k less. grind (arith, get_or-set_same, get_or-set_other, length-set, so.size, so.below k);
+  home = λ k less. grind (arith, get_or-set_same, get_or-set_other, length-set, so.size, so.home k);
+}
 
 -- a frame that one table has where another has another one isn't in that one
 pub apart_there : {pages : ℕ} {homes table live : List ℕ} (i : ℕ) → IsTable pages homes table → IsTable pages homes live → i < pages → (get_or table i 0 ≡ get_or live i 0 → ⊥) → has (get_or table i 0) live ≡ false
@@ -26,8 +23,7 @@ apart_there {table = table} {live = live} i so too less other =
 
 -- a number that is counted is below the counts
 pub counted_below : (counts : List ℕ) (n : ℕ) → 0 < get_or counts n 0 → n < length counts
-counted_below counts n some =
-    elim (cases_lt n (length counts)) [ inl less ↦ less | inr past ↦ absurd (omega (arith, get_or_past counts n 0 past)) ]
+counted_below counts n some = grind (arith, common_steps)
 
 -- counts of one list are those of another with the same numbers
 pub counts_alike : {counts xs ys : List ℕ} → Counts counts xs → Alike xs ys → Counts counts ys
@@ -35,12 +31,8 @@ counts_alike so same = record { each = λ n. so.each n ∙ same n }
 
 -- a count that is put
 counts_put : {counts was now : List ℕ} {x v : ℕ} → Counts counts was → x < length counts → v ≡ places x now → ((n : ℕ) → (x ≡ n → ⊥) → places n was ≡ places n now) → Counts (set counts x v) now
-counts_put {counts = counts} {now = now} {x = x} {v = v} so near is others = record {
-  each = λ n.
-      elim (cases_eq x n) [
-        | inl here ↦ subst (λ m. get_or (set counts x v) m 0 ≡ places m now) here (get_or-set_same counts x v 0 near ∙ is)
-        | inr other ↦ get_or-set_other counts x n v 0 (λ e. other (sym e)) ∙ so.each n ∙ others n other
-      ];
+counts_put {counts = counts} {x = x} {v = v} so near is others = record {
+  each = λ n. elim (cases_eq x n) [ inl here ↦ rw (← here, get_or-set_same counts x v 0 near) is | inr other ↦ get_or-set_other counts x n v 0 (λ e. other (sym e)) ∙ so.each n ∙ others n other ];
 }
 
 -- a number is counted once more
@@ -86,10 +78,6 @@ recounts_alike {table = table} {next = next} {was = was} {now = now} so first se
 front_more : (i : ℕ) (table : List ℕ) → i < length table → Alike (get_or table i 0 ∷ take i table) (take (i + 1) table)
 front_more i table less n = omega (arith, ap (places n) (take_more table i 0 less), places-append n (take i table) (get_or table i 0 ∷ []))
 
--- so a number that says so goes up by one at most
-rise_few : (b : Bool) (added later i : ℕ) → later ≡ added + cond b 0 1 → added ≤ i → later ≤ i + 1
-rise_few b added later i rise few = grind arith
-
 -- so many numbers of a table are counted once more
 pub record Counting (initial counts table : List ℕ) (i added : ℕ) : Type 0 where
   pub size : length counts ≡ length initial
@@ -108,20 +96,13 @@ counting_more {initial = initial} {counts = counts} {table = table} {i = i} {add
     let near : x < length counts = subst (λ n. x < n) (sym so.size) (can.below i less) in
     record {
       size = length-set counts x (get_or counts x 0 + 1) ∙ so.size;
-      few = rise_few (nat_lt 0 (get_or counts x 0)) added later i rise so.few;
+      few = (let few = so.few in grind (arith, rise, few));
       walk = recounts_alike (recounts_on so.walk (one_more near refl) rise refl) (λ n. refl) (front_more i table less);
     }
 
 -- the whole table is counted
 pub counting_all : {initial counts table : List ℕ} {i added : ℕ} → Counting initial counts table i added → length table ≤ i → Recounts initial [] counts table added 0
 counting_all {initial = initial} {counts = counts} {table = table} {i = i} {added = added} so end = subst (λ xs. Recounts initial [] counts xs added 0) (take_all i table end) so.walk
-
--- what the count of the next number says of how many had none
-pub rise_none : (added later count : ℕ) → count ≡ 0 → later ≡ added + 1 → later ≡ added + cond (nat_lt 0 count) 0 1
-rise_none added later count none rise = grind (arith, nat_tests)
-
-pub rise_some : (added later count : ℕ) → (count ≡ 0 → ⊥) → later ≡ added → later ≡ added + cond (nat_lt 0 count) 0 1
-rise_some added later count some same = grind (arith, nat_tests)
 
 -- whether a frame is in use
 abbrev pub in_use : List ℕ → List ℕ → ℕ → Bool
@@ -145,29 +126,19 @@ stack_same {counts = counts} {free = free} so size same = record {
 
 pub stack_push : {counts after live next free : List ℕ} {x : ℕ} → IsStack counts live free → length after ≡ length counts → x < length counts → ((n : ℕ) → n < length counts → (x ≡ n → ⊥) → in_use after next n ≡ in_use counts live n) → in_use counts live x ≡ true → in_use after next x ≡ false → IsStack after next (free ++ x ∷ [])
 stack_push {counts = counts} {after = after} {next = next} {free = free} {x = x} so size near same was is = record {
-  below = λ k less. subst (λ m. get_or (free ++ x ∷ []) k 0 < m) (sym size) (below_append (length counts) free (x ∷ []) so.below (below_front (length counts) x [] near (λ k less. absurd (omega arith))) k less);
+  below = λ k less. grind (arith, common_steps, so.below k);
   each = λ n less.
-      let under : n < length counts = omega arith in
       elim (cases_eq x n) [
-        | inl here ↦ subst (λ m. places m (free ++ x ∷ []) ≡ cond (in_use after next m) 0 1) here
-            (let none : places x free ≡ 0 = so.each x near ∙ ap (λ b. cond b 0 1) was in
-            let one : places x (free ++ x ∷ []) ≡ 1 = omega (arith, places-append x free (x ∷ []), places-here x []) in
-            one ∙ ap (λ t. cond t 0 1) (sym is))
-        | inr other ↦
-            (let same_free : places n (free ++ x ∷ []) ≡ places n free = omega (arith, places-append n free (x ∷ []), places-there n x [] other) in
-            same_free ∙ so.each n under ∙ ap (λ t. cond t 0 1) (sym (same n under other)))
+        | inl here ↦ rw (← here, places-append x free (x ∷ []), so.each x near, was, is, places-here x []) refl
+        | inr other ↦ rw (places-append n free (x ∷ []), places-there n x [] other, so.each n (omega arith), same n (omega arith) other) (omega arith)
       ];
 }
 
 -- a frame that stays in use has another count
 pub stack_kept : {counts live free : List ℕ} (x v : ℕ) → IsStack counts live free → in_use counts live x ≡ true → (nat_lt 0 v || has x live) ≡ true → IsStack (set counts x v) live free
-stack_kept {counts = counts} {live = live} x v so was now =
+stack_kept {counts = counts} x v so was now =
     stack_same so (length-set counts x v)
-    (λ n under.
-    elim (cases_eq x n) [
-      | inl here ↦ subst (λ m. in_use (set counts x v) live m ≡ in_use counts live m) here (ap (λ m. nat_lt 0 m || has x live) (get_or-set_same counts x v 0 (omega arith)) ∙ now ∙ sym was)
-      | inr other ↦ ap (λ m. nat_lt 0 m || has n live) (get_or-set_other counts x n v 0 (λ e. other (sym e)))
-    ])
+    (λ n under. elim (cases_eq x n) [ inl here ↦ rw (← here, was, get_or-set_same counts x v 0 (omega arith)) now | inr other ↦ rw (get_or-set_other counts x n v 0 (λ e. other (sym e))) refl ])
 
 -- a frame that is no longer in use is given back
 pub stack_freed : {counts live free : List ℕ} (x : ℕ) → IsStack counts live free → 0 < get_or counts x 0 → get_or counts x 0 - 1 ≡ 0 → has x live ≡ false → IsStack (set counts x (get_or counts x 0 - 1)) live (free ++ x ∷ [])
@@ -210,7 +181,7 @@ pub uncounting_more : {initial counts table live free left : List ℕ} {i remove
 uncounting_more {initial = initial} {counts = counts} {table = table} {i = i} {removed = removed} {later = later} so less rise stack =
     let x = get_or table i 0 in
     record {
-      few = rise_few (nat_lt 0 (get_or counts x 0 - 1)) removed later i rise so.few;
+      few = (let few = so.few in grind (arith, rise, few));
       walk = recounts_on (subst (λ xs. Recounts initial table counts xs 0 removed) (drop_more table i 0 less) so.walk) (one_less refl) refl rise;
       stack = stack;
     }
@@ -223,11 +194,7 @@ pub give_kept : {counts free : List ℕ} (live : List ℕ) (i : ℕ) → IsStack
 give_kept {counts = counts} {free = free} live i so less some =
     let x = get_or live i 0 in
     stack_same (subst (λ xs. IsStack counts xs free) (drop_more live i 0 less) so) refl
-    (λ n under.
-    elim (cases_eq x n) [
-      | inl here ↦ subst (λ m. in_use counts (drop (i + 1) live) m ≡ in_use counts (x ∷ drop (i + 1) live) m) here (by_count (get_or counts x 0) _ (omega arith) ∙ sym (by_count (get_or counts x 0) _ (omega arith)))
-      | inr other ↦ ap (λ b. nat_lt 0 (get_or counts n 0) || (b || has n (drop (i + 1) live))) (sym (ne_eqb x n other))
-    ])
+    (λ n under. elim (cases_eq x n) [ inl here ↦ rw (← here, by_count (get_or counts x 0) _ (omega arith), by_count (get_or counts x 0) _ (omega arith)) refl | inr other ↦ rw (ne_eqb x n other) refl ])
 
 -- it has none
 pub give_free : {counts live free start : List ℕ} (i : ℕ) → IsStack counts (drop i live) free → CanGiveUp counts live start → i < length live → get_or counts (get_or live i 0) 0 ≡ 0 → IsStack counts (drop (i + 1) live) (free ++ get_or live i 0 ∷ [])
@@ -251,9 +218,6 @@ give_all {counts = counts} {free = free} live i so end other counted =
     stack_same (subst (λ xs. IsStack counts xs free) (drop_all i live end) so) refl
     (λ n under.
     elim (cases_Bool (has n other)) [
-      | inl is ↦
-          (let found = has-at n other is in
-          let some : 0 < get_or counts n 0 = subst (λ m. 0 < get_or counts m 0) found.2 (counted found.0 found.1) in
-          by_count _ _ some ∙ sym (by_count (get_or counts n 0) false some))
-      | inr isnt ↦ ap (λ b. nat_lt 0 (get_or counts n 0) || b) isnt
+      | inl is ↦ (let found = has-at n other is in let some : 0 < get_or counts n 0 = subst (λ m. 0 < get_or counts m 0) found.2 (counted found.0 found.1) in rw (by_count _ false some) (by_count _ _ some))
+      | inr isnt ↦ rw isnt refl
     ])

@@ -1,5 +1,6 @@
 // Copies of frames.
-ghost use Rattle.std.specs.Prelude.{◌≡◌, ◌⊎◌, ◌+◌, ◌≤◌, ◌++◌, length, take, drop};
+ghost use Rattle.std.specs.Prelude.{◌≡◌, ◌⊎◌, ◌+◌, ◌≤◌, length, take, drop};
+ghost use Rattle.cow_pages.specs.Writes.{put_at};
 
 /// How many bytes a page has, and so the frame in which it stands.
 pub const PAGE: u32 = 4096;
@@ -10,7 +11,7 @@ pub fn copy_frame(pool: &mut [u8], from: usize, to: usize)
     requires there { from + PAGE ≤ length pool.old }
     requires fits { to + PAGE ≤ length pool.old }
     requires apart { (from + PAGE ≤ to) ⊎ (to + PAGE ≤ from) }
-    ensures { pool.new ≡ take to pool.old ++ take PAGE (drop from pool.old) ++ drop (to + PAGE) pool.old }
+    ensures { pool.new ≡ put_at to (take PAGE (drop from pool.old)) pool.old }
 {
     copy_part(pool, from, to, PAGE as usize);
 }
@@ -22,7 +23,7 @@ pub fn copy_part(pool: &mut [u8], from: usize, to: usize, count: usize)
     requires there { from + count ≤ length pool.old }
     requires fits { to + count ≤ length pool.old }
     requires apart { (from + count ≤ to) ⊎ (to + count ≤ from) }
-    ensures { pool.new ≡ take to pool.old ++ take count (drop from pool.old) ++ drop (to + count) pool.old }
+    ensures { pool.new ≡ put_at to (take count (drop from pool.old)) pool.old }
 {
     if from < to {
         let (front, back) = pool.split_at_mut(to);

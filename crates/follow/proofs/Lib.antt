@@ -9,5 +9,6 @@ pub mod Reached
 pub mod Agreed
 pub mod Released
 pub mod Behind
+pub mod Placed
 mod Meets
 mod Examples

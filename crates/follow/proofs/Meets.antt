@@ -2,6 +2,7 @@
 use Rattle.session_history.proofs.Endings.{ending_account, ending_none}
 use Rattle.session_history.proofs.Sessions.{serving_first}
 use Rattle.follow.proofs.Terms.{Bool, List, None, Some, [], ap, arith, cond, eqb, false, length, length-append, map, refl, true, ℕ, ◌++◌, ◌∷◌, ◌≡◌, ◌≤◌, eqb-true, sent_to, LinkEvent, Image, prefix_same, origin, served_same, IsAccount, Session, journal_of, items_in, Rules, passed_in, first_survivor, starting_path, IsSoundBefore, Episode, plan_of, last_or, IfSome, StandsPast, AreRecovered, Recovery, episode_of, Handed, Stand, IsFollowed, IsTakeover, Takeover, HasFollowed}
+use Rattle.follow.specs.Plans.{AreWellPlaced}
 use Rattle.follow.proofs.Reached.{first_served}
 use Rattle.follow.proofs.Runs.{same_limits}
 
@@ -37,11 +38,12 @@ whole rules image before session recoveries conn = record {
 
 -- it is one for each session that has an account and its recoveries, as an engine's does at each answer
 takes_over : (rules : Rules) (image : Image) (before : List Episode) (session : Session) (recoveries : List Recovery) (conn : ℕ) → IsAccount rules image session → AreRecovered rules image [] (first_survivor rules image) session.earlier recoveries session.survivor
-    → rules.bounds.before.plan ≡ plan_of before → IfSome (last_or None before) (StandsPast rules.limits rules.bounds.before.plan (starting_path rules image)) → IsTakeover (whole rules image before session recoveries conn)
-takes_over rules image before session recoveries conn account recovered told past = record {
+    → rules.bounds.before.plan ≡ plan_of before → AreWellPlaced before → IfSome (last_or None before) (StandsPast rules.limits rules.bounds.before.plan (starting_path rules image)) → IsTakeover (whole rules image before session recoveries conn)
+takes_over rules image before session recoveries conn account recovered told placed past = record {
   account = account;
   recovered = recovered;
   told = told;
+  placed = placed;
   past = past;
   handed_by =
       record {

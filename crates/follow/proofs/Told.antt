@@ -2,7 +2,7 @@
 use Rattle.follow.proofs.Terms.{Bool, List, None, Option, Some, [], ap, cond, false, map, refl, sym, true, ◌++◌, ◌∙◌, ◌∷◌, ◌≡◌, option_map_or, MatchOption, option_map, Override, Survivor, first_survivor, Episode, Try, survives, AreRecovered, Recovery, adopted_by, episode_of, point_of, Trial, survivor_in, try_of, plan_of_trial, adopted_try, plan_behind, plan_from, plan_of, GivenUpAddsNothing, PlanIsTold, PlanOfReport}
 
 -- the trial that survives is told as the one that does
-adopted_told : (trials : List Trial) → adopted_try (map try_of trials) ≡ option_map try_of (survivor_in trials)
+pub adopted_told : (trials : List Trial) → adopted_try (map try_of trials) ≡ option_map try_of (survivor_in trials)
 adopted_told [] = refl
 adopted_told (trial ∷ trials) = of (survives trial.result) (adopted_told trials)
   where

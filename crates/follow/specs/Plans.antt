@@ -1,5 +1,5 @@
 -- The plan of environments that a report tells.
-use Rattle.std.specs.Prelude.{List, [], ◌∷◌, Option, None, Some, if◌then◌else◌}
+use Rattle.std.specs.Prelude.{ℕ, ◌+◌, ◌≤◌, List, [], ◌∷◌, All, Option, None, Some, IfSome, if◌then◌else◌, ◌==◌}
 use Rattle.follow.specs.Terms.{option_map_or, Override, Episode, Try, survives, plan_of_trial}
 
 -- the trial of an episode that survived, if one did
@@ -19,3 +19,14 @@ plan_from plan (episode ∷ episodes) = plan_from (plan_behind plan episode) epi
 -- the plan behind all episodes of a report
 abbrev pub plan_of : List Episode → List Override
 plan_of episodes = plan_from [] episodes
+
+-- the count of items from which on the environment of a trial is in force, by how many were taken at its checkpoint: the next one, or the start
+abbrev pub first_count : ℕ → ℕ
+first_count checkpoint = if checkpoint == 0 then 0 else checkpoint + 1
+
+-- the trial of an episode that survived, if one did, is in force no later than at the failure
+abbrev pub IsWellPlaced : Episode → Type 0
+IsWellPlaced episode = IfSome (adopted_try episode.tries) (λ attempt. first_count attempt.checkpoint ≤ episode.point)
+
+abbrev pub AreWellPlaced : List Episode → Type 0
+AreWellPlaced episodes = All IsWellPlaced episodes

@@ -1,6 +1,7 @@
 -- When a run that follows has reached what the first host handed over.
 use Rattle.std.specs.Prelude.{◌≡◌, ℕ, ◌<◌, take, IfSome, ◌⊎◌}
 use Rattle.follow.specs.Terms.{Prefix, sent_to, State, AsksFor, Path, Served, IsFeasible}
+use Rattle.follow.specs.Plans.{AreWellPlaced}
 use Rattle.follow.specs.Runs.{IsLonger}
 use Rattle.follow.specs.Held.{count_of, held}
 use Rattle.follow.specs.Handed.{AtRequest, HasReached, IsStuck, Stand}
@@ -44,3 +45,7 @@ HeldAtRelease =
     (over : Takeover) (path : Path) (stand : Stand over.limits (plan_in over) path) → IsTakeover over → IsFollowed over path → HasReached over.limits over.handed path stand →
     ((conn : ℕ) → sent_to conn (held over.handed.counts path.state.sends) ≡ take (count_of over.handed.counts conn) (sent_to conn (passed_first over)))
     × ((state : State) → IsFeasible (held over.handed.counts path.state.sends) state → IsFeasible (held over.handed.counts (passed_first over)) state)
+
+-- Of each episode that was handed over the trial that survived is in force no later than at its failure.
+abbrev pub EpisodesArePlaced : Type 0
+EpisodesArePlaced = (over : Takeover) → IsTakeover over → AreWellPlaced over.handed.episodes

@@ -1,7 +1,7 @@
 -- A second host takes over from one that was killed.
 use Rattle.std.specs.Prelude.{◌≡◌, List, [], None, IfSome}
 use Rattle.follow.specs.Terms.{last_or, Item, Prefix, Send, Image, Limits, Override, Path, Served, origin, IsAccount, Session, journal_of, items_in, Rules, passed_in, first_survivor, starting_path, Episode, AreRecovered, Recovery}
-use Rattle.follow.specs.Plans.{plan_of}
+use Rattle.follow.specs.Plans.{AreWellPlaced, plan_of}
 use Rattle.follow.specs.Runs.{AreWider}
 use Rattle.follow.specs.Handed.{Handed, IsHandedBy, StandsPast}
 
@@ -33,11 +33,13 @@ abbrev pub plan_in : Takeover → List Override
 plan_in over = plan_of over.handed.episodes
 
 -- There is an account of the first host's session, behind these recoveries, and it handed that over; the second host's limits are as wide,
--- and the first host heard the first items. The episodes that it was handed itself tell the plan with which it began, past the last of them.
+-- and the first host heard the first items. The episodes that it was handed itself tell the plan with which it began, past the last of them, and of each
+-- the trial that survived is in force at its failure.
 pub record IsTakeover (over : Takeover) : Type 0 where
   pub account : IsAccount over.rules over.image over.session
   pub recovered : AreRecovered over.rules over.image [] (first_survivor over.rules over.image) over.session.earlier over.recoveries over.session.survivor
   pub told : over.rules.bounds.before.plan ≡ plan_of over.before
+  pub placed : AreWellPlaced over.before
   pub past : IfSome (last_or None over.before) (StandsPast over.rules.limits over.rules.bounds.before.plan (starting_path over.rules over.image))
   pub handed_by : IsHandedBy over.rules over.session over.before over.recoveries over.handed
   pub wide : AreWider over.rules.limits over.limits

@@ -1,7 +1,7 @@
 //! Laws of a run that is followed, each as the contract of a function that does nothing.
 ghost use Rattle.follow.specs.Laws.{PlanIsTold, PlanOfReport, GivenUpAddsNothing, RangesAreExact, RangesFall, ServedWider, AsksWider, OneRun};
 ghost use Rattle.follow.specs.HeldLaws.{HeldIsFront, HeldIsInTime, HeldIsInOrder, HeldIsFixed, HeldIsPassed, PassedIsSent, StampsAreSafe};
-ghost use Rattle.follow.specs.ReachLaws.{ReachesInTime, FollowsBefore, NoWaiting, StuckHasReached, AnswersAgree, FinishAgrees, HeldAtRelease};
+ghost use Rattle.follow.specs.ReachLaws.{ReachesInTime, FollowsBefore, NoWaiting, StuckHasReached, AnswersAgree, FinishAgrees, HeldAtRelease, EpisodesArePlaced};
 ghost use Rattle.follow.specs.FollowLaws.{StaysReached, OneRelease, FollowedIsSound, FollowedIsPast};
 
 /// Behind recoveries the plan of the survivor is told by their episodes, from the plan that it had before them.
@@ -112,6 +112,11 @@ pub fn finish_agrees()
 /// Where it has reached what was handed over, what clients hold is what the first host passed to them.
 pub fn held_at_release()
     ensures { HeldAtRelease }
+{}
+
+/// Of each episode that was handed over the trial that survived is in force no later than at its failure.
+pub fn episodes_are_placed()
+    ensures { EpisodesArePlaced }
 {}
 
 /// A run that has reached it has reached it wherever it stands later.

@@ -1,6 +1,6 @@
 -- What is heard of an event that was taken.
 use Rattle.session_history.specs.Heeding as unheeded
-use Rattle.link_gate.proofs.Terms.{List, None, Some, [], ap, append-nil, arith, false, inr, length, length-append, refl, subst, sym, ℕ, ◌++◌, ◌<◌, ◌∙◌, ◌∷◌, ◌≡◌, ◌≤◌, none-some, same_Some, Err, Ok, Result, Send, Entry, Took, LinkEvent, Closes, Ends, Opens, Piece, Settles, IsInOrder, Phases, phases_after, Seen, items_of, Fits, Log, logged, Ledger, IsHeard, IsUnheeded, closing_of, Bounds, Unheeded, events_of, heeded, items_in, refusal, KeepsItems, KeepsPhases, KeepsReplies, phase_after, closes, opens, HearFault, Heard, HearsBy, MayHear, Takes, IsNew, TakesIn, TakesOrEnds, entered}
+use Rattle.link_gate.proofs.Terms.{List, None, Some, [], ap, append-nil, arith, false, inr, length, length-append, refl, subst, sym, ℕ, ◌++◌, ◌<◌, ◌∙◌, ◌∷◌, ◌≡◌, ◌≤◌, none-some, same_Some, Err, Ok, Result, Send, Entry, Took, LinkEvent, Closes, Ends, Opens, Piece, Settles, IsInOrder, Phases, phases_after, Seen, items_of, Fits, Log, logged, Ledger, IsHeard, IsUnheeded, closing_of, Bounds, Unheeded, events_of, heeded, items_in, refusal, KeepsItems, KeepsPhases, KeepsReplies, phase_after, closes, opens, HearFault, Heard, HearsBy, HearsEvent, HearsThis, MayHear, Takes, IsNew, TakesIn, TakesOrEnds, entered}
 use Rattle.link_gate.specs.declared.heard.Heard.TheVariants as heard
 use Rattle.link_gate.specs.declared.heard.HearFault.TheVariants as fault
 use Rattle.link_gate.proofs.Phasing.{phases_behind, unopened_by, open_by}
@@ -99,9 +99,8 @@ heard_with bounds entries sends event log new ledger later phases before most on
 -- by the answer
 hears_event : (bounds : Bounds) (entries : List Entry) (sends : List Send) (event : LinkEvent) (log new : Log) (ledger later : Ledger) (seen shown : Seen) (before now most : ℕ) (result : Result Heard HearFault) → IsEvent event
     → Stood bounds entries sends log ledger seen.phases before most → IsInOrder seen.phases event → ((conn : ℕ) → shown.phases conn ≡ phases_after event seen.phases conn) → Takes seen.told shown.told event → TakesIn event log new ledger later before now most result
-    → HearsBy bounds entries sends new later now seen shown result
+    → HearsEvent bounds entries sends new later now seen shown event result
 hears_event bounds entries sends event log new ledger later seen shown before now most (Ok answer) one stood order enters takes did = (
-  event,
   did.0,
   takes,
   heard_with bounds entries sends event log new ledger later seen.phases before most one stood order did.1 did.2 did.3 did.5,
@@ -127,11 +126,10 @@ hears_event bounds entries sends event log new ledger later seen shown before no
 -- the end of the link
 hears_end : (bounds : Bounds) (entries : List Entry) (sends : List Send) (log new : Log) (ledger later : Ledger) (seen shown : Seen) (before now most : ℕ)
     → Stood bounds entries sends log ledger seen.phases before most → ((conn : ℕ) → shown.phases conn ≡ seen.phases conn) → Takes seen.told shown.told Ends → new ≡ log → later ≡ ledger → now ≡ before
-    → HearsBy bounds entries sends new later now seen shown (Ok heard.Ends)
+    → HearsThis bounds entries sends new later now seen shown Ends heard.Ends
 hears_end bounds entries sends log new ledger later seen shown before now most stood enters takes same_log same_ledger same_count =
     let still : heeded bounds (events_of bounds (entries ++ Took Ends ∷ [])) ≡ heeded bounds (events_of bounds entries) = ap (heeded bounds) (events_ended bounds entries) in
     let none : items_in bounds (entries ++ Took Ends ∷ []) ≡ items_in bounds entries ++ [] = ap (items_of bounds.framing) still ∙ sym (append-nil (items_in bounds entries)) in (
-      Ends,
       refl,
       takes,
       record {
@@ -146,7 +144,7 @@ hears_end bounds entries sends log new ledger later seen shown before now most s
 
 pub hears_taken : (bounds : Bounds) (entries : List Entry) (sends : List Send) (event : LinkEvent) (log new : Log) (ledger later : Ledger) (seen shown : Seen) (before now most : ℕ) (result : Result Heard HearFault)
     → Stood bounds entries sends log ledger seen.phases before most → IsInOrder seen.phases event → ((conn : ℕ) → shown.phases conn ≡ phases_after event seen.phases conn) → Takes seen.told shown.told event → TakesOrEnds event log new ledger later before now most result
-    → HearsBy bounds entries sends new later now seen shown result
+    → HearsEvent bounds entries sends new later now seen shown event result
 hears_taken bounds entries sends (Opens conn) log new ledger later seen shown before now most result stood order enters takes did =
     hears_event bounds entries sends (Opens conn) log new ledger later seen shown before now most result refl stood order enters takes did
 hears_taken bounds entries sends (Piece conn bytes) log new ledger later seen shown before now most result stood order enters takes did =
@@ -156,4 +154,10 @@ hears_taken bounds entries sends (Closes conn) log new ledger later seen shown b
 hears_taken bounds entries sends Settles log new ledger later seen shown before now most result stood order enters takes did =
     hears_event bounds entries sends Settles log new ledger later seen shown before now most result refl stood order enters takes did
 hears_taken bounds entries sends Ends log new ledger later seen shown before now most result stood order enters takes did =
-    subst (HearsBy bounds entries sends new later now seen shown) (sym did.0) (hears_end bounds entries sends log new ledger later seen shown before now most stood enters takes did.1 did.2 did.3)
+    subst (HearsEvent bounds entries sends new later now seen shown Ends) (sym did.0) (hears_end bounds entries sends log new ledger later seen shown before now most stood enters takes did.1 did.2 did.3)
+
+-- what was heard of an event is heard of some event
+pub hears_some : (bounds : Bounds) (entries : List Entry) (sends : List Send) (log : Log) (ledger : Ledger) (seen shown : Seen) (now : ℕ) (event : LinkEvent) (result : Result Heard HearFault) → HearsEvent bounds entries sends log ledger now seen shown event result
+    → HearsBy bounds entries sends log ledger now seen shown result
+hears_some bounds entries sends log ledger seen shown now event (Ok answer) did = (event, did)
+hears_some bounds entries sends log ledger seen shown now event (Err fault) did = did

@@ -17,7 +17,7 @@ pub use Rattle.run_history.proofs.Outputs.{prefix_sent, prefix_trans, sent_to-mo
 pub use Rattle.session_history.proofs.Heeding.{events_of-append, events_of-gave, items_in-gave, one_more_heeded, passed_in-gave, passed_in-took, refused_unheeded}
 pub use Rattle.link_gate.specs.Terms.{All, AreDuePieces, AreFronts, AreSendable, Bounds, CLOSED, CONNECTIONS, Closed, Closes, Coming, Connection, Counts, Cuts, Ends, Entry, Fits, Framing, Gave, GiveShows, Given, Gives, GivesAtClose, GoesBefore, Gone, HasGiveCause, HasHanded, HearFault, Heard, IsClosing, IsDueBy, IsDuePiece, IsHeard, IsHeeded, IsInOrder, IsItemOf, IsMadeDue, IsOpened, IsOwed, IsPassed, IsReady, IsSendable, IsUnheeded, IsWholePiece, KeepsItems, KeepsPhases, KeepsReplies, Latest, Ledger, LimitEvents, LimitItems, LinkEvent, LinkFault, Log, Moment, NotBefore, OPENED, Open, Opens, Parts, PassFault, Passed, Passes, PassesBy, PassesRest, Phase, Phases, Piece, Prefix, Rules, Seen, Send, Settles, Shows, Stands, StaysTold, StillComes, Tells, TellsHanded, Told, TooLong, Took, Unheeded, Unopened, bare_item, behind, behind_items, brought, but_given, closed_connection, closes, closing_of, cut_entries, events_in, events_of, first_items, gone_connection, hear, hear_parts, heard, heeded, in_order, is_close_of, is_closed_by, is_closing, is_gone, is_left, items_by, items_in, items_of, journal, latest, logged, may_pass, message_item, new_connection, opens, option_map, option_map_or, passed_connection, passed_in, passed_to, phase_after, phases_after, place_at, received, received_before, refusal, rest_of, sent_to, shown_part, then_entries, then_entry, then_hear, unwrap_or, with_change, with_connection, with_heard, with_passed, with_send}
 unfoldable pub use Rattle.link_gate.specs.Terms.{changed, connection_of, cut, earlier_at, heard_from, heeded_behind, is_open, items_from, next_part, none_open, rest_part, stamped, stamped_of, stamped_to, stamps_of, times_of, unpassed}
-pub use Rattle.link_gate.specs.Calls.{ComesLast, ComesOn, HasSameReplies, HearsBy, IsShown, MayHear, Stays, Takes, TakesBehind}
+pub use Rattle.link_gate.specs.Calls.{ComesLast, ComesOn, HasSameReplies, HearsBy, HearsEvent, HearsThis, IsShown, MayHear, Stays, Takes, TakesBehind}
 pub use Rattle.link_gate.specs.Taking.{IsFaultOf, IsNew, TakesIn, TakesOrEnds, entered}
 pub use Rattle.link_gate.specs.Passing.{AreStampedBy, HasPassCause, HasSameSends, PassShows}
 pub use Rattle.link_gate.specs.Noting.{IsNoted}

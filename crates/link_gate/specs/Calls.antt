@@ -19,11 +19,15 @@ IsShown event.Ends answer = answer ≡ heard.Ends
 abbrev pub Takes : Told → Told → LinkEvent → Type 0
 Takes old new event = Tells old new (entry.Took event ∷ [])
 
+-- This event was heard, and answered so: log, ledger, phases and count of events know it.
+abbrev pub HearsThis : Bounds → List Entry → List Send → Log → Ledger → ℕ → Seen → Seen → LinkEvent → Heard → Type 0
+HearsThis bounds entries sends log ledger events old new event answer =
+    IsShown event answer × Takes old.told new.told event × IsHeard bounds entries sends event log ledger
+    × KeepsPhases bounds (entries ++ entry.Took event ∷ []) new.phases × (events ≡ length (events_of bounds (entries ++ entry.Took event ∷ [])))
+
 -- What was heard, by the answer. An event that is refused was taken all the same; so was, perhaps, one for which memory ran out.
 abbrev pub HearsBy : Bounds → List Entry → List Send → Log → Ledger → ℕ → Seen → Seen → Result Heard HearFault → Type 0
-HearsBy bounds entries sends log ledger events old new (Ok answer) =
-    (event : LinkEvent) × IsShown event answer × Takes old.told new.told event × IsHeard bounds entries sends event log ledger
-    × KeepsPhases bounds (entries ++ entry.Took event ∷ []) new.phases × (events ≡ length (events_of bounds (entries ++ entry.Took event ∷ [])))
+HearsBy bounds entries sends log ledger events old new (Ok answer) = (event : LinkEvent) × HearsThis bounds entries sends log ledger events old new event answer
 HearsBy bounds entries sends log ledger events old new (Err (fault.Refused kind offset)) =
     Tells old.told new.told [] × IfSome old.coming (λ next. next ≡ Refuses kind offset) × KeepsReplies bounds entries None sends ledger
 HearsBy bounds entries sends log ledger events old new (Err fault.ReadFault) = Tells old.told new.told [] × KeepsReplies bounds entries None sends ledger
@@ -35,6 +39,11 @@ HearsBy bounds entries sends log ledger events old new (Err fault.LimitItems) =
     (event : LinkEvent) × Takes old.told new.told event × IsUnheeded bounds entries sends event unheeded.LimitItems ledger
 HearsBy bounds entries sends log ledger events old new (Err fault.Memory) =
     Tells old.told new.told [] ⊎ ((event : LinkEvent) × Takes old.told new.told event × IsHeeded bounds entries event)
+
+-- The same, where it was this event that was heard.
+abbrev pub HearsEvent : Bounds → List Entry → List Send → Log → Ledger → ℕ → Seen → Seen → LinkEvent → Result Heard HearFault → Type 0
+HearsEvent bounds entries sends log ledger events old new event (Ok answer) = HearsThis bounds entries sends log ledger events old new event answer
+HearsEvent bounds entries sends log ledger events old new event (Err fault) = HearsBy bounds entries sends log ledger events old new (Err fault)
 
 -- What comes is told after an event as before, also after one that a session refuses, unless reading failed or memory ran out.
 abbrev pub ComesOn : Option Coming → Option Coming → Result Heard HearFault → Type 0

@@ -232,6 +232,7 @@ module _ {image : Image} {recording : Recorded} {began : Told} {seen : Seen} {la
   notes_event new (Err (answer.ElfRefused number)) one next did = absurd did
   notes_event new (Err (answer.AsmRefused kind line)) one next did = absurd did
   notes_event new (Err (answer.RecordRefused line)) one next did = absurd did
+  notes_event new (Err (answer.ReportRefused line)) one next did = absurd did
   notes_event new (Err (answer.CountsRefused line)) one next did = absurd did
   notes_event new (Err (answer.Short conn)) one next did = absurd did
   notes_event new (Err (answer.Mismatch step)) one next did = absurd did

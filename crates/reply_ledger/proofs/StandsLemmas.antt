@@ -1,25 +1,27 @@
 -- What a ledger's calls keep.
-use Rattle.reply_ledger.proofs.Terms.{Bool, List, None, Option, Some, [], ap, append-nil, append_assoc, arith, cond, drop, false, get_or, if◌then◌else◌, inl, inr, length, length-append, length-drop, map, not, refl, replicate, subst, suc, sym, take, true, zero, ℕ, ◌&&◌, ◌++◌, ◌+◌, ◌-◌, ◌<◌, ◌∙◌, ◌∷◌, ◌≡◌, ◌≤◌, and_from, and_left, and_parts, and_right, cases_lt, eq-eqb, eqb-true, le-leb, leb-false, leb-true, lt-leb, lt-ltb, ltb-false, ltb-true, true≢false, get_or_default, length-replicate, take-append-drop, fails_before_first, AllByRecursion, IsDistinct, list_all, position_or_len, keys_of, set_value, values_of, option_map, IsSome, find, min, nat_eq, nat_le, nat_lt, unwrap_or, ◌==◌, ◌||◌, ◌⊎◌, Prefix, Send, sent_to, Entry, Connection, IsInOrder, Ledger, NotBefore, Passed, bytes_of, changed, new_connection, passed_connection, stamped, stamped_to, stamps_of, times_of, next_part, parts_behind, rest_part, waits, agree, until, IsLawful, trimmed_connections, Kept, account_at, is_open_account, new_account, no_account, passed_end, passed_of, rest_of, send_of, sends_of, start_of, HasRoom, Holds, Laid, Stands, Writes, connections_of, ending, given_up, is_known, ledger_of, seen, trial_of, waits_in, written}
-use Rattle.reply_ledger.proofs.AgreeLemmas.{agree-past, agree-split, and_assoc}
+use borrow.Author.Count.{below_more}
+use Rattle.reply_ledger.proofs.Terms.{Bool, List, None, Option, Some, [], ap, append-nil, append_assoc, arith, cond, drop, false, get_or, if◌then◌else◌, inl, inr, length, length-append, length-drop, map, not, refl, replicate, subst, suc, sym, take, true, zero, ℕ, ◌&&◌, ◌++◌, ◌+◌, ◌-◌, ◌<◌, ◌∙◌, ◌∷◌, ◌≡◌, ◌≤◌, and-true, and_assoc, and_from, and_left, and_parts, and_right, cases_lt, eq-eqb, eqb-true, le-leb, leb-false, leb-true, lt-leb, lt-ltb, ltb-false, ltb-true, true≢false, drop-map, get_or_default, length-replicate, take-append-drop, list_any-append, fails_before_first, AllByRecursion, IsDistinct, list_all, list_any, position_or_len, keys_of, set_value, values_of, option_map, IsSome, find, min, nat_eq, nat_le, nat_lt, unwrap_or, ◌==◌, ◌||◌, ◌⊎◌, Prefix, Send, sent_to, Entry, Connection, IsInOrder, Ledger, NotBefore, Passed, bytes_of, changed, new_connection, passed_connection, stamped, stamped_to, stamps_of, times_of, next_part, parts_behind, rest_part, waits, agree, until, IsLawful, trimmed_connection, trimmed_connections, Kept, account_at, is_open_account, new_account, no_account, passed_end, passed_of, rest_of, send_of, sends_of, start_of, HasRoom, Holds, Laid, Stands, Writes, connections_of, ending, given_up, is_known, ledger_of, seen, trial_of, waits_in, written}
+use Rattle.reply_ledger.proofs.AgreeLemmas.{agree-past, agree-split}
 use Rattle.reply_ledger.proofs.AccountLemmas.{of_opened, lookup-unknown, none_kept, all_pass, of_written, pass_all, at-put, put, put-same}
-use Rattle.reply_ledger.proofs.ConnectionLemmas.{connections-push, unknown-of, opened-known, connections-changed, connections-same, connections-trimmed, is_open-of, stamped_to-of}
+use Rattle.reply_ledger.proofs.ConnectionLemmas.{connections-push, unknown-of, opened-known, connections-changed, connections-same, connections-each, is_open-of, stamped_to-of}
 use Rattle.reply_ledger.proofs.PositionLemmas.{tested, not-empty, position-map, position-at, find-none, find-at, find-map, position-le, position-same, position-later, position-push, position-drop}
-use Rattle.reply_ledger.proofs.EntryLemmas.{length-sends_of, all-both, all-replicate, behind_front, laid-drop, laid-none, laid-push, laid-same, laid-take, later-at, length_parts, lengths_at, of_parts, parts_at, one_more, order-behind, parts-laid, sends_of-append, sends_of-one, sends_of-take, sent_to-append, writes-push}
-use Rattle.reply_ledger.proofs.RunLemmas.{bytes_of-passed_of, length-bytes_of, length-passed_of, passed_of-drop, passed_of-front, passed_of-more, passed_of-same, stamps_of-passed_of}
+use Rattle.reply_ledger.proofs.EntryLemmas.{length-sends_of, all-both, behind_front, laid-drop, laid-none, laid-push, laid-same, laid-front, later-at, length_parts, lengths_at, of_parts, parts_at, one_more, order-push, parts-laid, sends_of-append, sends_of-one, sends_of-take, sent_to-append, writes-push}
+use Rattle.reply_ledger.proofs.RunLemmas.{bytes_of-passed_of, order-parts, length-bytes_of, length-passed_of, passed_of-drop, passed_of-front, passed_of-more, passed_of-same, stamps_of-passed_of}
 
--- which sends wait, by readings of their connections
-pub waits-less : (A A' : ℕ → Kept) (e : Entry) → (is_open_account (A' e.conn) ≡ true → is_open_account (A e.conn) ≡ true) → passed_end (A e.conn) ≤ passed_end (A' e.conn) → waits_in A' e ≡ true → waits_in A e ≡ true
-waits-less A A' e o le h =
-    let parts = and_parts (is_open_account (A' e.conn)) (nat_lt 0 (length (rest_of (passed_end (A' e.conn)) e))) h in
-    let some : 0 < length (rest_of (passed_end (A' e.conn)) e) = ltb-true 0 _ parts.1 in
-    let now = length-drop (passed_end (A' e.conn) - start_of e) e.bytes in
-    let was = length-drop (passed_end (A e.conn) - start_of e) e.bytes in
-    and_from (is_open_account (A e.conn)) (nat_lt 0 (length (rest_of (passed_end (A e.conn)) e))) (o parts.0) (lt-ltb 0 _ (omega (arith, some, now, was, le)))
+-- where fewer sends of an account wait
+waits-less : (k k' : Kept) (e : Entry) → (is_open_account k' ≡ true → is_open_account k ≡ true) → passed_end k ≤ passed_end k' → (is_open_account k' && nat_lt 0 (length (rest_of (passed_end k') e))) ≡ true → (is_open_account k && nat_lt 0 (length (rest_of (passed_end k) e))) ≡ true
+waits-less k k' e o le h =
+    let parts = and_parts (is_open_account k') (nat_lt 0 (length (rest_of (passed_end k') e))) h in
+    let some : 0 < length (rest_of (passed_end k') e) = ltb-true 0 _ parts.1 in
+    and_from (is_open_account k) _ (o parts.0) (lt-ltb 0 _ (omega (arith, some, length-drop (passed_end k' - start_of e) e.bytes, length-drop (passed_end k - start_of e) e.bytes, le)))
 
--- where fewer sends wait, the first of them stands no earlier
-pub cursor-later : (A A' : ℕ → Kept) (E : List Entry) {n : ℕ} → ((q : ℕ) → is_open_account (A' q) ≡ true → is_open_account (A q) ≡ true) → ((q : ℕ) → passed_end (A q) ≤ passed_end (A' q)) → n ≡ position_or_len (waits_in A) E
-    → n ≤ position_or_len (waits_in A') E
-cursor-later A A' E o le at = omega (arith, at, position-later (waits_in A) (waits_in A') (λ e h. waits-less A A' e (o e.conn) (le e.conn) h) E)
+-- the first that waits stands no earlier then
+cursor-later : {n : ℕ} {new : List (ℕ × Kept)} (T : List (ℕ × Kept)) (E : List Entry) (conn : ℕ) (k : Kept) → new ≡ set_value (nat_eq conn) T k → is_known (keys_of T) conn ≡ true → (is_open_account k ≡ true → is_open_account (account_at T conn) ≡ true) → passed_end (account_at T conn) ≤ passed_end k
+    → n ≡ position_or_len (waits_in (account_at T)) E → n ≤ position_or_len (waits_in (account_at new)) E
+cursor-later {n = n} T E conn k is known o le at =
+    let fewer : (e : Entry) → waits_in (put (account_at T) conn k) e ≡ true → waits_in (account_at T) e ≡ true = λ (e : Entry).
+    at-put (λ q x. (is_open_account x && nat_lt 0 (length (rest_of (passed_end x) e))) ≡ true → (is_open_account (account_at T q) && nat_lt 0 (length (rest_of (passed_end (account_at T q)) e))) ≡ true) (account_at T) conn k (waits-less (account_at T conn) k e o le) (λ q none h. h) e.conn in
+    of_written (λ B l. n ≤ position_or_len (waits_in B) E) T conn k is known (omega (arith, at, position-later (waits_in (account_at T)) (waits_in (put (account_at T) conn k)) fewer E))
 
 -- a send of an open connection that doesn't wait is passed wholly
 pub waits-not : (A : ℕ → Kept) (e : Entry) → is_open_account (A e.conn) ≡ true → waits_in A e ≡ false → length (rest_of (passed_end (A e.conn)) e) ≡ 0
@@ -37,25 +39,22 @@ stands-ends A B {E = E} same h = record {
   cursor = h.cursor ∙ (λ i. position_or_len (λ (e : Entry). is_open_account (sym (same e.conn) i) && nat_lt 0 (length (rest_of (passed_end (sym (same e.conn) i)) e))) E);
 }
 
--- accounts that read alike, beside as much room
-pub holds-same : {A A' : ℕ → Kept} {K K' : List ℕ} {E own : List Entry} {room room' : ℕ} {shared : Option ℕ} {n n' : ℕ}
-    → ((q : ℕ) → (A' q).earlier ≡ (A q).earlier) → ((q : ℕ) → (A' q).stamps ≡ (A q).stamps) → ((q : ℕ) → (A' q).end ≡ (A q).end)
-    → IsDistinct nat_eq K' → ((q : ℕ) → is_known K q ≡ true → is_known K' q ≡ true) → room ≤ room' → n' ≡ position_or_len (waits_in A') E → Holds A K E own room shared n → Holds A' K' E own room' shared n'
-holds-same {E = E} {own = own} {room = room} {room' = room'} {shared = shared} e s f distinct more le cursor h = record {
-  stands = record {
-    distinct = distinct;
-    laid = laid-same e more h.stands.laid;
-    fits = λ q. subst (λ (l : List ℕ). length l ≤ length (sent_to q (sends_of E))) (sym (s q)) (h.stands.fits q);
-    stamps = λ q. subst IsInOrder (sym (s q)) (h.stands.stamps q);
-    cursor = cursor;
-  };
-  writes = record { laid = laid-same e more h.writes.laid; ends = λ q. f q ∙ h.writes.ends q ∙ ap (λ (m : ℕ). m + length (sent_to q (sends_of (written E own shared)))) (sym (e q)) };
-  room = by shared h.room;
-}
-  where
-    by : (o : Option ℕ) → HasRoom E own room o → HasRoom E own room' o
-    by None r = r
-    by (Some k) r = (r.0, omega (arith, r.1, le))
+-- an account is changed, and its stream stays where it is
+holds-put : {A : ℕ → Kept} {K K' : List ℕ} {E own : List Entry} {room : ℕ} {shared : Option ℕ} {n n' : ℕ} (conn : ℕ) (k : Kept) → k.earlier ≡ (A conn).earlier → (length k.stamps ≤ length (sent_to conn (sends_of E))) × IsInOrder k.stamps → k.end ≡ (A conn).end
+    → IsDistinct nat_eq K' → ((q : ℕ) → is_known K q ≡ true → is_known K' q ≡ true) → n' ≡ position_or_len (waits_in (put A conn k)) E → Holds A K E own room shared n → Holds (put A conn k) K' E own room shared n'
+holds-put {A = A} {E = E} {own = own} {shared = shared} conn k e s f distinct more cursor h =
+    let earlier : (q : ℕ) → (put A conn k q).earlier ≡ (A q).earlier = put-same (λ (x : Kept). x.earlier) A conn k e in
+    record {
+      stands = record {
+        distinct = distinct;
+        laid = laid-same earlier more h.stands.laid;
+        fits = at-put (λ q x. length x.stamps ≤ length (sent_to q (sends_of E))) A conn k s.0 (λ q none. h.stands.fits q);
+        stamps = at-put (λ q x. IsInOrder x.stamps) A conn k s.1 (λ q none. h.stands.stamps q);
+        cursor = cursor;
+      };
+      writes = record { laid = laid-same earlier more h.writes.laid; ends = λ q. put-same (λ (x : Kept). x.end) A conn k f q ∙ h.writes.ends q ∙ ap (λ (m : ℕ). m + length (sent_to q (sends_of (written E own shared)))) (sym (earlier q)) };
+      room = h.room;
+    }
 
 pub holds-none : (room : ℕ) → Holds (account_at []) [] [] [] room None 0
 unfolding IsDistinct account_at sends_of
@@ -66,26 +65,14 @@ holds-none room = record {
 }
 
 -- a connection is marked
-pub holds-marked : {A : ℕ → Kept} {K : List ℕ} {E own : List Entry} {room : ℕ} {shared : Option ℕ} {n n' : ℕ} (conn : ℕ) (k : Kept) → k.earlier ≡ (A conn).earlier → k.stamps ≡ (A conn).stamps → k.end ≡ (A conn).end
-    → n' ≡ position_or_len (waits_in (put A conn k)) E → Holds A K E own room shared n → Holds (put A conn k) K E own room shared n'
-holds-marked {A = A} conn k e s f cursor h =
-    holds-same (put-same (λ (x : Kept). x.earlier) A conn k e) (put-same (λ (x : Kept). x.stamps) A conn k s) (put-same (λ (x : Kept). x.end) A conn k f) h.stands.distinct (λ q x. x) (omega arith) cursor h
-
--- the first that waits, where a connection shuts
-pub cursor-marked : (A : ℕ → Kept) (E : List Entry) {n : ℕ} (conn : ℕ) (k : Kept) → k.earlier ≡ (A conn).earlier → k.stamps ≡ (A conn).stamps → is_open_account k ≡ false → n ≡ position_or_len (waits_in A) E → n ≤ position_or_len (waits_in (put A conn k)) E
-cursor-marked A E conn k e s shut at =
-    cursor-later A (put A conn k) E (at-put (λ q x. is_open_account x ≡ true → is_open_account (A q) ≡ true) A conn k (λ h. absurd (true≢false (sym h ∙ shut))) (λ q none h. h))
-    (λ q. omega (arith, put-same (λ (x : Kept). x.earlier) A conn k e q, ap length (put-same (λ (x : Kept). x.stamps) A conn k s q))) at
-
--- the same of accounts of which one was marked
 pub marked-later : {n : ℕ} {new : List (ℕ × Kept)} (T : List (ℕ × Kept)) (E : List Entry) (conn : ℕ) (k : Kept) → new ≡ set_value (nat_eq conn) T k → is_known (keys_of T) conn ≡ true → k.earlier ≡ (account_at T conn).earlier → k.stamps ≡ (account_at T conn).stamps → is_open_account k ≡ false → n ≡ position_or_len (waits_in (account_at T)) E
     → n ≤ position_or_len (waits_in (account_at new)) E
-marked-later {n = n} T E conn k is known e s shut at = of_written (λ B l. n ≤ position_or_len (waits_in B) E) T conn k is known (cursor-marked (account_at T) E conn k e s shut at)
+marked-later T E conn k is known e s shut at = cursor-later T E conn k is known (λ h. absurd (true≢false (sym h ∙ shut))) (omega (arith, e, ap length s)) at
 
 pub marked-holds : {E own : List Entry} {room : ℕ} {shared : Option ℕ} {n n' : ℕ} {new : List (ℕ × Kept)} (T : List (ℕ × Kept)) (conn : ℕ) (k : Kept) → new ≡ set_value (nat_eq conn) T k → is_known (keys_of T) conn ≡ true → k.earlier ≡ (account_at T conn).earlier → k.stamps ≡ (account_at T conn).stamps → k.end ≡ (account_at T conn).end
     → n' ≡ position_or_len (waits_in (account_at new)) E → Holds (account_at T) (keys_of T) E own room shared n → Holds (account_at new) (keys_of new) E own room shared n'
-marked-holds {E = E} {own = own} {room = room} {shared = shared} {n' = n'} T conn k is known e s f cursor h =
-    of_written (λ B l. n' ≡ position_or_len (waits_in B) E → Holds B l E own room shared n') T conn k is known (λ at. holds-marked conn k e s f at h) cursor
+marked-holds {E = E} {own = own} {room = room} {shared = shared} {n' = n'} T conn k is known e s f cursor h = of_written (λ B l. n' ≡ position_or_len (waits_in B) E → Holds B l E own room shared n') T conn k is known
+    (λ at. holds-put conn k e (subst (λ (l : List ℕ). (length l ≤ length (sent_to conn (sends_of E))) × IsInOrder l) (sym s) (h.stands.fits conn, h.stands.stamps conn)) f h.stands.distinct (λ q x. x) at h) cursor
 
 pub marked-shown : {new : List (ℕ × Kept)} (S : List Send) (T : List (ℕ × Kept)) (conn : ℕ) (k : Kept) (change : Connection → Connection) → new ≡ set_value (nat_eq conn) T k → is_known (keys_of T) conn ≡ true → seen S conn k ≡ change (seen S conn (account_at T conn))
     → connections_of S (account_at new) (keys_of new) ≡ changed conn change (connections_of S (account_at T) (keys_of T))
@@ -93,19 +80,10 @@ marked-shown S T conn k change is known same =
     of_written (λ B l. connections_of S B l ≡ changed conn change (connections_of S (account_at T) (keys_of T))) T conn k is known (connections-changed S (account_at T) conn k change (keys_of T) same)
 
 -- a connection opens
-pub known-more : (K : List ℕ) (conn q : ℕ) → is_known K q ≡ true → is_known (K ++ conn ∷ []) q ≡ true
-known-more [] conn q h = absurd (true≢false (sym h))
-known-more (k ∷ K) conn q h = by (nat_eq q k) h (λ x. known-more K conn q x)
-  where
-    by : (b : Bool) → (b || is_known K q) ≡ true → (is_known K q ≡ true → is_known (K ++ conn ∷ []) q ≡ true) → (b || is_known (K ++ conn ∷ []) q) ≡ true
-    by true h rest = refl
-    by false h rest = rest h
-
 pub holds-opened : {A : ℕ → Kept} {K : List ℕ} {E own : List Entry} {room : ℕ} {shared : Option ℕ} {n : ℕ} (conn : ℕ) → A conn ≡ no_account → is_known K conn ≡ false → IsDistinct nat_eq (K ++ conn ∷ [])
     → Holds A K E own room shared n → Holds (put A conn new_account) (K ++ conn ∷ []) E own room shared n
 holds-opened {A = A} {K = K} {E = E} conn none new distinct h =
-    holds-same (put-same (λ (x : Kept). x.earlier) A conn new_account (sym (ap (λ (x : Kept). x.earlier) none))) (put-same (λ (x : Kept). x.stamps) A conn new_account (sym (ap (λ (x : Kept). x.stamps) none)))
-    (put-same (λ (x : Kept). x.end) A conn new_account (sym (ap (λ (x : Kept). x.end) none))) distinct (λ q x. known-more K conn q x) (omega arith)
+    holds-put conn new_account (sym (ap (λ (x : Kept). x.earlier) none)) (omega arith, tt) (sym (ap (λ (x : Kept). x.end) none)) distinct (λ q known. list_any-append (nat_eq q) K (conn ∷ []) ∙ ap (λ (b : Bool). b || list_any (nat_eq q) (conn ∷ [])) known)
     (h.stands.cursor ∙ position-same (waits_in A) (waits_in (put A conn new_account)) E (λ k d lt. same (get_or E k d) (h.stands.laid.known k d lt) (conn == (get_or E k d).conn) refl)) h
   where
     same : (e : Entry) → is_known K e.conn ≡ true → (b : Bool) → conn == e.conn ≡ b → waits_in A e ≡ (is_open_account (if b then new_account else A e.conn) && nat_lt 0 (length (rest_of (passed_end (if b then new_account else A e.conn)) e)))
@@ -119,24 +97,24 @@ shared-none E own (Some n) h = absurd (let no : ⊥ = cc in no)
 
 -- more room alone
 pub holds-room : {A : ℕ → Kept} {K : List ℕ} {E E' own : List Entry} {room room' : ℕ} {shared : Option ℕ} {n : ℕ} → E' ≡ E → room ≤ room' → Holds A K E own room shared n → Holds A K E' own room' shared n
-holds-room {A = A} {K = K} {own = own} {room' = room'} {shared = shared} {n = n} same le h =
-    subst (λ (l : List Entry). Holds A K l own room' shared n) (sym same) (holds-same (λ q. refl) (λ q. refl) (λ q. refl) h.stands.distinct (λ q x. x) le h.stands.cursor h)
+holds-room {A = A} {K = K} {E = E} {own = own} {room = room} {room' = room'} {shared = shared} {n = n} same le h = subst (λ (l : List Entry). Holds A K l own room' shared n) (sym same) (record { stands = h.stands; writes = h.writes; room = by shared h.room })
+  where
+    by : (o : Option ℕ) → HasRoom E own room o → HasRoom E own room' o
+    by None r = r
+    by (Some k) r = (r.0, omega (arith, r.1, le))
 
 -- one more send of the survivor
 waits-new : {A : ℕ → Kept} {K : List ℕ} {E : List Entry} {n : ℕ} (e : Entry) → Stands A K E n → e.end ≡ (A e.conn).earlier + length (sent_to e.conn (sends_of E)) + length e.bytes → 0 < length e.bytes → waits_in A e ≡ is_open_account (A e.conn)
 waits-new {A = A} e h end some =
     let whole : length (rest_of (passed_end (A e.conn)) e) ≡ length e.bytes = omega (arith, h.fits e.conn, end, length-drop (passed_end (A e.conn) - start_of e) e.bytes) in
-    ap (λ (b : Bool). is_open_account (A e.conn) && b) (ap (nat_lt 0) whole ∙ lt-ltb 0 (length e.bytes) some) ∙ by (is_open_account (A e.conn))
-  where
-    by : (b : Bool) → (b && true) ≡ b
-    by true = refl
-    by false = refl
+    ap (λ (b : Bool). is_open_account (A e.conn) && b) (ap (nat_lt 0) whole ∙ lt-ltb 0 (length e.bytes) some) ∙ and-true (is_open_account (A e.conn))
 
 pub holds-sent : {A : ℕ → Kept} {K : List ℕ} {E E' own : List Entry} {room room' : ℕ} {n n' count : ℕ} (shared : Option ℕ) (e : Entry) (opened : Bool) → shared ≡ None → is_known K e.conn ≡ true → e.end ≡ (A e.conn).end + length e.bytes → 0 < length e.bytes
     → NotBefore e.taken (times_of (sends_of E)) → opened ≡ is_open_account (A e.conn) → E' ≡ E ++ e ∷ [] → count ≡ length E + 1 → n' ≡ (if opened then n else if nat_lt (n + 1) count then n else n + 1)
     → Holds A K E own room shared n → Holds (put A e.conn (record (A e.conn) { end = e.end })) K E' own room' shared n'
 holds-sent (Some k) e opened none known end some later is items long place h = absurd (let no : ⊥ = cc (none) in no)
 holds-sent {A = A} {K = K} {E = E} {own = own} {room' = room'} {n = n} {n' = n'} {count = count} None e opened none known end some later is items long place h =
+    let there : e.end ≡ (A e.conn).earlier + length (sent_to e.conn (sends_of E)) + length e.bytes = omega (arith, end, h.writes.ends e.conn) in
     subst (λ (l : List Entry). Holds (put A e.conn (record (A e.conn) { end = e.end })) K l own room' None n') (sym items) (record {
       stands = stands-ends A (put A e.conn (record (A e.conn) { end = e.end })) (put-same (λ (k : Kept). record k { end = 0 }) A e.conn (record (A e.conn) { end = e.end }) refl) (record {
         distinct = h.stands.distinct;
@@ -148,9 +126,6 @@ holds-sent {A = A} {K = K} {E = E} {own = own} {room' = room'} {n = n} {n' = n'}
       writes = writes-push e h.writes known end later;
       room = tt;
     })
-  where
-    there : e.end ≡ (A e.conn).earlier + length (sent_to e.conn (sends_of E)) + length e.bytes
-    there = omega (arith, end, h.writes.ends e.conn)
 
 -- the connections are seen as before
 pub sent-shown : {E E' : List Entry} {n : ℕ} {new : List (ℕ × Kept)} (T : List (ℕ × Kept)) (conn end : ℕ) (more : List Entry) → Stands (account_at T) (keys_of T) E n → new ≡ set_value (nat_eq conn) T (record (account_at T conn) { end = end }) → is_known (keys_of T) conn ≡ true
@@ -165,17 +140,16 @@ sent-shown {E = E} {E' = E'} T conn end more h is known items =
 -- the streams are counted anew
 pub holds-recounted : {A B : ℕ → Kept} {K K' : List ℕ} {E own own' : List Entry} {room room' : ℕ} {shared shared' : Option ℕ} {n : ℕ} (count : ℕ) → K' ≡ K → ((q : ℕ) → B q ≡ ending A (take count E) q) → written E own' shared' ≡ take count E
     → HasRoom E own' room' shared' → Holds A K E own room shared n → Holds B K' E own' room' shared' n
-holds-recounted {A = A} {B = B} {K = K} {E = E} {own' = own'} {room' = room'} {shared' = shared'} {n = n} count keys at is room h = subst (λ (l : List ℕ). Holds B l E own' room' shared' n) (sym keys) (record {
-  stands = stands-ends A B (λ q. ap (λ (k : Kept). record k { end = 0 }) (at q)) h.stands;
-  writes = subst (Writes B K) (sym is) (record {
-    laid = laid-same earlier (λ q x. x) (laid-take E count h.stands.laid);
-    ends = λ q. ap (λ (k : Kept). k.end) (at q) ∙ ap (λ (m : ℕ). m + length (sent_to q (sends_of (take count E)))) (sym (earlier q));
-  });
-  room = room;
-})
-  where
-    earlier : (q : ℕ) → (B q).earlier ≡ (A q).earlier
-    earlier q = ap (λ (k : Kept). k.earlier) (at q)
+holds-recounted {A = A} {B = B} {K = K} {E = E} {own' = own'} {room' = room'} {shared' = shared'} {n = n} count keys at is room h =
+    let earlier : (q : ℕ) → (B q).earlier ≡ (A q).earlier = λ (q : ℕ). ap (λ (k : Kept). k.earlier) (at q) in
+    subst (λ (l : List ℕ). Holds B l E own' room' shared' n) (sym keys) (record {
+      stands = stands-ends A B (λ q. ap (λ (k : Kept). record k { end = 0 }) (at q)) h.stands;
+      writes = subst (Writes B K) (sym is) (record {
+        laid = laid-same earlier (λ q x. x) (laid-front (take count E) (drop count E) (subst (Laid A K) (sym (take-append-drop count E)) h.stands.laid));
+        ends = λ q. ap (λ (k : Kept). k.end) (at q) ∙ ap (λ (m : ℕ). m + length (sent_to q (sends_of (take count E)))) (sym (earlier q));
+      });
+      room = room;
+    })
 
 pub seen-recounted : (S : List Send) (A B : ℕ → Kept) (K K' : List ℕ) (W : List Entry) → K' ≡ K → ((q : ℕ) → B q ≡ ending A W q) → connections_of S B K' ≡ connections_of S A K
 seen-recounted S A B K K' W keys at = ap (connections_of S B) keys ∙ connections-same S S A B K (λ q. ap (seen S q) (at q))
@@ -203,20 +177,18 @@ agree-self (x ∷ xs) ys = and_from (x == x) (agree xs (xs ++ ys)) (eq-eqb x x r
 pub agree-front : (xs ys zs : List ℕ) → agree xs (ys ++ zs) ≡ true → agree xs ys ≡ true
 agree-front xs ys zs h = (and_parts (agree xs ys) _ (sym (agree-split xs ys zs) ∙ h)).0
 
-prefix-agree : (xs ys : List ℕ) (front : List ℕ) → Prefix xs ys → Prefix front ys → agree front xs ≡ true
-prefix-agree xs ys front p q = agree-front front xs p.0 (ap (agree front) (p.1 ∙ sym q.1) ∙ agree-self front q.0)
-
 pub begun-agrees : (A : ℕ → Kept) (K : List ℕ) (E own : List Entry) (k q : ℕ) → own ≡ [] → (is_known K q ≡ false → A q ≡ no_account) → agree (sent_to q (sends_of (take k E ++ own))) (bytes_of (stamped_to (connections_of (sends_of E) A K) q)) ≡ true
 begun-agrees A K E own k q empty none =
     ap (λ (l : List Entry). agree (sent_to q (sends_of l)) (bytes_of (stamped_to (connections_of (sends_of E) A K) q))) (ap (λ (l : List Entry). take k E ++ l) empty ∙ append-nil (take k E))
-    ∙ prefix-agree (bytes_of (stamped_to (connections_of (sends_of E) A K) q)) (sent_to q (sends_of E)) (sent_to q (sends_of (take k E))) (passed-front A K E q none) (sent_to q (sends_of (drop k E)), sym (parts_at q k E))
+    ∙ agree-front (sent_to q (sends_of (take k E))) (bytes_of (stamped_to (connections_of (sends_of E) A K) q)) (passed-front A K E q none).0
+    (ap (agree (sent_to q (sends_of (take k E)))) ((passed-front A K E q none).1 ∙ parts_at q k E) ∙ agree-self (sent_to q (sends_of (take k E))) (sent_to q (sends_of (drop k E))))
 
 -- a longer trial agrees where its new bytes do
 pub agree-append : (xs more ys : List ℕ) → agree (xs ++ more) ys ≡ (agree xs ys && agree more (drop (length xs) ys))
 unfolding agree
 agree-append [] more ys = refl
 agree-append (x ∷ xs) more [] = sym (agree-past more [] (suc (length xs)) (omega arith))
-agree-append (x ∷ xs) more (y ∷ ys) = ap (λ (b : Bool). (x == y) && b) (agree-append xs more ys) ∙ and_assoc (x == y) (agree xs ys) (agree more (drop (length xs) ys))
+agree-append (x ∷ xs) more (y ∷ ys) = ap (λ (b : Bool). (x == y) && b) (agree-append xs more ys) ∙ sym (and_assoc (x == y) (agree xs ys) (agree more (drop (length xs) ys)))
 
 -- where the trial agrees, it covers what is no longer than it
 pub agree-prefix : (xs ys : List ℕ) → agree xs ys ≡ true → length ys ≤ length xs → Prefix ys xs
@@ -285,20 +257,23 @@ compared-with {A = A} {K = K} {E = E} {own = own} {shared = shared} conn F none 
     (λ i. drop (behind i) (sym (passed-bytes (sends_of E) A K conn none) i))
 
 -- whether a trial that agrees covers a part of what was passed to each connection
-pub covers-says : (T : List (ℕ × Kept)) (F : List Send) (counts : Kept → ℕ) (part : ℕ → List ℕ) → IsDistinct nat_eq (keys_of T) → counts no_account ≡ 0 → ((q : ℕ) → length (part q) ≡ counts (account_at T q)) → ((q : ℕ) → agree (sent_to q F) (part q) ≡ true)
-    → ((q : ℕ) → (account_at T q).end ≡ (account_at T q).earlier + length (sent_to q F))
-    → (list_all (λ (k : Kept). nat_le (k.earlier + counts k) k.end) (values_of T) ≡ true → (q : ℕ) → Prefix (part q) (sent_to q F)) × (((q : ℕ) → Prefix (part q) (sent_to q F)) → list_all (λ (k : Kept). nat_le (k.earlier + counts k) k.end) (values_of T) ≡ true)
-covers-says T F counts part distinct none long agrees ends = (
-  (λ all q.
-      let le = leb-true _ _ (all_pass (λ (k : Kept). nat_le (k.earlier + counts k) k.end) T (le-leb _ _ (omega (arith, none))) all q) in
-      agree-prefix (sent_to q F) (part q) (agrees q) (omega (arith, le, long q, ends q))),
-  (λ covers. pass_all (λ (k : Kept). nat_le (k.earlier + counts k) k.end) T distinct (λ q. le-leb _ _ (omega (arith, prefix-le (part q) (sent_to q F) (covers q), long q, ends q)))),
-)
+pub covers-says : {E own : List Entry} {room n : ℕ} {shared : Option ℕ} (T : List (ℕ × Kept)) (counts : Kept → ℕ) (part : ℕ → List ℕ) → counts no_account ≡ 0 → ((q : ℕ) → length (part q) ≡ counts (account_at T q)) → ((q : ℕ) → agree (sent_to q (unwrap_or (trial_of E own shared) [])) (part q) ≡ true) → IsSome (trial_of E own shared)
+    → Holds (account_at T) (keys_of T) E own room shared n
+    → (list_all (λ (k : Kept). nat_le (k.earlier + counts k) k.end) (values_of T) ≡ true → (q : ℕ) → Prefix (part q) (sent_to q (unwrap_or (trial_of E own shared) []))) × (((q : ℕ) → Prefix (part q) (sent_to q (unwrap_or (trial_of E own shared) []))) → list_all (λ (k : Kept). nat_le (k.earlier + counts k) k.end) (values_of T) ≡ true)
+covers-says {E = E} {own = own} {shared = shared} T counts part none long agrees some h =
+    let F : List Send = unwrap_or (trial_of E own shared) [] in
+    let ends : (q : ℕ) → (account_at T q).end ≡ (account_at T q).earlier + length (sent_to q F) = λ (q : ℕ). h.writes.ends q ∙ ap (λ (l : List Send). (account_at T q).earlier + length (sent_to q l)) (written-is E own shared some) in (
+      (λ all q.
+          let le = leb-true _ _ (all_pass (λ (k : Kept). nat_le (k.earlier + counts k) k.end) T (le-leb _ _ (omega (arith, none))) all q) in
+          agree-prefix (sent_to q F) (part q) (agrees q) (omega (arith, le, long q, ends q))),
+      (λ covers. pass_all (λ (k : Kept). nat_le (k.earlier + counts k) k.end) T h.stands.distinct (λ q. le-leb _ _ (omega (arith, prefix-le (part q) (sent_to q F) (covers q), long q, ends q)))),
+    )
 
 -- the trial is adopted
-pub holds-adopted : {A : ℕ → Kept} {K : List ℕ} {E E' own own' : List Entry} {room room' k n n' : ℕ} → ((q : ℕ) → is_known K q ≡ false → A q ≡ no_account)
-    → ((q : ℕ) → Prefix (bytes_of (stamped_to (connections_of (sends_of E) A K) q)) (sent_to q (sends_of (take k E ++ own)))) → E' ≡ take k E ++ own → n' ≡ position_or_len (waits_in A) E' → Holds A K E own room (Some k) n → Holds A K E' own' room' None n'
-holds-adopted {A = A} {K = K} {E = E} {own = own} {own' = own'} {room' = room'} {k = k} {n' = n'} none covers items cursor h =
+pub holds-adopted : {A : ℕ → Kept} {K : List ℕ} {E E' own own' : List Entry} {room room' n n' : ℕ} (shared : Option ℕ) → IsSome (trial_of E own shared) → ((q : ℕ) → is_known K q ≡ false → A q ≡ no_account)
+    → ((q : ℕ) → Prefix (bytes_of (stamped_to (connections_of (sends_of E) A K) q)) (sent_to q (unwrap_or (trial_of E own shared) []))) → E' ≡ written E own shared → n' ≡ position_or_len (waits_in A) E' → Holds A K E own room shared n → Holds A K E' own' room' None n'
+holds-adopted None some none covers items cursor h = absurd (true≢false (sym some))
+holds-adopted {A = A} {K = K} {E = E} {own = own} {own' = own'} {room' = room'} {n' = n'} (Some k) some none covers items cursor h =
     subst (λ (l : List Entry). n' ≡ position_or_len (waits_in A) l → Holds A K l own' room' None n') (sym items) (λ at. record {
       stands = record {
         distinct = h.stands.distinct;
@@ -318,44 +293,24 @@ seen-adopted {A = A} {K = K} {E = E} S none h covers = connections-same (sends_o
     (passed_of-same (sent_to q (sends_of E)) (sent_to q S) (A q).stamps (h.fits q) (subst (λ (l : List Passed). Prefix (bytes_of l) (sent_to q S)) (stamped_to-of (sends_of E) A K q (none q)) (covers q))))
 
 -- there is room for a trial's own sends behind those that it shares
-pub adopt-room : {A : ℕ → Kept} {K : List ℕ} {E own : List Entry} {room k n len new_len own_len new_room : ℕ} → Holds A K E own room (Some k) n → len ≡ length E → own_len ≡ length own → new_len ≡ min k len → new_room ≡ room → new_len + own_len ≤ new_room
-adopt-room h a b m r = omega (arith, h.room.0, h.room.1, a, b, m, r)
+pub appended : {A : ℕ → Kept} {K : List ℕ} {E own shares all : List Entry} {room k n len new_len own_len new_room : ℕ} {shared : Option ℕ} {fitted : Bool} → shared ≡ Some k → Holds A K E own room shared n → len ≡ length E → own_len ≡ length own → new_len ≡ min k len → new_room ≡ room
+    → (new_len + own_len ≤ new_room → fitted ≡ true) → shares ≡ take k E → all ≡ (if fitted then shares ++ own else shares) → all ≡ written E own shared
+appended {E = E} {own = own} {room = room} is h a b m r succeeds front whole =
+    let fits = subst (HasRoom E own room) is h.room in
+    whole ∙ (λ i. if succeeds (omega (arith, fits.0, fits.1, a, b, m, r)) i then front i ++ own else front i) ∙ ap (written E own) (sym is)
 
 -- more was passed
-order-replicate : (xs : List ℕ) (stamp n : ℕ) → IsInOrder xs → NotBefore stamp xs → IsInOrder (xs ++ replicate n stamp)
-order-replicate [] stamp zero h m = tt
-order-replicate [] stamp (suc n) h m = (all-replicate (λ y. stamp ≤ y) n stamp (omega arith), order-replicate [] stamp n tt tt)
-order-replicate (x ∷ xs) stamp n h m = (all-both (λ y. x ≤ y) xs (replicate n stamp) h.0 (all-replicate (λ y. x ≤ y) n stamp m.0), order-replicate xs stamp n h.1 m.1)
-
 abbrev pub passed_account : Kept → ℕ → ℕ → Kept
 passed_account k count stamp = record k { stamps = k.stamps ++ replicate count stamp }
 
 pub passed-later : {n : ℕ} {new : List (ℕ × Kept)} (T : List (ℕ × Kept)) (E : List Entry) (conn count stamp : ℕ) → new ≡ set_value (nat_eq conn) T (passed_account (account_at T conn) count stamp) → is_known (keys_of T) conn ≡ true
     → n ≡ position_or_len (waits_in (account_at T)) E → n ≤ position_or_len (waits_in (account_at new)) E
-passed-later {n = n} T E conn count stamp is known at = of_written (λ B l. n ≤ position_or_len (waits_in B) E) T conn (passed_account (account_at T conn) count stamp) is known
-    (cursor-later (account_at T) (put (account_at T) conn (passed_account (account_at T conn) count stamp)) E
-    (λ q h. sym (put-same is_open_account (account_at T) conn (passed_account (account_at T conn) count stamp) refl q) ∙ h)
-    (at-put (λ q x. passed_end (account_at T q) ≤ passed_end x) (account_at T) conn (passed_account (account_at T conn) count stamp) (omega (arith, length-append (account_at T conn).stamps (replicate count stamp))) (λ q none. omega arith)) at)
+passed-later T E conn count stamp is known at = cursor-later T E conn (passed_account (account_at T conn) count stamp) is known (λ h. h) (omega (arith, length-append (account_at T conn).stamps (replicate count stamp))) at
 
 pub holds-passed : {A : ℕ → Kept} {K : List ℕ} {E own : List Entry} {room : ℕ} {shared : Option ℕ} {n n' : ℕ} (conn count stamp : ℕ) → length (A conn).stamps + count ≤ length (sent_to conn (sends_of E)) → NotBefore stamp (A conn).stamps
     → n' ≡ position_or_len (waits_in (put A conn (passed_account (A conn) count stamp))) E → Holds A K E own room shared n → Holds (put A conn (passed_account (A conn) count stamp)) K E own room shared n'
-holds-passed {A = A} {E = E} {own = own} {shared = shared} conn count stamp few later cursor h = record {
-  stands = record {
-    distinct = h.stands.distinct;
-    laid = laid-same earlier (λ q x. x) h.stands.laid;
-    fits = at-put (λ q x. length x.stamps ≤ length (sent_to q (sends_of E))) A conn (passed_account (A conn) count stamp) (omega (arith, few, length-append (A conn).stamps (replicate count stamp), length-replicate count stamp)) (λ q none. h.stands.fits q);
-    stamps = at-put (λ q x. IsInOrder x.stamps) A conn (passed_account (A conn) count stamp) (order-replicate (A conn).stamps stamp count (h.stands.stamps conn) later) (λ q none. h.stands.stamps q);
-    cursor = cursor;
-  };
-  writes = record {
-    laid = laid-same earlier (λ q x. x) h.writes.laid;
-    ends = λ q. put-same (λ (k : Kept). k.end) A conn (passed_account (A conn) count stamp) refl q ∙ h.writes.ends q ∙ ap (λ (m : ℕ). m + length (sent_to q (sends_of (written E own shared)))) (sym (earlier q));
-  };
-  room = h.room;
-}
-  where
-    earlier : (q : ℕ) → (put A conn (passed_account (A conn) count stamp) q).earlier ≡ (A q).earlier
-    earlier q = put-same (λ (k : Kept). k.earlier) A conn (passed_account (A conn) count stamp) refl q
+holds-passed {A = A} conn count stamp few later cursor h = holds-put conn (passed_account (A conn) count stamp) refl
+    (omega (arith, few, length-append (A conn).stamps (replicate count stamp), length-replicate count stamp), order-push (A conn).stamps stamp count (h.stands.stamps conn) later) refl h.stands.distinct (λ q x. x) cursor h
 
 pub passed-shown : {E : List Entry} {n : ℕ} {new : List (ℕ × Kept)} (T : List (ℕ × Kept)) (conn count stamp : ℕ) → Stands (account_at T) (keys_of T) E n → new ≡ set_value (nat_eq conn) T (passed_account (account_at T conn) count stamp) → is_known (keys_of T) conn ≡ true
     → connections_of (sends_of E) (account_at new) (keys_of new) ≡ changed conn (passed_connection (stamped stamp (take count (drop (length (bytes_of (stamped_to (connections_of (sends_of E) (account_at T) (keys_of T)) conn))) (sent_to conn (sends_of E)))))) (connections_of (sends_of E) (account_at T) (keys_of T))
@@ -369,40 +324,30 @@ passed-shown {E = E} T conn count stamp h is known =
 
 -- where the survivor's streams end
 pub sent-ends : {A : ℕ → Kept} {K : List ℕ} {E own : List Entry} {room n : ℕ} (shared : Option ℕ) → shared ≡ None → Holds A K E own room shared n → Writes A K E
-sent-ends None none h = h.writes
-sent-ends (Some k) none h = absurd (let no : ⊥ = cc (none) in no)
+sent-ends {A = A} {K = K} {E = E} {own = own} shared none h = subst (λ (o : Option ℕ). Writes A K (written E own o)) none h.writes
 
 -- the settled sends of an open connection are passed wholly
 settled-passed : {A : ℕ → Kept} {K : List ℕ} {E : List Entry} {n : ℕ} (count q : ℕ) → Stands A K E n → count ≤ n → is_open_account (A q) ≡ true → length (sent_to q (sends_of (take count E))) ≤ length (A q).stamps
 unfolding sends_of
 settled-passed zero q h le o = omega arith
-settled-passed {A = A} {E = E} {n = n} (suc count) q h le o = by (d.conn == q) refl (settled-passed count q h (omega (arith, le)) o)
-  where
-    d : Entry
-    d = get_or E count (record { conn = 0; bytes = []; taken = 0; end = 0 })
-
-    within : count < length E
-    within = omega (arith, le, h.cursor, position-le (waits_in A) E)
-
-    by : (b : Bool) → d.conn == q ≡ b → length (sent_to q (sends_of (take count E))) ≤ length (A q).stamps → length (sent_to q (sends_of (take (suc count) E))) ≤ length (A q).stamps
-    by true p ih =
-        let none : Entry = record { conn = 0; bytes = []; taken = 0; end = 0 } in
-        let same : d.conn ≡ q = eqb-true d.conn q p in
-        let more : length (sent_to q (sends_of (take (suc count) E))) ≡ length (sent_to q (sends_of (take count E))) + length d.bytes = one_more q count (record { conn = 0; bytes = []; taken = 0; end = 0 }) E within ∙ ap (λ (b : Bool). length (sent_to q (sends_of (take count E))) + (if b then length d.bytes else 0)) p in
-        let place : d.end ≡ (A q).earlier + length (sent_to q (sends_of (take (suc count) E))) = h.laid.places count (record { conn = 0; bytes = []; taken = 0; end = 0 }) within ∙ ap (λ (c : ℕ). (A c).earlier + length (sent_to c (sends_of (take (suc count) E)))) same in
-        let rest : length (rest_of (passed_end (A q)) d) ≡ 0 = ap (λ (c : ℕ). length (rest_of (passed_end (A c)) d)) (sym same) ∙ waits-not A d (ap (λ (c : ℕ). is_open_account (A c)) same ∙ o) (fails_before_first (waits_in A) E count (record { conn = 0; bytes = []; taken = 0; end = 0 }) (omega (arith, le, h.cursor))) in
-        omega (arith, ih, more, place, rest, length-drop (passed_end (A q) - start_of d) d.bytes)
-    by false p ih =
-        let more : length (sent_to q (sends_of (take (suc count) E))) ≡ length (sent_to q (sends_of (take count E))) + 0 = one_more q count (record { conn = 0; bytes = []; taken = 0; end = 0 }) E within ∙ ap (λ (b : Bool). length (sent_to q (sends_of (take count E))) + (if b then length d.bytes else 0)) p in
-        omega (arith, ih, more)
+settled-passed {A = A} {E = E} {n = n} (suc count) q h le o =
+    let none : Entry = record { conn = 0; bytes = []; taken = 0; end = 0 } in
+    let d : Entry = get_or E count none in
+    let within : count < length E = omega (arith, le, h.cursor, position-le (waits_in A) E) in
+    let ih = settled-passed count q h (omega (arith, le)) o in
+    tested (d.conn == q)
+    (λ p. subst (λ (c : ℕ). is_open_account (A c) ≡ true → length (sent_to c (sends_of (take count E))) ≤ length (A c).stamps → length (sent_to c (sends_of (take (suc count) E))) ≤ length (A c).stamps) (eqb-true d.conn q p) (λ opened so_far.
+    let whole = waits-not A d opened (fails_before_first (waits_in A) E count none (omega (arith, le, h.cursor))) in
+    let more = one_more d.conn count d E within (get_or_default E count none d within) (eq-eqb d.conn d.conn refl) in
+    omega (arith, so_far, more, whole, h.laid.places count none within, length-drop (passed_end (A d.conn) - start_of d) d.bytes)) o ih)
+    (λ p. omega (arith, ih, one_more q count d E within (get_or_default E count none d within) p))
 
 -- so the sends behind them wait as before
-waits-trimmed : {A : ℕ → Kept} {K : List ℕ} {E : List Entry} {n : ℕ} (count : ℕ) (e : Entry) → Stands A K E n → count ≤ n → (b : Bool) → is_open_account (A e.conn) ≡ b → waits_in (given_up A (take count E)) e ≡ waits_in A e
-waits-trimmed {A = A} {E = E} count e h le true o =
-    let place : passed_end (given_up A (take count E) e.conn) ≡ passed_end (A e.conn) = omega (arith, settled-passed count e.conn h le o, length-drop (length (sent_to e.conn (sends_of (take count E)))) (A e.conn).stamps) in
-    ap (λ (m : ℕ). is_open_account (A e.conn) && nat_lt 0 (length (rest_of m e))) place
-waits-trimmed {A = A} {E = E} count e h le false o =
-    ap (λ (b : Bool). b && nat_lt 0 (length (rest_of (passed_end (given_up A (take count E) e.conn)) e))) o ∙ sym (ap (λ (b : Bool). b && nat_lt 0 (length (rest_of (passed_end (A e.conn)) e))) o)
+waits-trimmed : {A : ℕ → Kept} {K : List ℕ} {E : List Entry} {n : ℕ} (count : ℕ) (e : Entry) → Stands A K E n → count ≤ n → waits_in (given_up A (take count E)) e ≡ waits_in A e
+waits-trimmed {A = A} {E = E} count e h le = tested (is_open_account (A e.conn))
+    (λ o. let place : passed_end (given_up A (take count E) e.conn) ≡ passed_end (A e.conn) = omega (arith, settled-passed count e.conn h le o, length-drop (length (sent_to e.conn (sends_of (take count E)))) (A e.conn).stamps) in
+    ap (λ (m : ℕ). is_open_account (A e.conn) && nat_lt 0 (length (rest_of m e))) place)
+    (λ o. and_left (is_open_account (A e.conn)) _ o ∙ sym (and_left (is_open_account (A e.conn)) _ o))
 
 pub prefix-drop : (front rest passed : List ℕ) → Prefix passed (front ++ rest) → Prefix (drop (length front) passed) rest
 prefix-drop [] rest passed p = p
@@ -411,17 +356,16 @@ prefix-drop (f ∷ front) rest (x ∷ passed) p = prefix-drop front rest passed 
 
 pub bytes_of-drop : (n : ℕ) (xs : List Passed) → bytes_of (drop n xs) ≡ drop n (bytes_of xs)
 unfolding bytes_of
-bytes_of-drop zero xs = refl
-bytes_of-drop (suc n) [] = refl
-bytes_of-drop (suc n) (x ∷ xs) = bytes_of-drop n xs
+bytes_of-drop n xs = sym (drop-map (λ (p : Passed). p.byte) n xs)
 
 order-drop : (n : ℕ) (xs : List ℕ) → IsInOrder xs → IsInOrder (drop n xs)
-order-drop n xs h = order-behind (take n xs) (drop n xs) (subst IsInOrder (sym (take-append-drop n xs)) h)
+order-drop n xs h = (order-parts (take n xs) (drop n xs) (subst IsInOrder (sym (take-append-drop n xs)) h)).1
 
 pub holds-trimmed : {A B : ℕ → Kept} {K K' : List ℕ} {E E' own own' : List Entry} {room room' n n' : ℕ} (count : ℕ) (shared : Option ℕ) → shared ≡ None → count ≤ n → K' ≡ K → ((q : ℕ) → B q ≡ given_up A (take count E) q) → E' ≡ drop count E → n' ≡ n - count
     → Holds A K E own room shared n → Holds B K' E' own' room' shared n'
 holds-trimmed count (Some k) none le keys at left place h = absurd (let no : ⊥ = cc (none) in no)
 holds-trimmed {A = A} {B = B} {K = K} {E = E} {E' = E'} {own' = own'} {room' = room'} {n = n} {n' = n'} count None none le keys at left place h =
+    let laid : Laid B K (drop count E) = laid-drop E count h.stands.laid (omega (arith, le, h.stands.cursor, position-le (waits_in A) E)) (λ q. ap (λ (k : Kept). k.earlier) (at q)) in
     subst (λ (l : List ℕ). Holds B l E' own' room' None n') (sym keys) (subst (λ (l : List Entry). Holds B K l own' room' None n') (sym left) (record {
       stands = record {
         distinct = h.stands.distinct;
@@ -430,21 +374,19 @@ holds-trimmed {A = A} {B = B} {K = K} {E = E} {E' = E'} {own' = own'} {room' = r
         stamps = λ q. subst (λ (k : Kept). IsInOrder k.stamps) (sym (at q)) (order-drop (length (sent_to q (sends_of (take count E)))) (A q).stamps (h.stands.stamps q));
         cursor =
             let moved = position-drop (waits_in A) E count (omega (arith, le, h.stands.cursor)) in
-            let same = position-same (waits_in (given_up A (take count E))) (waits_in A) (drop count E) (λ k d lt. waits-trimmed count (get_or (drop count E) k d) h.stands le (is_open_account (A (get_or (drop count E) k d).conn)) refl) in
+            let same = position-same (waits_in (given_up A (take count E))) (waits_in A) (drop count E) (λ k d lt. waits-trimmed count (get_or (drop count E) k d) h.stands le) in
             let here : n' ≡ position_or_len (waits_in (given_up A (take count E))) (drop count E) = omega (arith, moved, same, h.stands.cursor, place) in
             here ∙ (λ i. position_or_len (λ (e : Entry). is_open_account (sym (at e.conn) i) && nat_lt 0 (length (rest_of (passed_end (sym (at e.conn) i)) e))) (drop count E));
       };
       writes = record { laid = laid; ends = λ q. omega (arith, h.writes.ends q, ap (λ (k : Kept). k.end) (at q), ap (λ (k : Kept). k.earlier) (at q), lengths_at q count E) };
       room = tt;
     }))
-  where
-    laid : Laid B K (drop count E)
-    laid = laid-drop E count h.stands.laid (omega (arith, le, h.stands.cursor, position-le (waits_in A) E)) (λ q. ap (λ (k : Kept). k.earlier) (at q))
 
 pub seen-trimmed : (A B : ℕ → Kept) (K K' : List ℕ) (E E' : List Entry) (count : ℕ) → K' ≡ K → ((q : ℕ) → B q ≡ given_up A (take count E) q) → E' ≡ drop count E
     → connections_of (sends_of E') B K' ≡ trimmed_connections (take count (sends_of E)) (connections_of (sends_of E) A K)
+unfolding trimmed_connections
 seen-trimmed A B K K' E E' count keys at left =
-    ap (connections_of (sends_of E') B) keys ∙ connections-trimmed (sends_of E) (sends_of E') A B (sends_of (take count E)) K (λ q. ap (seen (sends_of E') q) (at q)
+    ap (connections_of (sends_of E') B) keys ∙ connections-each (sends_of E) (sends_of E') A B (trimmed_connection (sends_of (take count E))) K (λ q. ap (seen (sends_of E') q) (at q)
     ∙ ap (λ (l : List Passed). record { conn = q; closed = (A q).closed; gone = (A q).gone; earlier = (A q).earlier + length (sent_to q (sends_of (take count E))); passed = l })
     (ap (λ (l : List ℕ). passed_of l (drop (length (sent_to q (sends_of (take count E)))) (A q).stamps)) (ap (λ (l : List Entry). sent_to q (sends_of l)) left ∙ sym (behind_front q count E))
     ∙ passed_of-drop (length (sent_to q (sends_of (take count E)))) (sent_to q (sends_of E)) (A q).stamps))
@@ -534,13 +476,7 @@ rests-bytes A conn at e part place is t =
 
 pub rests-more : (A : ℕ → Kept) (conn i : ℕ) (E : List Entry) (e : Entry) → i < length E → e ≡ get_or E i e → rests A conn e ≡ false → ((k : ℕ) (d : Entry) → k < i → rests A conn (get_or E k d) ≡ false)
     → (k : ℕ) (d : Entry) → k < i + 1 → rests A conn (get_or E k d) ≡ false
-rests-more A conn i E e lt is f h k d below = by (cases_lt k i)
-  where
-    by : (k < i) ⊎ (i ≤ k) → rests A conn (get_or E k d) ≡ false
-    by (inl before) = h k d before
-    by (inr behind) =
-        let at : k ≡ i = omega (arith, below, behind) in
-        ap (rests A conn) (ap (λ (n : ℕ). get_or E n d) at ∙ get_or_default E i d e lt ∙ sym is) ∙ f
+rests-more A conn i E e lt is f h k d below = below_more (λ k. (d : Entry) → rests A conn (get_or E k d) ≡ false) i (λ k before d. h k d before) (λ d. ap (rests A conn) (get_or_default E i d e lt ∙ sym is) ∙ f) k below d
 
 -- what holds of every ledger
 pub lawful : {E own : List Entry} {room n first : ℕ} {shared : Option ℕ} {ledger : Ledger} (T : List (ℕ × Kept)) → Holds (account_at T) (keys_of T) E own room shared n
@@ -552,14 +488,11 @@ lawful {E = E} T h is = subst IsLawful is (record {
 })
 
 pub trial-same : (E own E' own' : List Entry) (shared : Option ℕ) → shared ≡ None → trial_of E' own' shared ≡ trial_of E own shared
-trial-same E own E' own' None k = refl
-trial-same E own E' own' (Some n) k = absurd (let no : ⊥ = cc (k) in no)
+trial-same E own E' own' shared none = ap (trial_of E' own') none ∙ sym (ap (trial_of E own) none)
 
 pub ruleset opened = (is_open-of, none_kept)
 
-pub ruleset passing = (passed-later, passed-shown, opened-known)
-
-pub ruleset marking = (marked-later, marked-shown, opened-known)
+pub ruleset changing = (marked-later, marked-shown, passed-later, passed-shown, opened-known)
 
 pub ruleset resting = (rests-more, rests-part)
 
@@ -570,6 +503,4 @@ opened-shown S T conn is none =
 
 pub ruleset opening = (lookup-unknown, unknown-of, opened-shown)
 
-pub ruleset beginning = (length-sends_of)
-
-pub ruleset sending = (position-le, sent-shown, opened-known, sends_of-append, sends_of-one, trial-same, shared-none)
+pub ruleset sending = (length-sends_of, position-le, sent-shown, opened-known, sends_of-append, sends_of-one, trial-same, shared-none)

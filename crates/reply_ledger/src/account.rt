@@ -139,7 +139,7 @@ impl Account {
     }
 
     /// Gives up the oldest bytes of the stream, and what is kept of those that were passed of them.
-    #[tactic(auto, using(crate::proofs::RunLemmas::given_up_runs))]
+    #[tactic(auto, using(crate::proofs::RunLemmas::stamps_past))]
     pub fn give_up(&mut self, count: u64)
         requires { self.old.earlier + count ≤ self.old.end }
         ensures { self.new ≡ record self.old { earlier = self.old.earlier + count; stamps = drop count self.old.stamps } }

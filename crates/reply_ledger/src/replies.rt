@@ -87,7 +87,7 @@ impl Replies {
     }
 
     /// Marks a connection closed. Nothing more is due on it.
-    #[tactic(auto, using(crate::proofs::StandsLemmas::marking))]
+    #[tactic(auto, using(crate::proofs::StandsLemmas::changing))]
     pub fn closes(&mut self, conn: u16)
         requires { IsOpened self.old conn }
         ensures { self.new ≡ with_change self.old conn closed_connection }
@@ -97,7 +97,7 @@ impl Replies {
     }
 
     /// Marks a connection gone: its link takes nothing more.
-    #[tactic(auto, using(crate::proofs::StandsLemmas::marking))]
+    #[tactic(auto, using(crate::proofs::StandsLemmas::changing))]
     pub fn gone(&mut self, conn: u16)
         requires { IsOpened self.old conn }
         ensures { self.new ≡ with_change self.old conn gone_connection }
@@ -140,7 +140,7 @@ impl Replies {
     }
 
     /// A trial begins: its sends are the survivor's first so many.
-    #[tactic(auto, using(crate::proofs::StandsLemmas::beginning))]
+    #[tactic(auto, using(crate::proofs::StandsLemmas::sending))]
     pub fn begin_trial(&mut self, sends: u64)
         requires survivor { self.old.trial ≡ None }
         requires kept { self.old.first ≤ sends }
@@ -275,7 +275,7 @@ impl Replies {
     }
 
     /// The next bytes of a connection's stream were passed with so many items received.
-    #[tactic(auto, using(crate::proofs::StandsLemmas::passing))]
+    #[tactic(auto, using(crate::proofs::StandsLemmas::changing))]
     pub fn passed(&mut self, conn: u16, count: usize, stamp: u64) -> Result<(), AllocError>
         requires survivor { self.old.trial ≡ None }
         requires opened { IsOpened self.old conn }

@@ -34,11 +34,13 @@ pub enum Answer {
     AsmRefused { kind: u8, line: u32 },
     /// The record file has no reading from this line on.
     RecordRefused { line: u32 },
+    /// The report file has no reading from this line on.
+    ReportRefused { line: u32 },
     /// The file of counts has no reading from this line on.
     CountsRefused { line: u32 },
-    /// A client has more bytes than the recorded run gave it.
+    /// The client of this connection has more bytes than the run that was followed sent it.
     Short { conn: u16 },
-    /// The recorded run doesn't go on as recorded after so many steps.
+    /// The run isn't the one that a record or a report tells of, from so many steps on.
     Mismatch { step: u64 },
     /// A loaded file has more bytes than its limit.
     TooLarge,

@@ -1,6 +1,6 @@
 -- The status with which the program ends.
 use Rattle.std.specs.Prelude.{ℕ, if◌then◌else◌, ◌==◌}
-use Rattle.rx_serve.specs.Terms.{Answer, AsmRefused, BadWords, CountsRefused, ElfRefused, Exited, FileFault, Finished, GaveUp, InputRefused, LimitEvents, LimitItems, Memory, MessageTooLong, Mismatch, ReadFault, RecordRefused, Short, TooLarge, WriteFault}
+use Rattle.rx_serve.specs.Terms.{Answer, AsmRefused, BadWords, CountsRefused, ElfRefused, Exited, FileFault, Finished, GaveUp, InputRefused, LimitEvents, LimitItems, Memory, MessageTooLong, Mismatch, ReadFault, RecordRefused, ReportRefused, Short, TooLarge, WriteFault}
 
 abbrev pub status_of : Answer → ℕ
 status_of Finished = 0
@@ -9,6 +9,7 @@ status_of BadWords = 2
 status_of (ElfRefused kind) = 3
 status_of (AsmRefused kind line) = 3
 status_of (RecordRefused line) = 3
+status_of (ReportRefused line) = 3
 status_of (CountsRefused line) = 3
 status_of (Short conn) = 3
 status_of (Mismatch step) = 3

@@ -30,7 +30,7 @@ pub use Rattle.elf_image.specs.Image.{heap_end, heap_start, written}
 pub use Rattle.elf_image.specs.Refusals.{IsImage}
 unfoldable pub use Rattle.elf_image.specs.Refusals.{refusal}
 pub use Rattle.run_history.specs.declared.answer.Answer.{Answer}
-pub use Rattle.run_history.specs.declared.answer.Answer.TheVariants.{AsmRefused, BadWords, CountsRefused, ElfRefused, Exited, FileFault, Finished, GaveUp, InputRefused, LimitEvents, LimitItems, Memory, MessageTooLong, Mismatch, ReadFault, RecordRefused, Short, TooLarge, WriteFault}
+pub use Rattle.run_history.specs.declared.answer.Answer.TheVariants.{AsmRefused, BadWords, CountsRefused, ElfRefused, Exited, FileFault, Finished, GaveUp, InputRefused, LimitEvents, LimitItems, Memory, MessageTooLong, Mismatch, ReadFault, RecordRefused, ReportRefused, Short, TooLarge, WriteFault}
 unfoldable pub use Rattle.run_history.specs.Call.{allocated, received}
 pub use Rattle.run_history.specs.Machine.{Chooses, Effect, Emits, Ends, Fails, Goes, Machine, State, Wants}
 unfoldable pub use Rattle.run_history.specs.Machine.{start, start_machine}

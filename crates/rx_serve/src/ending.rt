@@ -37,6 +37,7 @@ pub(crate) fn status_of_answer(answer: Answer) -> u8
         Answer::ElfRefused(_)
         | Answer::AsmRefused { .. }
         | Answer::RecordRefused { .. }
+        | Answer::ReportRefused { .. }
         | Answer::CountsRefused { .. }
         | Answer::Short { .. }
         | Answer::Mismatch { .. }

@@ -2,8 +2,9 @@
 use Rattle.session_history.specs.Terms.{Path}
 use Rattle.follow.proofs.Terms.{Option, Some, arith, inl, inr, subst, ◌<◌, ◌≡◌, IfSome, Stand, Finish, IsFollowed, IsTakeover, Takeover, stopped, plan_in}
 use Rattle.follow.proofs.Agreed.{answers_agree, stuck_has_reached}
+use Rattle.follow.proofs.Placed.{episodes_are_placed}
 use Rattle.follow.proofs.Reached.{follows_before}
-use Rattle.session_following.specs.Answers.{EndsEarly, FilesAndClients, IsShort, IsUnlike, NeitherIsSaid, OtherAnswer, OtherPlace}
+use Rattle.session_following.specs.Answers.{EndsEarly, FilesAndClients, IsShort, IsUnlike, NeitherIsSaid, NoPlan, OtherAnswer, OtherPlace}
 use Rattle.session_following.specs.Reaching.{IsNotReached}
 
 -- before it is released it has fewer instructions than the record's last line
@@ -25,6 +26,7 @@ neither_is_said over path takeover followed whole not_yet = (unlike, short)
       | inr front ↦ other front
     ]
     unlike (OtherPlace finish stand is late apart) = let less = before_finish over path stand finish takeover followed not_yet is in omega (arith, less, late)
+    unlike (NoPlan apart) = apart (episodes_are_placed over takeover)
     unlike (EndsEarly stand stuck less) = not_yet stand (stuck_has_reached over path stand takeover followed whole stuck)
 
     short : (conn : _) → ¬ IsShort over.limits followed.heard over.handed path conn

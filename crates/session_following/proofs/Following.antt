@@ -33,7 +33,7 @@ use Rattle.session_following.specs.Reaching.{HasNotReached, IsNotReached}
 use Rattle.session_following.specs.Standing.{HasJustBegun, story_alone}
 use Rattle.session_following.proofs.Based.{SaysAs, replies_after, same_items, says_itself}
 use Rattle.session_following.proofs.Held.{held_beside, sent_is_held}
-use Rattle.session_following.proofs.Planned.{goes_to, same_steps, says_alike, says_start, says_until, up_to_env, up_to_same}
+use Rattle.session_following.proofs.PlanLemmas.{goes_to, same_steps, says_alike, says_start, says_until, up_to_env, up_to_same}
 use Rattle.session_following.proofs.Reaching.{asked_then, not_more, not_next, not_on}
 use Rattle.session_following.proofs.Rebased.{StandsThere, rebased}
 use Rattle.session_following.proofs.Rings.{says_now}
@@ -46,7 +46,7 @@ in_force_here plan taken session env until = record {
 }
 
 -- one instruction from a request takes the item that it asks for
-took_one : (limits : Limits) (items : List Item) (plan : List Override) (now to : Path) → AsksFor limits plan now now.state.machine.taken → Served limits items plan now to → to.steps ≡ now.steps + 1 → TookOne now to
+pub took_one : (limits : Limits) (items : List Item) (plan : List Override) (now to : Path) → AsksFor limits plan now now.state.machine.taken → Served limits items plan now to → to.steps ≡ now.steps + 1 → TookOne now to
 took_one limits items plan now to asks on one =
     elim (later_of limits items plan now to on) [
       | inl same ↦ absurd (let is : now.steps ≡ to.steps = ap (λ (p : Path). p.steps) same in omega (arith, is, one))
@@ -324,7 +324,7 @@ module _ {R : Type 0} where
       )
 
 -- the start sent nothing, and took nothing
-start_sends : (image : Image) → (origin image).state.sends ≡ []
+pub start_sends : (image : Image) → (origin image).state.sends ≡ []
 unfolding start start_machine
 start_sends image = refl
 

@@ -28,11 +28,11 @@ if_some None P Q so holds = tt
 if_some (Some one) P Q so holds = so one holds
 
 -- Under the other plan, beside a session that has just begun, as many pages were written.
-record WroteAs (rules : Rules) (image : Image) (entries : List Entry) (survivor : Survivor) (others : Rules) (other : Survivor) : Type 0 where
-  each : (pages from to count : ℕ) → HasWritten rules image entries survivor pages from to count → HasWritten others image [] other pages from to count
+pub record WroteAs (rules : Rules) (image : Image) (entries : List Entry) (survivor : Survivor) (others : Rules) (other : Survivor) : Type 0 where
+  pub each : (pages from to count : ℕ) → HasWritten rules image entries survivor pages from to count → HasWritten others image [] other pages from to count
 
 -- all of some requests, and of those behind them
-all_wrote : {rules others : Rules} {image : Image} {entries : List Entry} {survivor other : Survivor} (keeping : Keeping) (from : ℕ) (written : List ℕ) (stands : List Stand) → WroteAs rules image entries survivor others other
+pub all_wrote : {rules others : Rules} {image : Image} {entries : List Entry} {survivor other : Survivor} (keeping : Keeping) (from : ℕ) (written : List ℕ) (stands : List Stand) → WroteAs rules image entries survivor others other
     → AreWritten rules image entries survivor keeping from written stands → AreWritten others image [] other keeping from written stands
 all_wrote keeping from [] stands so are = tt
 all_wrote {rules = rules} {others = others} {image = image} {entries = entries} {survivor = survivor} {other = other} keeping from (written ∷ earlier) stands so are = (
@@ -86,7 +86,7 @@ wrote_as rules image before entries more survivor events had plan other now same
 }
 
 -- what stands where a session with no recovery began
-begun_stands : (rules : Rules) (image : Image) (keeping : Keeping) (from begun : List Stand) (earlier : List (List ℕ)) → AreRinged rules image [] keeping from [] [] earlier begun → begun ≡ from
+pub begun_stands : (rules : Rules) (image : Image) (keeping : Keeping) (from begun : List Stand) (earlier : List (List ℕ)) → AreRinged rules image [] keeping from [] [] earlier begun → begun ≡ from
 begun_stands rules image keeping from begun [] is = is
 begun_stands rules image keeping from begun (one ∷ earlier) is = absurd is
 

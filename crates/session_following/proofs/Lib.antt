@@ -1,6 +1,6 @@
 pub mod Based
 pub mod Held
-pub mod Planned
+pub mod PlanLemmas
 pub mod Rings
 pub mod Handled
 pub mod Reaching
@@ -12,3 +12,14 @@ pub mod Answered
 pub mod Meets
 pub mod Released
 pub mod Hearing
+pub mod Placing
+pub mod Past
+pub mod Lacking
+pub mod Agreement
+pub mod Said
+pub mod Holding
+pub mod Turning
+pub mod Waiting
+pub mod Stopping
+pub mod Releasing
+pub mod TakingOver

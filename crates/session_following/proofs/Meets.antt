@@ -1,5 +1,5 @@
 -- A session that follows meets what the parts of an ordinary one ask for: it stands between two events of its guest, or waits for an item; and a send may be noted.
-use Rattle.links.specs.Links.{Grew, Phases, Told}
+use Rattle.links.specs.Links.{Grew, Phases}
 use Rattle.links.specs.Seen.{Seen}
 use Rattle.reply_ledger.specs.Ledger.{IsOpened, NotBefore, times_of}
 use Rattle.reply_ledger.specs.Shows.{Shows}
@@ -11,12 +11,13 @@ use Rattle.recovery.specs.Watching.{TellsMore}
 use Rattle.recovery.proofs.Sending.{between_behind, times_low}
 use Rattle.session_state.specs.Recovered.{AreTables}
 use Rattle.session_state.specs.Sessions.{SessionState}
-use Rattle.session_state.specs.Standing.{IsBetween, IsGoing, IsWaitingFor, Since, told_since}
+use Rattle.session_state.specs.Standing.{IsBetween, IsGoing, IsWaitingFor, Since}
 use Rattle.session_state.proofs.passing.PassLemmas.{stamped_by}
-use Rattle.follow.proofs.Terms.{List, [], append-nil, arith, drop, subst, sym, true, ℕ, ◌<◌, ◌∙◌, ◌≡◌, Image, LinkEvent, AsksFor, Path, Rules, items_in, held, plan_of, Handed, None, Some, ap, refl, take}
+use Rattle.follow.proofs.Terms.{List, [], append-nil, arith, drop, subst, sym, true, ℕ, ◌<◌, ◌∙◌, ◌≡◌, Image, LinkEvent, AsksFor, Path, Rules, items_in, held, plan_of, Handed, ap, refl, take}
 use Rattle.follow.proofs.Stamps.{held_is_in_order}
 use Rattle.session_following.specs.Following.{plan_up_to}
 use Rattle.session_following.specs.Followed.{IsFollowing, rules_following}
+use Rattle.session_following.specs.Turning.{marked, nothing_told}
 use Rattle.session_following.proofs.Rebased.{just_due, just_going, just_hearing}
 use Rattle.session_following.proofs.Steps.{IsMarked}
 
@@ -51,13 +52,6 @@ module _ {R : Type 0} where
   stamped_following {rules = rules} {image = image} {handed = handed} {events = events} {now = now} {session = session} f =
       stamped_by now.state.machine.taken (subst (Shows session.replies now.state.sends) (append-nil (held handed.counts now.state.sends)) f.stands.replies.shows)
       (held_is_in_order rules.limits (items_in (rules_following rules handed events now).bounds []) (plan_up_to (plan_of handed.episodes) now.state.machine.taken) image now handed.counts f.stands.sound.carries.served)
-
--- Something told since, of which all is told, and nothing was: what a method of an ordinary session makes of one that follows is told so.
-abbrev pub nothing_told : Told
-nothing_told = record { events = None; pieces = None; journal = Some [] }
-
-abbrev pub marked : Noted → Noted → Since
-marked before now = told_since nothing_told before now (Some []) (Some []) 0
 
 pub is_marked : (before now : Noted) → IsMarked (marked before now) nothing_told
 is_marked before now = record { told = refl; still = refl; tables_before = refl; tables = refl }

@@ -6,7 +6,7 @@ use Rattle.trials.proofs.Results.{apart_asks_fails, apart_ended, asks_on, ended_
 use Rattle.follow.proofs.Terms.{List, Some, [], ap, arith, inl, inr, length, length-append, refl, subst, sym, ℕ, ◌++◌, ◌+◌, ◌<◌, ◌∙◌, ◌∷◌, ◌≡◌, ◌≤◌, ◌⊎◌, cases_lt, Item, LinkEvent, Image, Limits, Override, Path, Served, env_at, origin, planned_next, later_of, served_on, served_with, serves_to, taken_later, Rules, plan_of, AtExit, AtFailure, AtRequest, Handed, HasReached, Stand, AsksForMore, AsksFor}
 use Rattle.session_following.specs.Reaching.{HasAskedBefore, HasNotReached, IsNotReached}
 use Rattle.session_following.specs.Laws.{NotReachedStays}
-use Rattle.session_following.proofs.Planned.{goes_to, same_steps}
+use Rattle.session_following.proofs.PlanLemmas.{goes_to, same_steps}
 
 module _ (limits : Limits) (items : List Item) (image : Image) (handed : Handed) (now : Path) where
   -- a run that stands at a place goes on from there to no other one without taking an item

@@ -29,7 +29,7 @@ use Rattle.session_following.specs.Standing.{begun_story}
 use Rattle.session_following.proofs.Based.{SaysAs, items_after, replies_after}
 use Rattle.session_following.proofs.Following.{items_following, whole_following}
 use Rattle.session_following.proofs.Handled.{handled_after}
-use Rattle.session_following.proofs.Planned.{goes_to, says_alike, up_to_same}
+use Rattle.session_following.proofs.PlanLemmas.{goes_to, says_alike, up_to_same}
 use Rattle.session_following.proofs.Reaching.{not_on}
 use Rattle.session_following.proofs.Rebased.{just_told}
 use Rattle.session_following.proofs.Rings.{carries_after, ring_after, says_now}

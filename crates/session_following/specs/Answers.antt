@@ -2,7 +2,7 @@
 use Rattle.std.specs.Prelude.{◌≡◌, ◌⊎◌, ℕ, ◌<◌, ◌≤◌, List, None, Some, IfSome, length}
 use Rattle.session_history.specs.Terms.{Item, Limits, Path, Prefix, output}
 use Rattle.follow.specs.Terms.{last_or}
-use Rattle.follow.specs.Plans.{plan_of}
+use Rattle.follow.specs.Plans.{AreWellPlaced, plan_of}
 use Rattle.follow.specs.Held.{count_of}
 use Rattle.follow.specs.Handed.{Finish, Handed, HasReached, IsPastFailure, IsStuck, Stand}
 use Rattle.follow.specs.Takeover.{IsFollowed, IsTakeover, Takeover, heard_first}
@@ -20,10 +20,12 @@ abbrev pub IsAtFinish : Handed → Path → Finish → Type 0
 IsAtFinish handed path finish = (handed.finish ≡ Some finish) × (path.steps ≡ finish.steps) × (path.state.machine.taken ≡ finish.taken)
 
 -- Record and report aren't of this program and these items: the run had an answer of the allocator that isn't the record's; or it stands at or behind the record's
--- last line, and not where that says; or it can't go on, and hasn't reached what they tell.
+-- last line, and not where that says; or it can't go on, and hasn't reached what they tell. Or the report is of no session: a trial that it adopts wasn't in force
+-- at its failure.
 pub data IsUnlike (limits : Limits) (items : List Item) (handed : Handed) (path : Path) : Type 0 where
   OtherAnswer : ¬ Prefix handed.choices path.choices → ¬ Prefix path.choices handed.choices → IsUnlike limits items handed path
   OtherPlace : (finish : Finish) → Stand limits (plan_of handed.episodes) path → handed.finish ≡ Some finish → finish.steps ≤ path.steps → ¬ IsAtFinish handed path finish → IsUnlike limits items handed path
+  NoPlan : ¬ AreWellPlaced handed.episodes → IsUnlike limits items handed path
   EndsEarly : (stand : Stand limits (plan_of handed.episodes) path) → IsStuck items stand → ¬ HasReachedFiles limits handed path stand → IsUnlike limits items handed path
 
 -- A client has more than was sent to it: the run can't go on, or stands where the record's last line says, and has reached what record and report tell. The

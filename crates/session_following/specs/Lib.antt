@@ -6,3 +6,10 @@ pub mod Moving
 pub mod Followed
 pub mod Laws
 pub mod Answers
+pub mod HandedOver
+pub mod Placed
+pub mod Missing
+pub mod Judging
+pub mod TakingOver
+pub mod Turning
+pub mod Waiting

@@ -41,6 +41,10 @@ before_heard before event = record before { events = before.events ++ events_in 
 abbrev pub before_start : Image → Env → Before
 before_start image env = came_before [] [] (record { low = 0; until = 1; env = env } ∷ []) (origin image)
 
+-- the same, by where its guest stands then
+abbrev pub before_begun : Standing → Env → Before
+before_begun standing env = came_before [] [] (record { low = 0; until = 1; env = env } ∷ []) (path_at standing [] [])
+
 -- it is released, under the plan of the report
 abbrev pub before_released : Before → List Override → Before
 before_released before plan = record before { plan = plan }

@@ -238,6 +238,7 @@ told_by answer.BadWords same = same
 told_by (answer.ElfRefused number) same = same
 told_by (answer.AsmRefused kind line) same = same
 told_by (answer.RecordRefused line) same = same
+told_by (answer.ReportRefused line) same = same
 told_by (answer.CountsRefused line) same = same
 told_by (answer.Short conn) same = same
 told_by (answer.Mismatch step) same = same

@@ -150,19 +150,19 @@ pub record HeardEvent (bounds : Bounds) (before : List Entry) (all : List Send) 
 
 module _ {bounds : Bounds} {before : List Entry} {all : List Send} {was seen : Seen} {log : Log} {ledger : Ledger} {events : ℕ} (shown : heard_type.Heard) (h : HearsBy bounds before all log ledger events was seen (Ok shown)) where
   event_heard : HeardEvent bounds before all was seen log ledger events h.0
-  event_heard = record { tells = h.2; heard = h.3; phases = h.4; counted = h.5 }
+  event_heard = record { tells = h.1.1; heard = h.1.2; phases = h.1.3; counted = h.1.4 }
 
   pub items_heard : shown ≡ heard.Items → (e : LinkEvent) × IsQuiet e × HeardEvent bounds before all was seen log ledger events e
-  items_heard is = (h.0, shown_items h.0 h.1 is, event_heard)
+  items_heard is = (h.0, shown_items h.0 h.1.0 is, event_heard)
 
   pub close_heard : {conn : ℕ} → shown ≡ heard.Closes conn → HeardEvent bounds before all was seen log ledger events (event.Closes conn)
-  close_heard is = subst (HeardEvent bounds before all was seen log ledger events) (shown_closes h.0 h.1 is) event_heard
+  close_heard is = subst (HeardEvent bounds before all was seen log ledger events) (shown_closes h.0 h.1.0 is) event_heard
 
   pub settle_heard : shown ≡ heard.Settles → HeardEvent bounds before all was seen log ledger events event.Settles
-  settle_heard is = subst (HeardEvent bounds before all was seen log ledger events) (shown_settles h.0 h.1 is) event_heard
+  settle_heard is = subst (HeardEvent bounds before all was seen log ledger events) (shown_settles h.0 h.1.0 is) event_heard
 
   pub end_heard : shown ≡ heard.Ends → HeardEvent bounds before all was seen log ledger events event.Ends
-  end_heard is = subst (HeardEvent bounds before all was seen log ledger events) (shown_ends h.0 h.1 is) event_heard
+  end_heard is = subst (HeardEvent bounds before all was seen log ledger events) (shown_ends h.0 h.1.0 is) event_heard
 
 -- one event more was counted
 pub one_counted : (bounds : Bounds) (before : List Entry) (e : LinkEvent) (old new : ℕ) → IsEvent e → old ≡ length (events_of bounds before) → new ≡ length (events_of bounds (before ++ entry.Took e ∷ [])) → old < new

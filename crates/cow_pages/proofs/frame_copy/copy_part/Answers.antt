@@ -23,9 +23,9 @@ copy_from_slice-requires-else-from-to c =
 pub returns-then-from-to : goal.returns-then-from-to
 returns-then-from-to c =
     put_behind c.args.from c.args.to c.args.count (c.args.from + c.args.count - c.args.from) c.args.pool.now c.split_at_mut-front.result.0.now c.split_at_mut-front.result.1.now c.copy_from_slice.new.self c.split_at_mut-front.ensures.front c.split_at_mut-front.ensures.back
-    (omega (arith, c.requires.apart, c.if-from-to.true)) (omega arith) c.copy_from_slice.ensures.after
+    (omega (arith, c.requires.apart, c.if-from-to.true)) c.requires.fits (omega arith) c.copy_from_slice.ensures.after
 
 pub returns-else-from-to : goal.returns-else-from-to
 returns-else-from-to c =
     put_before c.args.from c.args.to c.args.count (c.args.to + c.args.count - c.args.to) c.args.pool.now c.split_at_mut-front-else-from-to.result.0.now c.split_at_mut-front-else-from-to.result.1.now c.copy_from_slice-else-from-to.new.self
-    c.split_at_mut-front-else-from-to.ensures.front c.split_at_mut-front-else-from-to.ensures.back (omega (arith, c.requires.apart, c.if-from-to.false)) (omega arith) c.copy_from_slice-else-from-to.ensures.after
+    c.split_at_mut-front-else-from-to.ensures.front c.split_at_mut-front-else-from-to.ensures.back (omega (arith, c.requires.apart, c.if-from-to.false)) c.requires.there (omega arith) c.copy_from_slice-else-from-to.ensures.after

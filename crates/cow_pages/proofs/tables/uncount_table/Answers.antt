@@ -1,5 +1,5 @@
-use Rattle.cow_pages.proofs.Lemmas.{has-get_or, apart_there, by_count, by_live, counted_room, rise_none, rise_some, stack_freed, stack_kept, uncounting_all, uncounting_more, uncounting_some}
-use Rattle.cow_pages.proofs.Terms.{arith, get_or, length, subst, sym, true, ◌-◌, ◌<◌, ◌∙◌, ◌≡◌, has}
+use Rattle.cow_pages.proofs.Lemmas.{has-get_or, apart_there, by_count, by_live, counted_room, stack_freed, stack_kept, uncounting_all, uncounting_more, uncounting_some}
+use Rattle.cow_pages.proofs.Terms.{arith, get_or, length, subst, sym, true, ◌-◌, ◌<◌, ◌∙◌, ◌≡◌, nat_tests, has}
 use Rattle.cow_pages.proofs.tables.uncount_table.Goals as goal
 use Rattle.cow_pages.proofs.tables.uncount_table.Goals.{then-count-eq0+then-live-k, then-count-eq0+else-live-k, else-count-eq0}
 
@@ -18,20 +18,20 @@ entries-preserved c =
     let inside : c.entries.k < length c.args.live.now = omega (arith, fits.table_is.size, c.entries-test.true) in
     elim c.if-count-eq0.branch [
       | then-count-eq0+then-live-k w ↦ record {
-        walk = uncounting_more so c.entries-test.true (rise_none _ _ _ w.if-count-eq0.true (omega (arith, w.removed-is)))
+        walk = uncounting_more so c.entries-test.true (grind (arith, nat_tests, w.if-count-eq0.true, w.removed-is))
             (rw (w.free-is, w.push_reserved.ensures.items) (stack_freed _ so.stack some w.if-count-eq0.true (apart_there _ fits.table_is fits.gives.live_is inside (λ e. w.if-live-k.true (sym e)))));
         reserved = rw w.free-is (w.push_reserved.ensures.capacity ∙ c.entries.invariant.reserved);
       }
       | then-count-eq0+else-live-k w ↦
           (let is = subst (λ n. has n c.args.live.now ≡ true) w.if-live-k.false (has-get_or c.args.live.now c.entries.k inside) in
           record {
-            walk = uncounting_more so c.entries-test.true (rise_none _ _ _ w.if-count-eq0.true (omega (arith, w.removed-is))) (rw w.free-is (stack_kept _ _ so.stack (by_live _ _ is) (by_live _ _ is)));
+            walk = uncounting_more so c.entries-test.true (grind (arith, nat_tests, w.if-count-eq0.true, w.removed-is)) (rw w.free-is (stack_kept _ _ so.stack (by_live _ _ is) (by_live _ _ is)));
             reserved = rw w.free-is c.entries.invariant.reserved;
           })
       | else-count-eq0 w ↦
           (let still : 0 < get_or c.entries.counts (get_or c.args.table.now c.entries.k 0) 0 - 1 = omega (arith, w.if-count-eq0.false) in
           record {
-            walk = uncounting_more so c.entries-test.true (rise_some _ _ _ w.if-count-eq0.false (omega (arith, w.removed-is))) (rw w.free-is (stack_kept _ _ so.stack (by_count _ _ some) (by_count _ _ still)));
+            walk = uncounting_more so c.entries-test.true (grind (arith, nat_tests, w.if-count-eq0.false, w.removed-is)) (rw w.free-is (stack_kept _ _ so.stack (by_count _ _ some) (by_count _ _ still)));
             reserved = rw w.free-is c.entries.invariant.reserved;
           })
     ]

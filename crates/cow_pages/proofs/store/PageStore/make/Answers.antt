@@ -1,5 +1,5 @@
 use Rattle.cow_pages.proofs.Lemmas.{lawful, made_is, made_sound, logged_made}
-use Rattle.cow_pages.proofs.Terms.{refl, IsSound, parts_of}
+use Rattle.cow_pages.proofs.Terms.{refl}
 use Rattle.cow_pages.proofs.store.PageStore.make.Goals as goal
 
 pub invariant_of-result : goal.invariant_of-result
@@ -10,6 +10,5 @@ invariant_of-result c = record {
 
 pub returns : goal.returns
 returns c =
-    let bytes = c.in_ok-vec.ensures.items_if_clones_equal (λ x h. h) in
-    let so : IsSound (parts_of c.args.pages c.args.frames 0 _ _ _ _ _ _) = made_sound c.requires.few c.requires.numbered c.requires.enough refl bytes c.in_ok-row.ensures.row (c.in_ok-vec-2.ensures.items_if_clones_equal (λ x h. h)) c.in_ok-row-2.ensures.row c.in_ok-row-2.ensures.room c.in_ok-blank_slots.ensures in
-    record { made = made_is so bytes c.in_ok-row-2.ensures.row c.in_ok-blank_slots.ensures; lawful = lawful so refl }
+    let so = (invariant_of-result c).sound in
+    record { made = made_is so (c.in_ok-vec.ensures.items_if_clones_equal (λ x h. h)) c.in_ok-row-2.ensures.row c.in_ok-blank_slots.ensures; lawful = lawful so refl }

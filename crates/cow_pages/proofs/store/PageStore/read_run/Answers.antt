@@ -1,4 +1,4 @@
-use Rattle.cow_pages.proofs.Lemmas.{lawful, run_is, stands_in, mid_size, read_more}
+use Rattle.cow_pages.proofs.Lemmas.{lawful, part_is, stands_in, mid_size, read_more}
 use Rattle.cow_pages.proofs.Terms.{ap, arith, drop, length, sym, take, ◌++◌, ◌+◌, ◌-◌, ◌∙◌, ◌≡◌, ◌≤◌, length-drop, length-take-le}
 use Rattle.cow_pages.proofs.store.PageStore.read_run.Goals as goal
 
@@ -6,16 +6,11 @@ pub pages-preserved : goal.pages-preserved
 pages-preserved c =
     let done = c.pages.done in
     let count = c.min-count.result in
-    let place = c.place_of-place.result in
     let wide : done + count - done ≡ count = omega arith in
-    let long : place + count - place ≡ count = omega arith in
     let room : done + count ≤ length c.pages.buf = omega arith in
     let size : length c.copy_from_slice.new.self ≡ count = c.copy_from_slice.ensures.len ∙ length-take-le _ _ (omega (arith, length-drop done c.pages.buf)) ∙ wide in
-    let part =
-    c.copy_from_slice.ensures.after
-    ∙ ap (λ n. take n (drop place c.deref.result.now)) long
-    ∙ ap (λ xs. take count (drop place xs)) c.deref.ensures.value
-    ∙ run_is count (stands_in {at = c.args.at + done} c.self.invariant.sound c.self.view_is (omega (arith, c.requires, c.pages.auto.buf)) c.place_of-place.ensures) c.self.view_is (omega arith) in
+    let s = stands_in {at = c.args.at + done} c.self.invariant.sound c.self.view_is (omega (arith, c.requires, c.pages.auto.buf)) c.place_of-place.ensures in
+    let part = part_is count s c.self.view_is (omega arith) c.deref.ensures.value (omega arith) c.copy_from_slice.ensures.after in
     record {
       within = omega (arith, mid_size c.pages.buf c.copy_from_slice.new.self done (done + count - done) (omega arith) (size ∙ sym wide));
       read = ap (λ n. take (done + count) (take done c.pages.buf ++ (c.copy_from_slice.new.self ++ drop n (drop done c.pages.buf)))) wide ∙ read_more _ _ _ _ _ _ c.pages.invariant.read part room size;

@@ -13,8 +13,4 @@ invariant_of-self c =
     record { sound = so; logged = logged_lost c.self.invariant.logged c.add_all.ensures.count c.add_all.ensures.most c.add_all.ensures.recent }
 
 pub returns-clause-lawful : goal.returns-clause-lawful
-returns-clause-lawful c =
-    let at = slot_here c.self.invariant.sound c.self.view_is c.requires c.index-saved.ensures in
-    let written = refilled c.self.inside.live.ok.0 c.copy_from_slice.ensures.len c.as_mut_slice.ensures.value c.copy_from_slice.ensures.after c.as_slice-3.ensures.value in
-    let so = restoring c.self.invariant.sound at c.as_slice.ensures.value written c.give_up.ensures.stack c.give_up.ensures.reserved in
-    lawful so refl
+returns-clause-lawful c = lawful (invariant_of-self c).sound refl

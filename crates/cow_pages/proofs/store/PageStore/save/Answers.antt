@@ -1,4 +1,4 @@
-use Rattle.cow_pages.proofs.Lemmas.{lawful, live_held, slot_seen, live_space, refilled, saving, saving_fits, saving_sound, saving_sum, saving_used, logged_saved}
+use Rattle.cow_pages.proofs.Lemmas.{lawful, live_held, slot_seen, live_space, refilled, saving, saving_fits, saving_sound, saving_sum, saving_used, log_saved, logged_set}
 use Rattle.cow_pages.proofs.Terms.{arith, refl, true, ◌∙◌, with_items, Slot}
 use Rattle.cow_pages.proofs.store.PageStore.save.Goals as goal
 
@@ -14,7 +14,7 @@ invariant_of-self c =
     let written = refilled c.index_mut-saved.result.now.table.ok.0 c.copy_from_slice.ensures.len c.as_mut_slice-2.ensures.value c.copy_from_slice.ensures.after c.as_slice-2.ensures.value in
     let t = saving next c.self.invariant.sound c.self.view_is c.requires.there c.requires.empty c.index_mut-saved.ensures.value c.as_mut_slice.ensures.value c.count_table.auto.counts c.self.inside.counts.ok.0 c.as_slice.ensures.value c.count_table.ensures refl written in
     let so = saving_sound t written c.self.view_is c.requires.empty c.requires.room in
-    record { sound = so; logged = logged_saved _ _ c.self.invariant.logged refl written }
+    record { sound = so; logged = logged_set _ _ c.self.invariant.logged (log_saved refl written) }
 
 pub returns : goal.returns
 returns c =

@@ -1,4 +1,4 @@
-use Rattle.cow_pages.proofs.Lemmas.{lawful, slot_here, live_held, saved_slot, slot_seen, turned_held, live_space, over_fits, over_sound, refilled, refilled_stack, saving_over, logged_saved, over_moves}
+use Rattle.cow_pages.proofs.Lemmas.{lawful, slot_here, live_held, saved_slot, slot_seen, turned_held, live_space, over_fits, over_sound, refilled, refilled_stack, saving_over, log_saved, logged_set, over_moves}
 use Rattle.cow_pages.proofs.Terms.{arith, refl, ◌∙◌, with_items, Slot}
 use Rattle.cow_pages.proofs.store.PageStore.save_over.Goals as goal
 
@@ -30,7 +30,7 @@ invariant_of-self c =
     let t = saving_over next c.self.invariant.sound at c.as_mut_slice.ensures.value c.renew_table-recount.auto.counts c.self.inside.counts.ok.0 c.as_mut_slice-2.ensures.value c.as_slice.ensures.value walk.counts refl written in
     let live = saved_slot next at.saved ∙ written in
     let so = over_sound t live (refilled_stack c.self.invariant.sound c.as_mut_slice.ensures.value c.renew_table-recount.auto.counts c.self.inside.counts.ok.0 c.as_slice.ensures.value walk.stack) walk.reserved c.self.view_is c.requires.room in
-    record { sound = so; logged = logged_saved _ _ c.self.invariant.logged refl written }
+    record { sound = so; logged = logged_set _ _ c.self.invariant.logged (log_saved refl written) }
 
 pub returns : goal.returns
 returns c =

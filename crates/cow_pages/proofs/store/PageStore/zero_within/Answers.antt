@@ -1,4 +1,4 @@
-use Rattle.cow_pages.proofs.Lemmas.{owns_in, part_done, part_lawful, place_room}
+use Rattle.cow_pages.proofs.Lemmas.{part-put_at, owns_in, part_done, part_lawful, place_room}
 use Rattle.cow_pages.proofs.Terms.{ap, arith, drop, length, replicate, sym, ℕ, ◌+◌, ◌-◌, ◌∙◌, ◌≡◌, ◌≤◌, length-drop, length-replicate, length-take-le}
 use Rattle.cow_pages.proofs.store.PageStore.zero_within.Goals as goal
 
@@ -11,7 +11,5 @@ returns c =
     let count : place + many - place ≡ many = omega arith in
     let inside : place + many - place ≤ length (drop place c.deref_mut.result.now) = omega (arith, length-drop place c.deref_mut.result.now, ap length c.deref_mut.ensures.value, place_room many o.stands c.requires.within) in
     let zeros : c.fill.new.self ≡ replicate {A = ℕ} many 0 = c.fill.ensures.after (λ y h. h) ∙ ap (λ n. replicate {A = ℕ} n 0) (length-take-le (place + many - place) (drop place c.deref_mut.result.now) inside ∙ count) in
-    record {
-      writes = part_done (replicate {A = ℕ} many 0) o (omega (arith, size, c.requires.some)) (omega (arith, size, c.requires.within)) c.self.inside.pool.ok.0 c.deref_mut.ensures.value zeros (count ∙ sym size);
-      lawful = part_lawful _ c.self.invariant.sound c.self.inside.pool.ok.0;
-    }
+    let writes = part_done o (omega (arith, size, c.requires.some)) (omega (arith, size, c.requires.within)) c.self.inside.pool.ok.0 c.deref_mut.ensures.value (part-put_at _ _ (replicate {A = ℕ} many 0) zeros (count ∙ sym size)) in
+    record { writes = writes; lawful = part_lawful _ c.self.invariant.sound c.self.inside.pool.ok.0 }

@@ -1,5 +1,5 @@
-use Rattle.reply_ledger.proofs.Lemmas.{length-bytes_of, until-passed_of, all-kept, none_kept, stamped_to-of, agree-front, covers-says, passed-stamps, until-front, written-is}
-use Rattle.reply_ledger.proofs.Terms.{List, [], ap, arith, length, refl, subst, sym, true, ℕ, ◌∙◌, ◌≡◌, keys_of, IsSome, filter, nat_le, unwrap_or, Send, sent_to, IsInOrder, Passed, bytes_of, stamped_to, agree, until, Kept, account_at, sends_of, connections_of, trial_of}
+use Rattle.reply_ledger.proofs.Lemmas.{length-bytes_of, until-passed_of, all-kept, none_kept, stamped_to-of, agree-front, covers-says, passed-stamps, until-front}
+use Rattle.reply_ledger.proofs.Terms.{List, [], ap, length, refl, subst, sym, true, ℕ, ◌∙◌, ◌≡◌, keys_of, IsSome, filter, nat_le, unwrap_or, sent_to, IsInOrder, Passed, bytes_of, stamped_to, agree, until, Kept, account_at, sends_of, connections_of, trial_of}
 use Rattle.reply_ledger.proofs.replies.Replies.covers_before.Goals as goal
 
 pub covers_until-requires : goal.covers_until-requires
@@ -14,6 +14,5 @@ returns c =
     let fronts : (q : ℕ) → agree (sent_to q (unwrap_or (trial_of c.self.inside.sends.items c.self.inside.own.items c.self.inside.shared) [])) (bytes_of (until c.args.item (stamped_to (connections_of (sends_of c.self.inside.sends.items) (account_at c.self.inside.accounts.entries) (keys_of c.self.inside.accounts.entries)) q))) ≡ true = λ (q : ℕ).
     let p = until-front c.args.item (stamped_to (connections_of (sends_of c.self.inside.sends.items) (account_at c.self.inside.accounts.entries) (keys_of c.self.inside.accounts.entries)) q) (subst IsInOrder (sym (passed-stamps q ((none_kept c.self.inside.accounts.entries) q) c.self.invariant.stands)) (c.self.invariant.stands.stamps q)) in
     agree-front (sent_to q (unwrap_or (trial_of c.self.inside.sends.items c.self.inside.own.items c.self.inside.shared) [])) (bytes_of (until c.args.item (stamped_to (connections_of (sends_of c.self.inside.sends.items) (account_at c.self.inside.accounts.entries) (keys_of c.self.inside.accounts.entries)) q))) p.0 (ap (agree (sent_to q (unwrap_or (trial_of c.self.inside.sends.items c.self.inside.own.items c.self.inside.shared) []))) p.1 ∙ agrees q) in
-    let says = covers-says c.self.inside.accounts.entries (unwrap_or (trial_of c.self.inside.sends.items c.self.inside.own.items c.self.inside.shared) []) (λ k. length (filter (λ (s : ℕ). nat_le s c.args.item) k.stamps)) (λ q. bytes_of (until c.args.item (stamped_to (connections_of (sends_of c.self.inside.sends.items) (account_at c.self.inside.accounts.entries) (keys_of c.self.inside.accounts.entries)) q))) c.self.invariant.stands.distinct refl long fronts
-    (λ q. omega (arith, c.self.invariant.writes.ends q, ap (λ (l : List Send). length (sent_to q l)) (written-is c.self.inside.sends.items c.self.inside.own.items c.self.inside.shared some))) in
+    let says = covers-says c.self.inside.accounts.entries (λ k. length (filter (λ (s : ℕ). nat_le s c.args.item) k.stamps)) (λ q. bytes_of (until c.args.item (stamped_to (connections_of (sends_of c.self.inside.sends.items) (account_at c.self.inside.accounts.entries) (keys_of c.self.inside.accounts.entries)) q))) refl long fronts some c.self.invariant in
     rw (← c.self.view_is) ((λ h. says.0 (sym c.covers_until.ensures ∙ h)), (λ h. c.covers_until.ensures ∙ says.1 h))

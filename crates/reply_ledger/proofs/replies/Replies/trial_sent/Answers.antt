@@ -1,5 +1,5 @@
 use Rattle.reply_ledger.proofs.Lemmas.{none_kept, of_written, opened-known, agrees-sent, compared-with, holds-room, holds-tried, sent-shown, trial-sent, written-is}
-use Rattle.reply_ledger.proofs.Terms.{[], append-nil, arith, length, refl, rules, sym, ◌++◌, ◌+◌, ◌∙◌, ◌∷◌, ◌≡◌, ◌≤◌, keys_of, IsSome, unwrap_or, sent_to, bytes_of, stamped_to, agree, account_at, sends_of, Holds, connections_of, trial_of}
+use Rattle.reply_ledger.proofs.Terms.{[], append-nil, arith, length, refl, rules, sym, ◌+◌, ◌∙◌, ◌≡◌, ◌≤◌, keys_of, IsSome, unwrap_or, sent_to, bytes_of, stamped_to, agree, account_at, sends_of, Holds, connections_of, trial_of}
 use Rattle.reply_ledger.proofs.replies.Replies.trial_sent.Goals as goal
 
 pub invariant_of-self : goal.invariant_of-self
@@ -18,13 +18,11 @@ pub returns : goal.returns
 returns c =
     let some : IsSome (trial_of c.self.inside.sends.items c.self.inside.own.items c.self.inside.shared) = rw (← c.self.view_is) at c.requires.trial in
     let known = opened-known (sends_of c.self.inside.sends.items) c.self.inside.accounts.entries c.args.conn c.self.view_is refl c.requires.opened in
-    let kept : c.reserve.new.sends.items ≡ c.self.inside.sends.items = c.in_ok-reserve.ensures.items in
-    let items : c.push_back.new.self.items ≡ c.self.inside.own.items ++ (record { conn = c.args.conn; bytes = c.args.bytes; taken = c.args.taken; end = c.in-Some.end }) ∷ [] = c.in_ok-push_back.ensures.items in
-    let trial = (λ i. trial_of (kept i) (items i) c.self.inside.shared) ∙ trial-sent c.self.inside.sends.items c.self.inside.own.items c.self.inside.shared (record { conn = c.args.conn; bytes = c.args.bytes; taken = c.args.taken; end = c.in-Some.end }) some in
-    let shown = sent-shown c.self.inside.accounts.entries c.args.conn _ [] c.self.invariant.stands c.set_end.ensures known (kept ∙ sym (append-nil c.self.inside.sends.items)) in
+    let trial = (λ i. trial_of (c.in_ok-reserve.ensures.items i) (c.in_ok-push_back.ensures.items i) c.self.inside.shared) ∙ trial-sent c.self.inside.sends.items c.self.inside.own.items c.self.inside.shared (record { conn = c.args.conn; bytes = c.args.bytes; taken = c.args.taken; end = c.in-Some.end }) some in
+    let shown = sent-shown c.self.inside.accounts.entries c.args.conn _ [] c.self.invariant.stands c.set_end.ensures known (c.in_ok-reserve.ensures.items ∙ sym (append-nil c.self.inside.sends.items)) in
     let same = c.is_some.ensures ∙ c.compare-same.ensures ∙ (λ i. agree (c.as_slice-2.ensures i) (compared-with c.args.conn (unwrap_or (trial_of c.self.inside.sends.items c.self.inside.own.items c.self.inside.shared) []) ((none_kept c.self.inside.accounts.entries) c.args.conn) (written-is c.self.inside.sends.items c.self.inside.own.items c.self.inside.shared some) c.self.invariant i)) in
     record {
-      sent = rw (← c.self.view_is) (λ i. record { first = c.self.inside.first; kept = sends_of (kept i); trial = trial i; connections = shown i });
+      sent = rw (← c.self.view_is) (λ i. record { first = c.self.inside.first; kept = sends_of (c.in_ok-reserve.ensures.items i); trial = trial i; connections = shown i });
       compared = rw (← c.self.view_is) same;
       agrees = λ true_is old q.
           let before = rw (← c.self.view_is) at old in

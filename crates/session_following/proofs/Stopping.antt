@@ -1,0 +1,184 @@
+-- Why a session that follows stops before it is released: it is judged where it stands, or its link is heard in vain.
+use Rattle.item_log.specs.Log as logs
+use Rattle.links.specs.Links.{Coming, Tells, Told}
+use Rattle.links.specs.Seen.{Seen}
+use Rattle.link_gate.specs.Calls.{ComesLast, HearsBy}
+use Rattle.link_gate.specs.declared.heard.HearFault.{HearFault}
+use Rattle.link_gate.specs.declared.heard.HearFault.TheVariants as fault
+use Rattle.run_history.specs.declared.answer.Cause.{Cause}
+use Rattle.run_history.specs.Served.{FailsBy}
+use Rattle.session_history.specs.declared.ends.Stop.{Stop}
+use Rattle.session_history.specs.Heeding as unheeded
+use Rattle.session_history.specs.Heeding.{Unheeded, events_of, refusal}
+use Rattle.session_history.specs.Terms.{Ledger, Log, events_in}
+use Rattle.session_history.proofs.Heeding.{events_alone}
+use Rattle.session_notes.specs.Noting.{Noted}
+use Rattle.session_state.specs.Serving.{IsStopAt}
+use Rattle.session_state.specs.Sessions.{SessionState}
+use Rattle.session_state.proofs.Lemmas.{taken_all}
+use Rattle.session_state.proofs.ending.StartLemmas.{between_counted, between_fits}
+use Rattle.session_state.proofs.guest.ChoiceLemmas.{few_choices}
+use Rattle.trials.proofs.Results.{apart_asks_fails, apart_ended}
+use Rattle.std.specs.Prelude.{Err, replicate, ◌≢◌, ◌^◌}
+use Rattle.std.proofs.lemmas.List.{length-replicate}
+use Rattle.follow.proofs.Terms.{Bool, List, Option, [], ap, append-nil, arith, inl, inr, length, refl, subst, sym, true, ℕ, ◌++◌, ◌+◌, ◌<◌, ◌∙◌, ◌∷◌, ◌≡◌, ◌≤◌, ◌⊎◌, Image, AsksFor, AtExit, AtFailure, AtRequest, Handed, IsSome, IsStuck, Item, LinkEvent, Path, Rules, Stand, heard_alone, items_in, plan_of}
+use Rattle.follow.specs.Plans.{AreWellPlaced}
+use Rattle.session_following.specs.declared.judging.StandKind.{StandKind}
+use Rattle.session_following.specs.declared.judging.StandKind.TheVariants as stands
+use Rattle.session_following.specs.declared.unfollowed.Unfollowed.TheVariants as unfollowed
+use Rattle.session_following.specs.Answers.{EndsEarly, IsShort, IsUnlike, NoPlan, OtherAnswer, OtherPlace}
+use Rattle.session_following.specs.Followed.{rules_following}
+use Rattle.session_following.specs.Judging.{Agree, IsJudgedAt, kind_of}
+use Rattle.session_following.specs.TakingOver.{HasEndedBehind, HasEndedThere, IsUnfollowedBy}
+use Rattle.session_following.specs.Turning.{Follows, WaitsOn, held_back, nothing_told}
+use Rattle.session_following.proofs.Meets.{between_following}
+use Rattle.session_following.proofs.Waiting.{asks_more, tells_none, tells_one}
+
+-- what came behind the events that were heard, and why the session stops then
+pub record StopsFor (rules : Rules) (image : Image) (handed : Handed) (told : Told) (seen : Seen) (events : List LinkEvent) (now : Path) (stopped : Stop) : Type 0 where
+  pub last : List LinkEvent
+  pub heard : Tells told seen.told (heard_alone (events ++ last))
+  pub cause : IsUnfollowedBy rules image handed seen.coming events last now (unfollowed.Stops stopped)
+
+-- an event is refused as one behind those that were heard
+refused_same : (rules : Rules) (handed : Handed) (events : List LinkEvent) (now : Path) (e : LinkEvent) → rules.bounds.before ≡ unheeded.nothing_before
+    → refusal (rules_following (held_back rules) handed events now).bounds (events_of (rules_following (held_back rules) handed events now).bounds []) e ≡ refusal rules.bounds (events_of rules.bounds (heard_alone events)) e
+refused_same rules handed events now e alone = ap (λ (all : List LinkEvent). refusal rules.bounds all e) (append-nil (events_in (heard_alone events)) ∙ sym (events_alone rules.bounds (heard_alone events) alone))
+
+module _ {R : Type 0} where
+  -- by the fault
+  pub stops_on : {rules here : Rules} {image : Image} {handed : Handed} {told : Told} {was seen : Seen} {before noted : Noted} {missing : List ℕ} {session : SessionState R} (log : Log) (ledger : Ledger) (count : ℕ) (why : HearFault) (stopped : Stop) (w : WaitsOn rules here image handed told was before noted missing session)
+      → logs.received session.log ≤ session.taken → HearsBy (rules_following (held_back rules) handed w.asking.stands.events w.asking.stands.now).bounds [] w.asking.stands.now.state.sends log ledger count was seen (Err why) → ComesLast seen.coming (Err why) → IsStopAt why stopped
+      → StopsFor rules image handed told seen w.asking.stands.events w.asking.stands.now stopped
+  stops_on {rules = rules} {image = image} {handed = handed} {told = told} {was = was} {seen = seen} log ledger count (fault.Refused kind offset) stopped w none_left h comes is =
+      subst (StopsFor rules image handed told seen w.asking.stands.events w.asking.stands.now) (sym is)
+      (record { last = []; heard = tells_none w.asking.stands.events w.asking.stands.heard h.0; cause = (refl, asks_more w.asking.stands.alone w none_left, comes) })
+  stops_on {rules = rules} {image = image} {handed = handed} {told = told} {was = was} {seen = seen} log ledger count fault.LimitEvents stopped w none_left h comes is =
+      subst (StopsFor rules image handed told seen w.asking.stands.events w.asking.stands.now) (sym is)
+      (record { last = h.0 ∷ []; heard = tells_one w.asking.stands.events h.0 w.asking.stands.heard h.1; cause = record { asked = asks_more w.asking.stands.alone w none_left; event = h.0; only = refl; no_end = h.2.no_end; refused = sym (refused_same rules handed w.asking.stands.events w.asking.stands.now h.0 w.asking.stands.alone) ∙ h.2.refused } })
+  stops_on {rules = rules} {image = image} {handed = handed} {told = told} {was = was} {seen = seen} log ledger count (fault.TooLong conn) stopped w none_left h comes is =
+      subst (StopsFor rules image handed told seen w.asking.stands.events w.asking.stands.now) (sym is)
+      (record { last = h.0 ∷ []; heard = tells_one w.asking.stands.events h.0 w.asking.stands.heard h.1; cause = (record { asked = asks_more w.asking.stands.alone w none_left; event = h.0; only = refl; no_end = h.2.no_end; refused = sym (refused_same rules handed w.asking.stands.events w.asking.stands.now h.0 w.asking.stands.alone) ∙ h.2.refused }, h.3) })
+  stops_on {rules = rules} {image = image} {handed = handed} {told = told} {was = was} {seen = seen} log ledger count fault.LimitItems stopped w none_left h comes is =
+      subst (StopsFor rules image handed told seen w.asking.stands.events w.asking.stands.now) (sym is)
+      (record { last = h.0 ∷ []; heard = tells_one w.asking.stands.events h.0 w.asking.stands.heard h.1; cause = record { asked = asks_more w.asking.stands.alone w none_left; event = h.0; only = refl; no_end = h.2.no_end; refused = sym (refused_same rules handed w.asking.stands.events w.asking.stands.now h.0 w.asking.stands.alone) ∙ h.2.refused } })
+  stops_on {rules = rules} {image = image} {handed = handed} {told = told} {was = was} {seen = seen} log ledger count fault.ReadFault stopped w none_left h comes is =
+      subst (StopsFor rules image handed told seen w.asking.stands.events w.asking.stands.now) (sym is)
+      (record { last = []; heard = tells_none w.asking.stands.events w.asking.stands.heard h.0; cause = (refl, asks_more w.asking.stands.alone w none_left) })
+  stops_on {rules = rules} {image = image} {handed = handed} {told = told} {was = was} {seen = seen} log ledger count fault.Memory stopped w none_left h comes is =
+      subst (StopsFor rules image handed told seen w.asking.stands.events w.asking.stands.now) (sym is)
+      (elim h [
+        | inl none ↦ record { last = []; heard = tells_none w.asking.stands.events w.asking.stands.heard none; cause = inl refl }
+        | inr some ↦ record {
+          last = some.0 ∷ [];
+          heard = tells_one w.asking.stands.events some.0 w.asking.stands.heard some.1;
+          cause = inr (record { asked = asks_more w.asking.stands.alone w none_left; event = some.0; only = refl; allowed = sym (refused_same rules handed w.asking.stands.events w.asking.stands.now some.0 w.asking.stands.alone) ∙ some.2.allowed });
+        }
+      ])
+
+module _ {R : Type 0} where
+  -- where a run that follows stands is judged by the counts of its session
+  pub judged_at : {rules here : Rules} {image : Image} {handed : Handed} {told : Told} {seen : Seen} {before noted : Noted} {missing : List ℕ} {session : SessionState R} {kind : StandKind} {stuck : Bool} (items : List Item) (s : Follows rules here image handed told seen before noted missing session)
+      (stand : Stand rules.limits (plan_of handed.episodes) s.now) → kind_of stand ≡ kind → (stuck ≡ true → IsStuck items stand) → (kind ≢ stands.Request → stuck ≡ true) → IsJudgedAt rules.limits items handed s.now stand missing kind session.taken session.steps (session.recorded + length session.choices) stuck
+  judged_at {session = session} items s stand kind_is stuck at_end =
+      let a = s.follows.stands.answers in
+      record {
+        kind_is = kind_is;
+        taken_are = sym a.taken;
+        steps_are = sym a.steps;
+        chosen_are = let count = taken_all session.recorded s.now.choices a.choices a.low in omega (arith, count);
+        missing_are = s.missing_are;
+        agree = s.agree;
+        is_stuck = stuck;
+        at_end = at_end;
+      }
+
+  pub chosen_of : {rules here : Rules} {image : Image} {handed : Handed} {told : Told} {seen : Seen} {before noted : Noted} {missing : List ℕ} {session : SessionState R} (s : Follows rules here image handed told seen before noted missing session) → length s.now.choices ≡ session.recorded + length session.choices
+  chosen_of {session = session} s =
+      let a = s.follows.stands.answers in
+      let count = taken_all session.recorded s.now.choices a.choices a.low in
+      omega (arith, count)
+
+  -- and its answers of the allocator are no more than its instructions
+  pub few_chosen : {rules here : Rules} {image : Image} {handed : Handed} {told : Told} {seen : Seen} {before noted : Noted} {missing : List ℕ} {session : SessionState R} → Follows rules here image handed told seen before noted missing session → session.recorded + length session.choices ≤ session.steps
+  few_chosen {image = image} {session = session} s =
+      let a = s.follows.stands.answers in
+      let all = few_choices image s.follows.stands.sound.carries.served in
+      let count = taken_all session.recorded s.now.choices a.choices a.low in
+      let steps = a.steps in
+      omega (arith, all, count, steps)
+
+module _ {R : Type 0} where
+  -- so their number fits
+  pub chosen_fits : {rules here : Rules} {image : Image} {handed : Handed} {told : Told} {seen : Seen} {before noted : Noted} {missing : List ℕ} {session : SessionState R} → here.limits.budget ≤ 2 ^ 24 → here.bounds.max_items ≤ 2 ^ 20 → Follows rules here image handed told seen before noted missing session
+      → session.recorded + length session.choices < 18446744073709551616
+  chosen_fits {rules = rules} {here = here} {seen = seen} {session = session} few_budget few_items s =
+      let few = few_chosen s in
+      let budget : here.limits.budget ≡ rules.limits.budget = ap (λ (r : Rules). r.limits.budget) s.here_is in
+      let items : here.bounds.max_items ≡ rules.bounds.max_items = ap (λ (r : Rules). r.bounds.max_items) s.here_is in
+      let b = between_following {seen = record seen { told = nothing_told }} s.follows refl refl s.episodes ([], refl, tt) (omega (arith, items, few_items)) in
+      let fits = between_fits (omega (arith, budget, few_budget)) (omega (arith, items, few_items)) b in
+      let counted = between_counted b in
+      omega (arith, few, fits, counted.steps)
+
+-- more items than a run takes
+abbrev pub enough : ℕ → List Item
+enough n = replicate (n + 1) (record { conn = 0; kind = 0; bytes = [] })
+
+-- a run that stands somewhere, by what is known of the stand
+module _ (rules : Rules) (image : Image) (handed : Handed) (coming : Option Coming) (events last : List LinkEvent) (now : Path) where
+  -- how the link stands wherever the run stands
+  abbrev pub EndsWell : Type 0
+  EndsWell = (stand : Stand rules.limits (plan_of handed.episodes) now) → HasEndedThere rules image handed coming events last stand
+
+  pub ends_behind : AsksFor rules.limits (plan_of handed.episodes) now now.state.machine.taken → HasEndedBehind rules image handed coming events last → EndsWell
+  ends_behind asks ended (AtRequest other) = ended
+  ends_behind asks ended (AtExit exits) = absurd (apart_ended now asks.lives exits)
+  ends_behind asks ended (AtFailure cause fails) = absurd (apart_asks_fails rules.limits (plan_of handed.episodes) now now.state.machine.taken cause asks fails)
+
+  pub ends_at_exit : IsSome now.state.ended → last ≡ [] → EndsWell
+  ends_at_exit exits none (AtRequest asks) = absurd (apart_ended now asks.lives exits)
+  ends_at_exit exits none (AtExit other) = none
+  ends_at_exit exits none (AtFailure cause fails) = none
+
+  pub ends_at_failure : (cause : Cause) → FailsBy rules.limits (plan_of handed.episodes) now cause → last ≡ [] → EndsWell
+  ends_at_failure cause fails none (AtRequest asks) = absurd (apart_asks_fails rules.limits (plan_of handed.episodes) now now.state.machine.taken cause asks fails)
+  ends_at_failure cause fails none (AtExit other) = none
+  ends_at_failure cause fails none (AtFailure another others) = none
+
+  -- it isn't that of record and report, or is short
+  pub unlike_there : {items : List Item} {step : ℕ} → AreWellPlaced handed.episodes → items ≡ items_in rules.bounds (heard_alone events) → Agree handed.choices now.choices → (last ≡ []) ⊎ HasEndedBehind rules image handed coming events last → EndsWell → now.steps ≡ step → IsUnlike rules.limits items handed now
+      → IsUnfollowedBy rules image handed coming events last now (unfollowed.Mismatch step)
+  unlike_there placed same agree came ends steps (NoPlan unplaced) = absurd (unplaced placed)
+  unlike_there placed same agree came ends steps (OtherAnswer one other) = absurd (elim agree [
+    | inl front ↦ one front
+    | inr front ↦ other front
+  ])
+  unlike_there placed same agree came ends steps (OtherPlace finish stand is late apart) = (OtherPlace finish stand is late apart, (came, steps))
+  unlike_there placed same agree came ends steps (EndsEarly stand stuck less) = (EndsEarly stand (subst (λ (its : List Item). IsStuck its stand) same stuck) less, (ends stand, steps))
+
+  pub short_there : {conn : ℕ} → (last ≡ []) ⊎ HasEndedBehind rules image handed coming events last → EndsWell → IsShort rules.limits (items_in rules.bounds (heard_alone events)) handed now conn → IsUnfollowedBy rules image handed coming events last now (unfollowed.Short conn)
+  short_there came ends short = (short, (came, inl (ends short.stand)))
+
+-- a run that stands at its request, and isn't stuck there
+module _ (rules : Rules) (image : Image) (handed : Handed) (coming : Option Coming) (events : List LinkEvent) (now : Path) (asks : AsksFor rules.limits (plan_of handed.episodes) now now.state.machine.taken) where
+  not_stuck : (stand : Stand rules.limits (plan_of handed.episodes) now) → IsStuck (enough now.state.machine.taken) stand → ⊥
+  not_stuck (AtRequest other) stuck = let many : length (enough now.state.machine.taken) ≡ now.state.machine.taken + 1 = length-replicate (now.state.machine.taken + 1) (record { conn = 0; kind = 0; bytes = [] }) in omega (arith, stuck, many)
+  not_stuck (AtExit exits) stuck = apart_ended now asks.lives exits
+  not_stuck (AtFailure cause fails) stuck = apart_asks_fails rules.limits (plan_of handed.episodes) now now.state.machine.taken cause asks fails
+
+  pub unlike_here : {step : ℕ} → AreWellPlaced handed.episodes → Agree handed.choices now.choices → now.steps ≡ step → IsUnlike rules.limits (enough now.state.machine.taken) handed now → IsUnfollowedBy rules image handed coming events [] now (unfollowed.Mismatch step)
+  unlike_here placed agree steps (NoPlan unplaced) = absurd (unplaced placed)
+  unlike_here placed agree steps (OtherAnswer one other) = absurd (elim agree [
+    | inl front ↦ one front
+    | inr front ↦ other front
+  ])
+  unlike_here placed agree steps (OtherPlace finish stand is late apart) = (OtherPlace finish stand is late apart, (inl refl, steps))
+  unlike_here placed agree steps (EndsEarly stand stuck less) = absurd (not_stuck stand stuck)
+
+  pub short_here : {conn : ℕ} → IsShort rules.limits (enough now.state.machine.taken) handed now conn → IsUnfollowedBy rules image handed coming events [] now (unfollowed.Short conn)
+  short_here short =
+      elim short.last [
+        | inl stuck ↦ absurd (not_stuck short.stand stuck)
+        | inr there ↦ (record { stand = short.stand; last = inr there; files = short.files; more = short.more; first = short.first }, (inl refl, inr there))
+      ]

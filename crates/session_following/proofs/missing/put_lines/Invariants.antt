@@ -1,0 +1,16 @@
+use Rattle.std.proofs.Common.{◌≡◌, ℕ, ◌++◌, List, length}
+use Rattle.session_following.specs.declared.missing.TheConstants.{NUMBERS}
+use Rattle.session_following.specs.Missing.{HasCounts}
+use Rattle.session_following.proofs.missing.put_lines.Given as goal
+
+-- the lines behind are those that were gone over
+abbrev pub invariant-lines : goal.invariant-lines
+invariant-lines l = record {
+  behind : List (ℕ × ℕ);
+  whole : l.rest ++ behind ≡ l.counts;
+  as_many : length l.numbers ≡ NUMBERS;
+  are : HasCounts l.numbers behind;
+}
+
+abbrev pub decreases-lines : goal.decreases-lines
+decreases-lines l = length l.rest

@@ -1,0 +1,15 @@
+use Rattle.std.proofs.Common.{◌≡◌, List, length}
+use Rattle.follow.specs.Terms.{Override, env_at}
+use Rattle.follow.specs.Plans.{plan_from, plan_of}
+use Rattle.session_following.proofs.planned.env_planned.Given as goal
+
+-- the plan of the episodes so far
+abbrev pub invariant-episodes : goal.invariant-episodes
+invariant-episodes l = record {
+  plan : List Override;
+  whole : plan_from plan l.rest ≡ plan_of l.episodes;
+  env : l.env ≡ env_at plan l.taken;
+}
+
+abbrev pub decreases-episodes : goal.decreases-episodes
+decreases-episodes l = length l.rest

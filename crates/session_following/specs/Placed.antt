@@ -1,0 +1,14 @@
+-- The environment that is in force behind the last failure of a report.
+use Rattle.std.specs.Prelude.{◌≡◌, ℕ, ◌+◌, ◌≤◌, Option, None, Some, IsSome}
+use Rattle.follow.specs.Terms.{Episode}
+use Rattle.follow.specs.Plans.{adopted_try}
+
+-- a last episode, if there is one, has a trial that survived, and so many items were taken since or more
+abbrev pub IsFollowedBy : ℕ → Option Episode → Type 0
+IsFollowedBy taken None = Unit {0}
+IsFollowedBy taken (Some episode) = IsSome (adopted_try episode.tries) × (episode.point ≤ taken)
+
+-- where its environment ends: four items behind the last failure, if there is one
+abbrev pub EndsAfter : Option Episode → ℕ → Type 0
+EndsAfter None until = until ≡ 0
+EndsAfter (Some episode) until = until ≡ episode.point + 4
