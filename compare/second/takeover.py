@@ -156,18 +156,16 @@ class Followed(Session):
         return self.is_past(stand) and self.has_chosen() and (finish is None or self.survivor.steps >= finish[0])
 
     def judge(self, stand, is_stuck):
-        """Whether it has reached all that was handed over. Where it can't go on, or stands where the record's last line says, and hasn't, this raises why."""
+        """Whether it has reached all that was handed over. Where it can't go on, or stands at the record's last line or behind, and hasn't, this raises why."""
         machine, finish = self.survivor, self.recorded_before.finish
-        if self.is_elsewhere():
+        is_told, lacking = self.is_as_told(stand), self.uncovered()
+        if is_told and not lacking:
+            return True
+        if self.is_elsewhere() or (is_stuck and not is_told):
             self.differ(machine.steps)
-        if not self.is_as_told(stand):
-            if is_stuck:
-                self.differ(machine.steps)
-            return False
-        lacking = self.uncovered()
-        if lacking and (is_stuck or finish == (machine.steps, machine.taken)):
+        if is_told and (is_stuck or finish == (machine.steps, machine.taken)):
             raise Short(lacking[0])
-        return not lacking
+        return False
 
     def differ(self, steps):
         self.apart = steps

@@ -169,7 +169,8 @@ def _():
     Taken("echo", TWO_LINES, old, REPORT, b"").says(("RecordRefused", 1), 3, b"")
     late = REPORT + b"failure 0 point 2 cause Hang at 00010000\ntry 0 checkpoint 2 env pad result survived\n"
     Taken("echo", TWO_LINES, HEAD, late, b"").says(("Mismatch", 0), 3, b"")
-    Taken("echo", TWO_LINES, HEAD + b"end 33 2\n", REPORT, b"").says(("Mismatch", 34), 3, b"")
+    Taken("echo", TWO_LINES, HEAD + b"end 33 2\n", REPORT, b"0 3\n").says(("Mismatch", 34), 3, b"")
+    Taken("echo", TWO_LINES, HEAD + b"end 33 2\n", REPORT, b"0 2\n").says(("Finished",), 0, out((0, b"b\n")))
 
 
 @row("closed connections of a second host")

@@ -117,10 +117,17 @@ asks_of (AtFailure cause fails) is = absurd (cc is)
 
 module _ {limits : Limits} {items : List Item} (handed : HandedOver) {path : Path} {stand : Stand limits (plan_of handed.episodes.now) path} {missing : List ℕ} {kind : StandKind} {taken steps chosen : ℕ} {stuck : Bool} where
   -- where it stands elsewhere than the last line says
-  pub said_place : IsJudgedAt limits items (handed_of handed) path stand missing kind taken steps chosen stuck → IsElsewhere handed.finish taken steps → IsUnlike limits items (handed_of handed) path
-  said_place at elsewhere =
+  pub said_place : IsJudgedAt limits items (handed_of handed) path stand missing kind taken steps chosen stuck → IsElsewhere handed.finish taken steps → ¬ HasReached limits (handed_of handed) path stand → IsUnlike limits items (handed_of handed) path
+  said_place at elsewhere never =
       let e = away (handed_of handed) path handed.finish refl (subst (λ (n : ℕ). IsElsewhere handed.finish n path.steps) (sym at.taken_are) (subst (λ (n : ℕ). IsElsewhere handed.finish taken n) (sym at.steps_are) elsewhere)) in
-      OtherPlace e.finish stand e.is e.behind e.apart
+      OtherPlace e.finish stand e.is e.behind e.apart never
+
+  -- it hasn't reached what was handed over where it hasn't reached what the files tell, or a client lacks bytes
+  pub never_early : IsJudgedAt limits items (handed_of handed) path stand missing kind taken steps chosen stuck → ¬ HasFiles handed kind taken steps chosen → ¬ HasReached limits (handed_of handed) path stand
+  never_early at less reached = less (files_to handed at (record { past = reached.past; chose = reached.chose; finished = reached.finished }))
+
+  pub never_lack : IsJudgedAt limits items (handed_of handed) path stand missing kind taken steps chosen stuck → (conn : ℕ) → IsLeast missing (Some conn) → ¬ HasReached limits (handed_of handed) path stand
+  never_lack at conn least reached = let some = least.0 in let lacks = at.missing_are conn in let covers = reached.covers conn in omega (arith, some, lacks, covers)
 
   -- where it can't go on, and hasn't reached what the files tell
   pub said_early : IsJudgedAt limits items (handed_of handed) path stand missing kind taken steps chosen stuck → stuck ≡ true → ¬ HasFiles handed kind taken steps chosen → IsUnlike limits items (handed_of handed) path

@@ -154,7 +154,7 @@ module _ (rules : Rules) (image : Image) (handed : Handed) (coming : Option Comi
     | inl front ↦ one front
     | inr front ↦ other front
   ])
-  unlike_there placed same agree came ends steps (OtherPlace finish stand is late apart) = (OtherPlace finish stand is late apart, (came, steps))
+  unlike_there placed same agree came ends steps (OtherPlace finish stand is late apart never) = (OtherPlace finish stand is late apart never, (came, steps))
   unlike_there placed same agree came ends steps (EndsEarly stand stuck less) = (EndsEarly stand (subst (λ (its : List Item). IsStuck its stand) same stuck) less, (ends stand, steps))
 
   pub short_there : {conn : ℕ} → (last ≡ []) ⊎ HasEndedBehind rules image handed coming events last → EndsWell → IsShort rules.limits (items_in rules.bounds (heard_alone events)) handed now conn → IsUnfollowedBy rules image handed coming events last now (unfollowed.Short conn)
@@ -173,7 +173,7 @@ module _ (rules : Rules) (image : Image) (handed : Handed) (coming : Option Comi
     | inl front ↦ one front
     | inr front ↦ other front
   ])
-  unlike_here placed agree steps (OtherPlace finish stand is late apart) = (OtherPlace finish stand is late apart, (inl refl, steps))
+  unlike_here placed agree steps (OtherPlace finish stand is late apart never) = (OtherPlace finish stand is late apart never, (inl refl, steps))
   unlike_here placed agree steps (EndsEarly stand stuck less) = absurd (not_stuck stand stuck)
 
   pub short_here : {conn : ℕ} → IsShort rules.limits (enough now.state.machine.taken) handed now conn → IsUnfollowedBy rules image handed coming events [] now (unfollowed.Short conn)

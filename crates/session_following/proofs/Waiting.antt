@@ -290,6 +290,7 @@ module _ {R : Type 0} where
       let is : e ≡ event.Ends = is_end e (subst (λ (shown : heard_type.Heard). IsShown e shown) shows h.0) in
       record {
         waited = record { here = here; seen = was; was = old; waits = w; same = same };
+        none_left = none_left;
         ended = record { ended = refl; asked = asks_more s.alone w none_left; comes = last };
         heard = subst (λ (one : LinkEvent). Tells told seen.told (heard_alone (s.events ++ one ∷ []))) is (tells_one s.events e s.heard h.1);
       }

@@ -6,7 +6,6 @@ use Rattle.follow.specs.Plans.{AreWellPlaced, plan_of}
 use Rattle.follow.specs.Held.{count_of}
 use Rattle.follow.specs.Handed.{Finish, Handed, HasReached, IsPastFailure, IsStuck, Stand}
 use Rattle.follow.specs.Takeover.{IsFollowed, IsTakeover, Takeover, heard_first}
-use Rattle.session_following.specs.Reaching.{IsNotReached}
 
 -- A run that stands there has reached all that record and report tell: it is past the last episode, had each answer of the record, and stands at or behind its
 -- last line.
@@ -20,11 +19,13 @@ abbrev pub IsAtFinish : Handed → Path → Finish → Type 0
 IsAtFinish handed path finish = (handed.finish ≡ Some finish) × (path.steps ≡ finish.steps) × (path.state.machine.taken ≡ finish.taken)
 
 -- Record and report aren't of this program and these items: the run had an answer of the allocator that isn't the record's; or it stands at or behind the record's
--- last line, and not where that says; or it can't go on, and hasn't reached what they tell. Or the report is of no session: a trial that it adopts wasn't in force
+-- last line, and not where that says, and hasn't reached what was handed over; or it can't go on, and hasn't reached what they tell. Or the report is of no session: a trial that it adopts wasn't in force
 -- at its failure.
 pub data IsUnlike (limits : Limits) (items : List Item) (handed : Handed) (path : Path) : Type 0 where
   OtherAnswer : ¬ Prefix handed.choices path.choices → ¬ Prefix path.choices handed.choices → IsUnlike limits items handed path
-  OtherPlace : (finish : Finish) → Stand limits (plan_of handed.episodes) path → handed.finish ≡ Some finish → finish.steps ≤ path.steps → ¬ IsAtFinish handed path finish → IsUnlike limits items handed path
+  OtherPlace :
+      (finish : Finish) (stand : Stand limits (plan_of handed.episodes) path) → handed.finish ≡ Some finish → finish.steps ≤ path.steps → ¬ IsAtFinish handed path finish → ¬ HasReached limits handed path stand
+      → IsUnlike limits items handed path
   NoPlan : ¬ AreWellPlaced handed.episodes → IsUnlike limits items handed path
   EndsEarly : (stand : Stand limits (plan_of handed.episodes) path) → IsStuck items stand → ¬ HasReachedFiles limits handed path stand → IsUnlike limits items handed path
 
@@ -37,10 +38,10 @@ pub record IsShort (limits : Limits) (items : List Item) (handed : Handed) (path
   pub more : length (output path.state conn) < count_of handed.counts conn
   pub first : (other : ℕ) → other < conn → count_of handed.counts other ≤ length (output path.state other)
 
--- A second host that takes over says neither, before it is released: it runs as the first host did, on all that it heard at least.
+-- A second host that takes over says neither, on all that the first host heard at least.
 abbrev pub NeitherIsSaid : Type 0
 NeitherIsSaid =
-    (over : Takeover) (path : Path) → IsTakeover over → (followed : IsFollowed over path) → Prefix (heard_first over) followed.heard → IsNotReached over.limits over.handed path →
+    (over : Takeover) (path : Path) → IsTakeover over → (followed : IsFollowed over path) → Prefix (heard_first over) followed.heard →
     (¬ IsUnlike over.limits followed.heard over.handed path) × ((conn : ℕ) → ¬ IsShort over.limits followed.heard over.handed path conn)
 
 -- And where it stands and says neither, having reached what the files tell, it has reached all that was handed over, once no client has more.

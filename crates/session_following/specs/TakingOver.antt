@@ -67,7 +67,7 @@ HasEndedThere rules image handed coming events last (AtFailure cause fails) = la
 abbrev pub MismatchesAt : (rules : Rules) (image : Image) (handed : Handed) (coming : Option Coming) (events last : List LinkEvent) (now : Path) {items : List Item} → ℕ → IsUnlike rules.limits items handed now → Type 0
 MismatchesAt rules image handed coming events last now step (NoPlan placed) = (events ≡ []) × (last ≡ []) × (step ≡ 0) × (now.steps ≡ step)
 MismatchesAt rules image handed coming events last now step (OtherAnswer one other) = (last ≡ []) × (now.steps ≡ step + 1)
-MismatchesAt rules image handed coming events last now step (OtherPlace finish stand is late apart) = ((last ≡ []) ⊎ HasEndedBehind rules image handed coming events last) × (now.steps ≡ step)
+MismatchesAt rules image handed coming events last now step (OtherPlace finish stand is late apart never) = ((last ≡ []) ⊎ HasEndedBehind rules image handed coming events last) × (now.steps ≡ step)
 MismatchesAt rules image handed coming events last now step (EndsEarly stand stuck less) = HasEndedThere rules image handed coming events last stand × (now.steps ≡ step)
 
 -- A client has more than was sent to it: the run can't go on, or stands where the record's last line says.

@@ -1,5 +1,5 @@
 -- What a session that follows hears where it waits for an item.
-use Rattle.std.specs.Prelude.{◌≡◌, ◌<◌, ℕ, List, [], ◌∷◌, ◌++◌, Bool, true, false, Result, Ok, Err, IfOk, OnErr}
+use Rattle.std.specs.Prelude.{◌≡◌, ◌<◌, ◌≤◌, ℕ, List, [], ◌∷◌, ◌++◌, Bool, true, false, Result, Ok, Err, IfOk, OnErr}
 use Rattle.item_log.specs.Log as logs
 use Rattle.links.specs.declared.journal.LinkEvent.TheVariants.{Ends as EndOfLink}
 use Rattle.links.specs.Links.{Tells, Told}
@@ -34,9 +34,10 @@ module _ {R : Type 0} where
     pub waits : WaitsOn rules here image handed before seen noted_before noted missing was
     pub same : AnswersSame was session
 
-  -- the link has ended behind what it heard
+  -- the link has ended behind what it heard, where no item was left that its guest hadn't taken
   pub record EndedOn (rules : Rules) (image : Image) (handed : Handed) (before : Told) (seen : Seen) (noted_before noted : Noted) (missing : List ℕ) (session : SessionState R) : Type 0 where
     pub waited : WaitedOn rules image handed before noted_before noted missing session
+    pub none_left : logs.received waited.was.log ≤ waited.was.taken
     pub ended : HasEndedBehind rules image handed seen.coming waited.waits.asking.stands.events (EndOfLink ∷ [])
     pub heard : Tells before seen.told (heard_alone (waited.waits.asking.stands.events ++ EndOfLink ∷ []))
 

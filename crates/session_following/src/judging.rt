@@ -104,11 +104,11 @@ pub fn judge(
     ensures same { missing.new ≡ missing.old }
     ensures judged { (limits : Limits) (items : List Item) (path : Path) (stand : Stand limits (plan_of handed.now.episodes.now) path) → IsJudgedAt limits items (handed_of handed.now) path stand missing.old kind taken steps chosen stuck → IsJudged limits items (handed_of handed.now) path stand stuck result }
 {
-    if is_elsewhere(handed.finish, taken, steps) {
-        return Judged::Unlike;
-    }
     if !has_files(handed, kind, taken, steps, chosen) {
         if stuck {
+            return Judged::Unlike;
+        }
+        if is_elsewhere(handed.finish, taken, steps) {
             return Judged::Unlike;
         }
         return Judged::GoesOn;
@@ -116,6 +116,9 @@ pub fn judge(
     let Some(conn) = missing.least() else {
         return Judged::Reached;
     };
+    if is_elsewhere(handed.finish, taken, steps) {
+        return Judged::Unlike;
+    }
     if stuck {
         return Judged::Short(conn);
     }
