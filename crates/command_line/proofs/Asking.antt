@@ -1,5 +1,5 @@
 -- Which command the first word asks for.
-use Rattle.command_line.proofs.Terms.{Global, Bool, List, None, Option, Some, [], ap, arith, cond, drop, false, length, map, refl, subst, sym, take, true, ◌-◌, ◌∙◌, ◌∷◌, ◌≡◌, ◌≤◌, take_rest, same_Some, find, slice_index_or, option_map, String, string_bytes, bytes_eq, CommandName, Text, Parts, parts, texts_of, CommandForm, CommandValue, DiagnoseValue, DrillValue, RunValue, ServeValue, StandbyValue, asm_form, behind_name, command_of, convert_form, diagnose, diagnose_form, diagnose_value, drill, drill_form, drill_value, form_named, frame_form, is_diagnose, is_drill, is_of, is_run, is_serve, is_standby, name_of, replay_form, run, run_form, run_value, serve, serve_form, serve_value, standby, standby_form, standby_value, unframe_form, value_by}
+use Rattle.command_line.proofs.Terms.{Global, Bool, List, None, Option, Some, [], ap, arith, cond, drop, false, length, map, refl, subst, sym, take, true, ◌-◌, ◌∙◌, ◌∷◌, ◌≡◌, ◌≤◌, take_rest, same_Some, find, slice_index_or, option_map, String, string_bytes, bytes_eq, CommandName, Text, Parts, parts, texts_of, CommandForm, CommandValue, DiagnoseValue, DrillValue, ResumeValue, RunValue, ServeValue, StandbyValue, asm_form, behind_name, command_of, convert_form, diagnose, diagnose_form, diagnose_value, drill, drill_form, drill_value, form_named, frame_form, is_diagnose, is_drill, is_of, is_resume, is_run, is_serve, is_standby, name_of, replay_form, resume, resume_form, resume_value, run, run_form, run_value, serve, serve_form, serve_value, standby, standby_form, standby_value, unframe_form, value_by}
 use Rattle.command_line.specs.declared.options.CommandName.TheVariants as named
 
 pub first_word : (ws : List (String Global)) (w : String Global) (t : Text) → 1 ≤ length ws → w ≡ slice_index_or ws 0 w → t ≡ string_bytes w
@@ -10,12 +10,13 @@ first_word (x ∷ xs) w t some at text =
 
 -- the form of each command has its own name's command
 own : (name : CommandName) → (form_named name).which ≡ name
-unfolding run_form asm_form replay_form convert_form standby_form serve_form diagnose_form drill_form frame_form unframe_form
+unfolding run_form asm_form replay_form convert_form standby_form resume_form serve_form diagnose_form drill_form frame_form unframe_form
 own named.Run = refl
 own named.Asm = refl
 own named.Replay = refl
 own named.Convert = refl
 own named.Standby = refl
+own named.Resume = refl
 own named.Serve = refl
 own named.Diagnose = refl
 own named.Drill = refl
@@ -53,6 +54,12 @@ pub record IsStandby (value : StandbyValue) : Type 0 where
   pub is : is_standby parts_are ≡ true
   pub value_is : standby_value parts_are ≡ value
 
+-- of `resume`
+pub record IsResume (value : ResumeValue) : Type 0 where
+  pub parts_are : Parts
+  pub is : is_resume parts_are ≡ true
+  pub value_is : resume_value parts_are ≡ value
+
 -- of `serve`
 pub record IsServe (value : ServeValue) : Type 0 where
   pub parts_are : Parts
@@ -74,6 +81,7 @@ pub record IsDrill (value : DrillValue) : Type 0 where
 abbrev pub IsAsked : CommandValue → Type 0
 IsAsked (run value) = IsRun value
 IsAsked (standby value) = IsStandby value
+IsAsked (resume value) = IsResume value
 IsAsked (serve value) = IsServe value
 IsAsked (diagnose value) = IsDiagnose value
 IsAsked (drill value) = IsDrill value
@@ -86,6 +94,7 @@ of_name named.Asm p e = tt
 of_name named.Replay p e = tt
 of_name named.Convert p e = tt
 of_name named.Standby p e = record { parts_are = p; is = e; value_is = refl }
+of_name named.Resume p e = record { parts_are = p; is = e; value_is = refl }
 of_name named.Serve p e = record { parts_are = p; is = e; value_is = refl }
 of_name named.Diagnose p e = record { parts_are = p; is = e; value_is = refl }
 of_name named.Drill p e = record { parts_are = p; is = e; value_is = refl }

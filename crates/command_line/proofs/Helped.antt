@@ -1,5 +1,5 @@
 -- What words ask of the program itself, and that they are those of no command.
-use Rattle.command_line.proofs.Terms.{Global, List, None, Option, Some, [], ap, arith, cond, eqb-true, false, length, refl, sym, true, true≢false, ◌==◌, ◌∙◌, ◌∷◌, ◌≡◌, and_parts, and_right, String, bytes_eq, Help, CommandName, Text, Parts, are_positionals, parts, parts_behind, texts_of, CommandForm, asm_form, behind_name, command_of, convert_form, diagnose_form, drill_form, fits, form_named, frame_form, is_asm, is_convert, is_diagnose, is_drill, is_frame, is_of, is_replay, is_run, is_serve, is_standby, is_unframe, name_of, replay_form, run_form, serve_form, standby_form, unframe_form, value_by, HelpIsNoCommand, help_by, help_by_two, help_named, help_of}
+use Rattle.command_line.proofs.Terms.{Global, List, None, Option, Some, [], ap, arith, cond, eqb-true, false, length, refl, sym, true, true≢false, ◌==◌, ◌∙◌, ◌∷◌, ◌≡◌, and_parts, and_right, String, bytes_eq, Help, CommandName, Text, Parts, are_positionals, parts, parts_behind, texts_of, CommandForm, asm_form, behind_name, command_of, convert_form, diagnose_form, drill_form, fits, form_named, frame_form, is_asm, is_convert, is_diagnose, is_drill, is_frame, is_of, is_replay, is_resume, is_run, is_serve, is_standby, is_unframe, name_of, replay_form, resume_form, run_form, serve_form, standby_form, unframe_form, value_by, HelpIsNoCommand, help_by, help_by_two, help_named, help_of}
 use Rattle.command_line.specs.declared.help_words.Help.TheVariants as help
 use Rattle.command_line.specs.declared.help_words.TheConstants as word
 use Rattle.command_line.specs.declared.options.CommandName.TheVariants as named
@@ -13,19 +13,19 @@ pair first second (x ∷ xs) none = absurd (let some = eqb-true (length (x ∷ x
 -- ---- no command has the name of such a word
 
 no_help : name_of word.HELP.now ≡ None
-unfolding name_of run_form asm_form replay_form convert_form standby_form serve_form diagnose_form drill_form frame_form unframe_form
+unfolding name_of run_form asm_form replay_form convert_form standby_form resume_form serve_form diagnose_form drill_form frame_form unframe_form
 no_help = refl
 
 no_long : name_of word.LONG_HELP.now ≡ None
-unfolding name_of run_form asm_form replay_form convert_form standby_form serve_form diagnose_form drill_form frame_form unframe_form
+unfolding name_of run_form asm_form replay_form convert_form standby_form resume_form serve_form diagnose_form drill_form frame_form unframe_form
 no_long = refl
 
 no_short : name_of word.SHORT_HELP.now ≡ None
-unfolding name_of run_form asm_form replay_form convert_form standby_form serve_form diagnose_form drill_form frame_form unframe_form
+unfolding name_of run_form asm_form replay_form convert_form standby_form resume_form serve_form diagnose_form drill_form frame_form unframe_form
 no_short = refl
 
 no_version : name_of word.VERSION.now ≡ None
-unfolding name_of run_form asm_form replay_form convert_form standby_form serve_form diagnose_form drill_form frame_form unframe_form
+unfolding name_of run_form asm_form replay_form convert_form standby_form resume_form serve_form diagnose_form drill_form frame_form unframe_form
 no_version = refl
 
 -- a word that is tested first has no command, and one behind it hasn't
@@ -57,12 +57,13 @@ unfit form = and_right (are_positionals (length form.positionals) []) false refl
 
 -- the words of each command have its form
 fits_of : (name : CommandName) (p : Parts) → is_of name p ≡ true → fits (form_named name) p ≡ true
-unfolding is_run is_asm is_replay is_convert is_standby is_serve is_diagnose is_drill is_frame is_unframe
+unfolding is_run is_asm is_replay is_convert is_standby is_resume is_serve is_diagnose is_drill is_frame is_unframe
 fits_of named.Run p e = (and_parts _ _ e).0
 fits_of named.Asm p e = (and_parts _ _ e).0
 fits_of named.Replay p e = e
 fits_of named.Convert p e = (and_parts _ _ e).0
 fits_of named.Standby p e = (and_parts _ _ e).0
+fits_of named.Resume p e = (and_parts _ _ e).0
 fits_of named.Serve p e = (and_parts _ _ e).0
 fits_of named.Diagnose p e = (and_parts _ _ e).0
 fits_of named.Drill p e = (and_parts _ _ e).0

@@ -1,5 +1,5 @@
 -- The numbers of words that are taken are in the ranges of their rows. No row of the table is named here.
-use Rattle.command_line.proofs.Terms.{Bool, List, None, Option, Some, [], ap, arith, cond, false, leb-true, length, map, nat_le, not, refl, subst, sym, true, true≢false, unwrap_or, ℕ, ◌&&◌, ◌||◌, ◌∙◌, ◌∷◌, ◌≡◌, ◌≤◌, and_parts, not-true, filter, find, list_all, option_map, option_map_or, bytes_eq, Name, Number, OneOf, Text, is_name, number_of, Parts, are_positionals, Row, Takes, conns_row, count_row, port_row, seed_row, Options, are_options, default_of, has_option, is_between, is_for, is_taken, number_at, takes_of, value_of, CommandValue, DiagnoseValue, DrillValue, ServeValue, StandbyValue, diagnose, diagnose_form, diagnose_value, drill, drill_form, drill_value, fits, is_diagnose, is_drill, is_run, is_serve, is_standby, positional, run, run_form, run_value, serve, serve_form, serve_value, standby, standby_form, standby_value, EachRow}
+use Rattle.command_line.proofs.Terms.{Bool, List, None, Option, Some, [], ap, arith, cond, false, leb-true, length, map, nat_le, not, refl, subst, sym, true, true≢false, unwrap_or, ℕ, ◌&&◌, ◌||◌, ◌∙◌, ◌∷◌, ◌≡◌, ◌≤◌, and_parts, not-true, filter, find, list_all, option_map, option_map_or, bytes_eq, Framing, Name, Number, OneOf, Text, is_name, number_of, Parts, are_positionals, Row, Takes, conns_row, count_row, port_row, seed_row, Options, are_options, default_of, has_option, is_between, is_for, is_taken, number_at, takes_of, value_of, CommandValue, DiagnoseValue, DrillValue, ResumeValue, ServeValue, StandbyValue, diagnose, diagnose_form, diagnose_value, drill, drill_form, drill_value, fits, is_diagnose, is_drill, is_resume, is_run, is_serve, is_standby, positional, resume, resume_form, resume_value, run, run_form, run_in, run_value, serve, serve_form, serve_value, standby, standby_form, standby_value, EachRow}
 use Rattle.command_line.specs.Ranges.{AreInRange, EachInRange, HasRanges, IsInRange, NumbersOf, RangesOf, takes_numbers}
 use Rattle.command_line.proofs.Asking.{IsAsked, asked}
 use Rattle.command_line.proofs.Pieces.{is_row}
@@ -98,6 +98,13 @@ standby_in_ranges p e =
     let taken = (and_parts (are_options standby_form.options p.options) _ names.1).0 in
     each_in_range standby_form.options p.options taken standby_form.options (each_alone standby_form.options refl) refl
 
+resume_in_ranges : (p : Parts) → is_resume p ≡ true → HasRanges (resume (resume_value p))
+unfolding is_resume resume_value resume_form
+resume_in_ranges p e =
+    let names = and_parts (are_positionals (length resume_form.positionals) p.positionals) _ (and_parts (fits resume_form p) _ e).0 in
+    let taken = (and_parts (are_options resume_form.options p.options) _ names.1).0 in
+    each_in_range resume_form.options p.options taken resume_form.options (each_alone resume_form.options refl) refl
+
 serve_in_ranges : (p : Parts) → is_serve p ≡ true → HasRanges (serve (serve_value p))
 unfolding is_serve serve_value serve_form port_row conns_row
 serve_in_ranges p e =
@@ -132,6 +139,7 @@ drill_in_ranges p e =
 of_asked : (command : CommandValue) → IsAsked command → HasRanges command
 of_asked (run value) found = subst (λ v. AreInRange v) found.value_is (in_ranges found.parts_are found.is)
 of_asked (standby value) found = subst (λ (v : StandbyValue). HasRanges (standby v)) found.value_is (standby_in_ranges found.parts_are found.is)
+of_asked (resume value) found = subst (λ (v : ResumeValue). HasRanges (resume v)) found.value_is (resume_in_ranges found.parts_are found.is)
 of_asked (serve value) found = subst (λ (v : ServeValue). HasRanges (serve v)) found.value_is (serve_in_ranges found.parts_are found.is)
 of_asked (diagnose value) found = subst (λ (v : DiagnoseValue). HasRanges (diagnose v)) found.value_is (diagnose_in_ranges found.parts_are found.is)
 of_asked (drill value) found = subst (λ (v : DrillValue). HasRanges (drill v)) found.value_is (drill_in_ranges found.parts_are found.is)
@@ -147,6 +155,10 @@ session_in_range value ((port, (conns, (window, (ring, (every, (frames, (budget,
     let most : value.session.hold ≤ 1000 = omega arith in
     (window, ((least, most), (ring, (every, (frames, (budget, tt))))))
 
+-- the session of `resume` is in the ranges of `run` in a window of its range
+pub resumed_in_range : (value : ResumeValue) (window : ℕ) (framing : Framing) → HasRanges (resume value) → 1 ≤ window → window ≤ 64 → AreInRange (run_in value window framing)
+resumed_in_range value window framing ranges least most = ((least, most), ranges)
+
 pub numbers_of : NumbersOf
-unfolding run_form serve_form diagnose_form drill_form standby_form
-numbers_of = (λ value. refl, λ value. refl, λ value. refl, λ value. refl, λ value. refl)
+unfolding run_form serve_form diagnose_form drill_form standby_form resume_form
+numbers_of = (λ value. refl, λ value. refl, λ value. refl, λ value. refl, λ value. refl, λ value. refl)

@@ -2,7 +2,7 @@
 use Rattle.clap.specs.Simple.{matches_of}
 use Rattle.clap.specs.Takes.{takes}
 use Rattle.clap.specs.Walk.{Text}
-use Rattle.command_line.proofs.Terms.{List, None, Some, [], arith, codes, refl, true, ◌∷◌, ◌≡◌, ArgMatches, found_of, built, rows_of, parts, asm_form, convert_form, diagnose_form, drill_form, fits, replay_form, run_form, serve_form, standby_form, HasRead, app_of_form}
+use Rattle.command_line.proofs.Terms.{List, None, Some, [], arith, codes, refl, true, ◌∷◌, ◌≡◌, ArgMatches, found_of, built, rows_of, parts, asm_form, convert_form, diagnose_form, drill_form, fits, replay_form, resume_form, run_form, serve_form, standby_form, HasRead, app_of_form}
 use Rattle.command_line.proofs.Pieces.{plain_rule}
 use Rattle.command_line.proofs.Rows.{each_optional}
 use Rattle.command_line.proofs.Clapping.{IsReadable, clap_takes, has_read}
@@ -99,6 +99,30 @@ standby_taken words taken = clap_takes standby_form _ _ words standby_readable t
 pub standby_read : (words : List Text) (m : ArgMatches) → fits standby_form (parts words) ≡ true → rows_of (found_of m) ≡ matches_of (app_of_form standby_form) words
     → HasRead standby_form (parts words) m
 standby_read words m taken rows = has_read standby_form _ _ words standby_readable taken m rows
+
+-- ---- `resume`
+
+pub resume_readable : IsReadable resume_form (app_of_form resume_form) (built (app_of_form resume_form))
+unfolding resume_form
+resume_readable = record {
+  built_is = refl;
+  simple = refl;
+  no_subs = refl;
+  all_words = refl;
+  places = (record { by_index = refl; by_id = refl }, refl, refl, (record { by_index = refl; by_id = refl }, refl, refl, (record { by_index = refl; by_id = refl }, refl, refl, (record { by_index = refl; by_id = refl }, refl, refl, tt))));
+  options = each_optional (plain_rule (codes "PROGRAM") None (Some 1) [] ∷ plain_rule (codes "RECORD") None (Some 2) [] ∷ plain_rule (codes "REPORT") None (Some 3) [] ∷ plain_rule (codes "COUNTS") None (Some 4) [] ∷ [])
+      resume_form.positionals resume_form.options refl refl;
+  names = ((refl, refl, omega arith), (((refl, refl), refl, omega arith), (((refl, (refl, refl)), refl, omega arith), (((refl, (refl, (refl, refl))), refl, omega arith), tt))));
+  defaults = refl;
+  valid = λ rows. refl;
+}
+
+pub resume_taken : (words : List Text) → fits resume_form (parts words) ≡ true → takes (app_of_form resume_form) words ≡ true
+resume_taken words taken = clap_takes resume_form _ _ words resume_readable taken
+
+pub resume_read : (words : List Text) (m : ArgMatches) → fits resume_form (parts words) ≡ true → rows_of (found_of m) ≡ matches_of (app_of_form resume_form) words
+    → HasRead resume_form (parts words) m
+resume_read words m taken rows = has_read resume_form _ _ words resume_readable taken m rows
 
 -- ---- `run`
 

@@ -1,8 +1,7 @@
 -- The command that words ask for.
 use Rattle.std.specs.Prelude.{◌≡◌, true, ℕ, ◌&&◌, Bool, not, List, [], ◌∷◌, Option, Some, None, if◌then◌else◌, length, slice_get, unwrap_or}
-use Rattle.msg_frame.specs.declared.framing.Framing.{Framing}
 use Rattle.msg_frame.specs.declared.framing.Framing.TheVariants.{Line, Length, Whole}
-use Rattle.command_line.specs.Terms.{find, bytes_eq}
+use Rattle.command_line.specs.Terms.{find, bytes_eq, Framing}
 use Rattle.command_line.specs.Texts.{Text, number_of}
 use Rattle.command_line.specs.Parts.{Parts, are_positionals, parts, parts_of}
 use Rattle.command_line.specs.Options.{are_options, has_required, number_at, takes_of, value_of}
@@ -11,7 +10,7 @@ use Rattle.command_line.specs.declared.run_words.Form.TheVariants as form
 use Rattle.command_line.specs.declared.run_words.Guard.{Guard}
 use Rattle.command_line.specs.declared.run_words.Guard.TheVariants as guarded
 use Rattle.command_line.specs.declared.command.Command.{Command}
-use Rattle.command_line.specs.declared.command.Command.TheVariants.{Run, Asm, Replay, Convert, Standby, Serve, Diagnose, Drill, Frame, Unframe}
+use Rattle.command_line.specs.declared.command.Command.TheVariants.{Run, Asm, Replay, Convert, Standby, Resume, Serve, Diagnose, Drill, Frame, Unframe}
 use Rattle.command_line.specs.declared.run_words.RunCommand.{RunCommand}
 use Rattle.command_line.specs.declared.command.Asked.{Asked}
 use Rattle.command_line.specs.declared.options.CommandName.{CommandName}
@@ -24,6 +23,8 @@ use Rattle.command_line.specs.declared.convert_words.ConvertCommand.{ConvertComm
 use Rattle.command_line.specs.declared.convert_words.TheConstants as convert_table
 use Rattle.command_line.specs.declared.standby_words.StandbyCommand.{StandbyCommand}
 use Rattle.command_line.specs.declared.standby_words.TheConstants as standby_table
+use Rattle.command_line.specs.declared.resume_words.ResumeCommand.{ResumeCommand}
+use Rattle.command_line.specs.declared.resume_words.TheConstants as resume_table
 use Rattle.command_line.specs.declared.serve_words.ServeCommand.{ServeCommand}
 use Rattle.command_line.specs.declared.serve_words.TheConstants as serve_table
 use Rattle.command_line.specs.declared.diagnose_words.DiagnoseCommand.{DiagnoseCommand}
@@ -73,6 +74,23 @@ pub record StandbyValue : Type 0 where
   pub recording : Text
   pub budget : ℕ
 
+-- what a session that goes on for a host that was killed is asked for: the record and the report of that host, and those that are written. All that a
+-- session has is here but its window and its framing
+pub record ResumeValue : Type 0 where
+  pub program : Text
+  pub recorded : Text
+  pub reported : Text
+  pub counts : Text
+  pub recording : Text
+  pub report : Text
+  pub form : Form
+  pub hold : ℕ
+  pub ring : ℕ
+  pub every : ℕ
+  pub frames : ℕ
+  pub budget : ℕ
+  pub guard : Guard
+
 -- what a session for the clients of a port is asked for
 pub record ServeValue : Type 0 where
   pub session : RunValue
@@ -98,6 +116,7 @@ pub data CommandValue : Type 0 where
   replay : ReplayValue → CommandValue
   convert : ConvertValue → CommandValue
   standby : StandbyValue → CommandValue
+  resume : ResumeValue → CommandValue
   serve : ServeValue → CommandValue
   diagnose : DiagnoseValue → CommandValue
   drill : DrillValue → CommandValue
@@ -119,6 +138,9 @@ convert_form = static_form convert_table.CONVERT
 
 unfoldable pub standby_form : CommandForm
 standby_form = static_form standby_table.STANDBY
+
+unfoldable pub resume_form : CommandForm
+resume_form = static_form resume_table.RESUME
 
 unfoldable pub serve_form : CommandForm
 serve_form = static_form serve_table.SERVE
@@ -250,6 +272,75 @@ have_four p =
 unfoldable pub is_standby : Parts → Bool
 is_standby p = fits standby_form p && have_four p
 
+-- the names and numbers of `resume`
+unfoldable pub resume_value : Parts → ResumeValue
+resume_value p = record {
+  program = positional 0 p;
+  recorded = positional 1 p;
+  reported = positional 2 p;
+  counts = positional 3 p;
+  recording = value_of record_row p.options;
+  report = value_of report_row p.options;
+  form = form_of (value_of form_row p.options);
+  hold = number_at (static_row table.HOLD) p.options;
+  ring = number_at (static_row table.RING) p.options;
+  every = number_at (static_row table.EVERY) p.options;
+  frames = number_at (static_row table.FRAMES) p.options;
+  budget = number_at (static_row table.BUDGET) p.options;
+  guard = guard_of (value_of guard_row p.options);
+}
+
+-- what its session is asked for as a `run` in this window and this framing, with the record and the report that are written
+abbrev pub run_in : ResumeValue → ℕ → Framing → RunValue
+run_in value window framing = record {
+  program = value.program;
+  recording = value.recording;
+  report = value.report;
+  form = value.form;
+  frame = framing;
+  window = window;
+  hold = value.hold;
+  ring = value.ring;
+  every = value.every;
+  frames = value.frames;
+  budget = value.budget;
+  guard = value.guard;
+}
+
+-- the numbers of `resume`, each with its row
+abbrev pub resume_numbers : ResumeValue → List (Row × ℕ)
+resume_numbers value =
+    (static_row table.HOLD, value.hold)
+    ∷ (static_row table.RING, value.ring)
+    ∷ (static_row table.EVERY, value.every)
+    ∷ (static_row table.FRAMES, value.frames)
+    ∷ (static_row table.BUDGET, value.budget)
+    ∷ []
+
+-- the four files that are read have four different names
+abbrev pub are_four : Text → Text → Text → Text → Bool
+are_four first second third fourth = differ first second third && is_fourth first second third fourth
+
+-- a text is none of four others
+abbrev pub is_fifth : Text → Text → Text → Text → Text → Bool
+is_fifth first second third fourth fifth = is_fourth first second third fifth && not (bytes_eq fourth fifth)
+
+-- the record and the report that are written have two different names, which none of the four files has
+abbrev pub are_new : Text → Text → Text → Text → Text → Text → Bool
+are_new first second third fourth record_name report_name =
+    is_fifth first second third fourth record_name
+    && (is_fifth first second third fourth report_name && not (bytes_eq record_name report_name))
+
+-- no two of the six names are alike
+abbrev pub have_six : Parts → Bool
+have_six p =
+    are_four (positional 0 p) (positional 1 p) (positional 2 p) (positional 3 p)
+    && are_new (positional 0 p) (positional 1 p) (positional 2 p) (positional 3 p) (value_of record_row p.options) (value_of report_row p.options)
+
+-- the words are those of `resume`: its names are six different texts
+unfoldable pub is_resume : Parts → Bool
+is_resume p = fits resume_form p && have_six p
+
 -- the number that a positional writes
 abbrev pub number_there : ℕ → Parts → ℕ
 number_there index p = unwrap_or (number_of (positional index p)) 0
@@ -320,6 +411,7 @@ form_named named.Asm = asm_form
 form_named named.Replay = replay_form
 form_named named.Convert = convert_form
 form_named named.Standby = standby_form
+form_named named.Resume = resume_form
 form_named named.Serve = serve_form
 form_named named.Diagnose = diagnose_form
 form_named named.Drill = drill_form
@@ -328,7 +420,7 @@ form_named named.Unframe = unframe_form
 
 -- the commands, in the order of the table
 abbrev pub every_name : List CommandName
-every_name = named.Run ∷ named.Asm ∷ named.Replay ∷ named.Convert ∷ named.Standby ∷ named.Serve ∷ named.Diagnose ∷ named.Drill ∷ named.Frame ∷ named.Unframe ∷ []
+every_name = named.Run ∷ named.Asm ∷ named.Replay ∷ named.Convert ∷ named.Standby ∷ named.Resume ∷ named.Serve ∷ named.Diagnose ∷ named.Drill ∷ named.Frame ∷ named.Unframe ∷ []
 
 -- the command whose name is this word
 unfoldable pub name_of : Text → Option CommandName
@@ -341,6 +433,7 @@ is_of named.Asm p = is_asm p
 is_of named.Replay p = is_replay p
 is_of named.Convert p = is_convert p
 is_of named.Standby p = is_standby p
+is_of named.Resume p = is_resume p
 is_of named.Serve p = is_serve p
 is_of named.Diagnose p = is_diagnose p
 is_of named.Drill p = is_drill p
@@ -354,6 +447,7 @@ value_by named.Asm p = asm (asm_value p)
 value_by named.Replay p = replay (replay_value p)
 value_by named.Convert p = convert (convert_value p)
 value_by named.Standby p = standby (standby_value p)
+value_by named.Resume p = resume (resume_value p)
 value_by named.Serve p = serve (serve_value p)
 value_by named.Diagnose p = diagnose (diagnose_value p)
 value_by named.Drill p = drill (drill_value p)
@@ -399,6 +493,23 @@ convert_shown c = record { program = c.program.now; recording = c.recording.now;
 abbrev pub standby_shown : StandbyCommand → StandbyValue
 standby_shown c = record { program = c.program.now; recorded = c.recorded.now; counts = c.counts.now; recording = c.recording.now; budget = c.budget }
 
+abbrev pub resume_shown : ResumeCommand → ResumeValue
+resume_shown c = record {
+  program = c.program.now;
+  recorded = c.recorded.now;
+  reported = c.reported.now;
+  counts = c.counts.now;
+  recording = c.recording.now;
+  report = c.report.now;
+  form = c.form;
+  hold = c.hold;
+  ring = c.ring;
+  every = c.every;
+  frames = c.frames;
+  budget = c.budget;
+  guard = c.guard;
+}
+
 abbrev pub serve_shown : ServeCommand → ServeValue
 serve_shown c = record { session = run_shown c.session; port = c.port; conns = c.conns; patience = c.patience; at_once = c.at_once }
 
@@ -414,6 +525,7 @@ shown (Asm c) = asm (asm_shown c)
 shown (Replay c) = replay (replay_shown c)
 shown (Convert c) = convert (convert_shown c)
 shown (Standby c) = standby (standby_shown c)
+shown (Resume c) = resume (resume_shown c)
 shown (Serve c) = serve (serve_shown c)
 shown (Diagnose c) = diagnose (diagnose_shown c)
 shown (Drill c) = drill (drill_shown c)

@@ -3,7 +3,7 @@ use Rattle.std.specs.Prelude.{◌≡◌, ℕ, ◌≤◌, Bool, true, false, List
 use Rattle.command_line.specs.declared.options.TakesOf.TheVariants.{Name, OneOf, Number}
 use Rattle.command_line.specs.Texts.{Text}
 use Rattle.command_line.specs.Table.{Row, Takes, conns_row, count_row, port_row, seed_row}
-use Rattle.command_line.specs.Commands.{CommandValue, DiagnoseValue, DrillValue, RunValue, ServeValue, StandbyValue, command_of, diagnose, diagnose_form, drill, drill_form, drill_numbers, numbers, run, run_form, serve, serve_form, serve_numbers, standby, standby_form, standby_numbers}
+use Rattle.command_line.specs.Commands.{CommandValue, DiagnoseValue, DrillValue, ResumeValue, RunValue, ServeValue, StandbyValue, command_of, diagnose, diagnose_form, drill, drill_form, drill_numbers, numbers, resume, resume_form, resume_numbers, run, run_form, serve, serve_form, serve_numbers, standby, standby_form, standby_numbers}
 
 -- a row takes numbers
 abbrev pub takes_numbers : Takes → Bool
@@ -33,6 +33,7 @@ HasRanges (run value) = AreInRange value
 HasRanges (serve value) = EachInRange (serve_numbers value) × (value.session.hold ≡ 0)
 HasRanges (diagnose value) = AreInRange value.session
 HasRanges (standby value) = EachInRange (standby_numbers value)
+HasRanges (resume value) = EachInRange (resume_numbers value)
 HasRanges (drill value) = EachInRange (drill_numbers value)
 HasRanges _ = Unit {0}
 
@@ -54,3 +55,4 @@ NumbersOf =
     × ((value : DiagnoseValue) → rows_among (numbers value.session) ≡ numeric diagnose_form.options)
     × ((value : DrillValue) → rows_among (drill_numbers value) ≡ seed_row ∷ count_row ∷ numeric drill_form.options)
     × ((value : StandbyValue) → rows_among (standby_numbers value) ≡ numeric standby_form.options)
+    × ((value : ResumeValue) → rows_among (resume_numbers value) ≡ numeric resume_form.options)

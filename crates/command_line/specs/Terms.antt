@@ -15,3 +15,4 @@ unfoldable pub use Rattle.clap.specs.Takes.{walk_passes}
 pub use Rattle.clap.specs.Walk.{Held, Row, Rule, Text, Walk, arg_by_id, arg_by_index, arg_by_long, at_row, finished, first_of, has_long, has_row, idle, more_values, nothing_held, reading_by, rows_after, rows_of, settled_rows, walk, with_default}
 unfoldable pub use Rattle.clap.specs.Walk.{walked}
 pub use Rattle.clap.specs.Words.{App, app_of, is_simple, matches_of, new_rule, rule_of, takes, with_rule}
+pub use Rattle.msg_frame.specs.declared.framing.Framing.{Framing}

@@ -13,18 +13,20 @@ use crate::drill_words::{DRILL, DrillCommand, are_drill_words, drill_command};
 use crate::frame_words::{FRAME_LINES, UNFRAME, are_frame_words, are_unframe_words};
 use crate::options::{CommandName, CommandRow};
 use crate::replay_words::{REPLAY, ReplayCommand, are_replay_words, replay_command};
+use crate::resume_words::{RESUME, ResumeCommand, are_resume_words, resume_command};
 use crate::run_words::{RUN, RunCommand, are_run_words, run_command};
 use crate::serve_words::{SERVE, ServeCommand, are_serve_words, serve_command};
 use crate::standby_words::{STANDBY, StandbyCommand, are_standby_words, standby_command};
 use std::alloc::{AllocError, Global};
 
 /// The commands.
-pub const COMMANDS: [CommandRow; 10] = [
+pub const COMMANDS: [CommandRow; 11] = [
     RUN,
     ASM,
     REPLAY,
     CONVERT,
     STANDBY,
+    RESUME,
     SERVE,
     DIAGNOSE,
     DRILL,
@@ -32,7 +34,7 @@ pub const COMMANDS: [CommandRow; 10] = [
     UNFRAME,
 ];
 
-static ALL: [CommandRow; 10] = COMMANDS;
+static ALL: [CommandRow; 11] = COMMANDS;
 
 // The commands, as the sentences about them want them.
 pub(crate) fn commands() -> &'static [CommandRow] {
@@ -47,6 +49,7 @@ pub enum Command<'a> {
     Replay(ReplayCommand<'a>),
     Convert(ConvertCommand<'a>),
     Standby(StandbyCommand<'a>),
+    Resume(ResumeCommand<'a>),
     Serve(ServeCommand<'a>),
     Diagnose(DiagnoseCommand<'a>),
     Drill(DrillCommand),
@@ -92,6 +95,7 @@ fn are_words_of(name: CommandName, words: &[String]) -> bool
         CommandName::Replay => are_replay_words(words),
         CommandName::Convert => are_convert_words(words),
         CommandName::Standby => are_standby_words(words),
+        CommandName::Resume => are_resume_words(words),
         CommandName::Serve => are_serve_words(words),
         CommandName::Diagnose => are_diagnose_words(words),
         CommandName::Drill => are_drill_words(words),
@@ -141,6 +145,7 @@ fn command_by<'a>(
         CommandName::Replay => Ok(Command::Replay(replay_command(alloc, words)?)),
         CommandName::Convert => Ok(Command::Convert(convert_command(alloc, words)?)),
         CommandName::Standby => Ok(Command::Standby(standby_command(alloc, words)?)),
+        CommandName::Resume => Ok(Command::Resume(resume_command(alloc, words)?)),
         CommandName::Serve => Ok(Command::Serve(serve_command(alloc, words)?)),
         CommandName::Diagnose => Ok(Command::Diagnose(diagnose_command(alloc, words)?)),
         CommandName::Drill => Ok(Command::Drill(drill_command(alloc, words)?)),

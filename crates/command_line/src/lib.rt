@@ -20,6 +20,7 @@ mod options;
 mod parts;
 mod positionals;
 mod replay_words;
+mod resume_words;
 mod run_words;
 mod serve_words;
 mod standby_words;
@@ -41,6 +42,7 @@ pub use options::{
 };
 pub use positionals::POSITIONALS;
 pub use replay_words::{REPLAY, REPLAY_OPTIONS, ReplayCommand};
+pub use resume_words::{REPORTED, RESUME, RESUME_OPTIONS, ResumeCommand, run_in};
 pub use run_words::{Form, Guard, RUN, RUN_OPTIONS, RunCommand};
 pub use serve_words::{SERVE, SERVE_NUMBERS, SERVE_OPTIONS, ServeCommand};
 pub use standby_words::{STANDBY, STANDBY_OPTIONS, StandbyCommand};

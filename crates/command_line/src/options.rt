@@ -45,6 +45,7 @@ pub enum CommandName {
     Replay,
     Convert,
     Standby,
+    Resume,
     Serve,
     Diagnose,
     Drill,

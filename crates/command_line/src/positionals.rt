@@ -3,12 +3,13 @@ use crate::asm_words::{OUT, SOURCE};
 use crate::drill_words::{COUNT, SEED};
 use crate::options::{OptionRow, RowOf, TakesOf};
 use crate::replay_words::RECORDED;
+use crate::resume_words::REPORTED;
 use crate::run_words::PROGRAM;
 use crate::serve_words::{CONNS, PORT};
 use crate::standby_words::COUNTS;
 
 /// The names that stand behind a command, with what each of them may be. None of them has a default.
-pub const POSITIONALS: [OptionRow; 9] = [
+pub const POSITIONALS: [OptionRow; 10] = [
     RowOf {
         name: PROGRAM,
         takes: TakesOf::Name,
@@ -20,6 +21,12 @@ pub const POSITIONALS: [OptionRow; 9] = [
         takes: TakesOf::Name,
         default: None,
         says: "The file of the record of a session.",
+    },
+    RowOf {
+        name: REPORTED,
+        takes: TakesOf::Name,
+        default: None,
+        says: "The file of the report of a session.",
     },
     RowOf {
         name: COUNTS,

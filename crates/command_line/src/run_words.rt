@@ -188,7 +188,7 @@ pub struct RunCommand<'a> {
 }
 
 // The form of a report by its text.
-fn form_of(text: &str) -> Form
+pub(crate) fn form_of(text: &str) -> Form
     ensures { result ≡ form_of text.now }
 {
     if text == JSON { Form::Json } else { Form::Text }
@@ -208,7 +208,7 @@ fn frame_of(text: &str) -> Framing
 }
 
 // How the heap is guarded, by its text.
-fn guard_of(text: &str) -> Guard
+pub(crate) fn guard_of(text: &str) -> Guard
     ensures { result ≡ guard_of text.now }
 {
     if text == EXTENT {

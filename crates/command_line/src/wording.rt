@@ -7,6 +7,7 @@ use crate::options::{CommandName, CommandRow, OptionRow, Takes, TakesOf, is_name
 use crate::parts::{Part, given, is_there, next_part, positional};
 use crate::positionals::positional_named;
 use crate::replay_words::RECORDED;
+use crate::resume_words::REPORTED;
 use crate::run_words::{PROGRAM, recording, report};
 use crate::standby_words::COUNTS;
 use crate::texts::is_name;
@@ -320,6 +321,42 @@ fn alike_of_names(alloc: Global, words: &[String]) -> Result<Option<String>, All
     alike(alloc, words, RECORDED, recorded, COUNTS, counts)
 }
 
+// Which of these names is alike to a text. Each stands beside what it is the name of.
+fn alike_among(
+    alloc: Global,
+    words: &[String],
+    first: &str,
+    one: &str,
+    names: &[(&str, &str)],
+) -> Result<Option<String>, AllocError> {
+    for (second, other) in names {
+        let wrong = alike(alloc, words, first, one, *second, *other)?;
+        if wrong.is_some() {
+            return Ok(wrong);
+        }
+    }
+    Ok(None)
+}
+
+// Which names of `resume` are alike.
+fn alike_of_resume(alloc: Global, words: &[String]) -> Result<Option<String>, AllocError> {
+    let names = [
+        (PROGRAM, name_at(words, 0)),
+        (RECORDED, name_at(words, 1)),
+        (REPORTED, name_at(words, 2)),
+        (COUNTS, name_at(words, 3)),
+        ("--record", recording(words)),
+        ("--report", report(words)),
+    ];
+    for (i, (first, one)) in names.iter().enumerate() {
+        let wrong = alike_among(alloc, words, *first, *one, &names[..i])?;
+        if wrong.is_some() {
+            return Ok(wrong);
+        }
+    }
+    Ok(None)
+}
+
 // Which names of a command are alike.
 fn alike_of(
     alloc: Global,
@@ -333,6 +370,7 @@ fn alike_of(
         CommandName::Asm => alike_of_asm(alloc, words),
         CommandName::Convert => alike_of_convert(alloc, words),
         CommandName::Standby => alike_of_standby(alloc, words),
+        CommandName::Resume => alike_of_resume(alloc, words),
         CommandName::Replay => Ok(None),
         CommandName::Drill => Ok(None),
         CommandName::Frame => Ok(None),

@@ -11,12 +11,12 @@ use std::rt;
 pub struct Through<'a> {
     /// On the disk behind each addition that succeeded.
     pub each: &'a str,
-    /// On the disk behind the first addition since it was started.
+    /// On the disk where it is started, and behind the first addition since then.
     pub first: &'a str,
 }
 
 /// The files of the system, by their paths, of which some may be written through to the disk. An addition to one of these succeeds only where the disk
-/// took it; behind the first one since the file was started the disk has its place in its folder too.
+/// took it; behind the first one since the file was started the disk has its place in its folder too. Once `first` is started the disk has none of its old bytes.
 #[derive(Drop)]
 pub struct DiskFiles<'a, R: rt::Files> {
     rt: &'a R,
@@ -86,6 +86,14 @@ impl<'a, R: rt::Files> DiskFiles<'a, R> {
         sync_file(self.rt, name) && (!begins || sync_folder(self.rt, folder_of(name)))
     }
 
+    // Writes through to the disk that a file was started, if it is one whose old bytes mustn't come back.
+    fn empty_through(&self, name: &str) -> bool {
+        match self.through {
+            Some(through) => through.first != name || sync_file(self.rt, name),
+            None => true,
+        }
+    }
+
     // Notes whether the next addition to a file is its first one.
     fn mark(&mut self, name: &str, begins: bool)
         ensures { self.new.faults ≡ self.old.faults }
@@ -123,11 +131,18 @@ impl<R: rt::Files> Files for DiskFiles<'_, R> {
 
     fn start(&mut self, name: &str) -> Result<(), IoFault> {
         self.mark(name, true);
-        let result = self.files.start(name);
-        if let Err(IoFault::Failed) = result {
-            self.faults = self.faults.saturating_add(1);
+        if let Err(fault) = self.files.start(name) {
+            if let IoFault::Failed = fault {
+                self.faults = self.faults.saturating_add(1);
+            }
+            return Err(fault);
         }
-        result
+        if self.empty_through(name) {
+            Ok(())
+        } else {
+            self.faults = self.faults.saturating_add(1);
+            Err(IoFault::Failed)
+        }
     }
 
     fn add(&mut self, name: &str, bytes: &[u8]) -> Result<(), IoFault> {

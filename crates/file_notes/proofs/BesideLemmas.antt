@@ -10,7 +10,7 @@ same_or_other a b = elim (bytes_eq a b) as (λ t. bytes_eq a b ≡ t → (a ≡ 
   | false ↦ λ e. inr (λ same. true≢false (sym ((bytes_eq-Decides a b).1 same) ∙ e))
 ] refl
 
-not_same : (a b : List ℕ) → a ≢ b → bytes_eq a b ≡ false
+pub not_same : (a b : List ℕ) → a ≢ b → bytes_eq a b ≡ false
 not_same a b other = elim (bytes_eq a b) as (λ t. bytes_eq a b ≡ t → bytes_eq a b ≡ false) [
   | true ↦ λ e. absurd (other ((bytes_eq-Decides a b).0 e))
   | false ↦ λ e. e

@@ -1,5 +1,5 @@
 -- Calls on files, one run of them behind the other, and those that notes make.
-use Rattle.file_notes.proofs.Terms.{Bool, Err, List, None, Ok, Option, Result, Some, [], ap, append-nil, append_assoc, length, refl, subst, sym, take, true, ℕ, ◌++◌, ◌∙◌, ◌∷◌, ◌≡◌, drop-append_seam, take-append_seam, take-append-drop, All-append, All-cons, All-nil, bytes_eq-Decides, All, bytes_eq, drop, false, ◌||◌, IoFault, Failed, Memory, FileCall, Added, Started, Calls, calls_of, Names, AddsAlone, CallsFront, CallsUpTo, is_addition, starts_of, Called}
+use Rattle.file_notes.proofs.Terms.{Bool, Err, List, None, Ok, Option, Result, Some, [], ap, append-nil, append_assoc, length, refl, subst, sym, take, true, ℕ, ◌++◌, ◌∙◌, ◌∷◌, ◌≡◌, drop-append_seam, take-append_seam, take-append-drop, All-append, All-cons, All-nil, bytes_eq-Decides, All, bytes_eq, drop, false, ◌||◌, IoFault, Failed, Memory, FileCall, Added, Started, Calls, calls_of, Names, AddsAlone, CallsFront, CallsUpTo, is_addition, starts_of, taking_over, Called}
 
 -- ---- runs of calls
 
@@ -44,6 +44,23 @@ call_up_to old new call (Err Memory) made = record { front = []; begins = (call 
 pub starts_calls : (old mid new : Option (List FileCall)) (name : List ℕ) (result : Result (Unit {0}) IoFault)
     → Calls old mid (calls_of (Started name) (Ok tt)) → Calls mid new (calls_of (Added name) result) → CallsUpTo old new (starts_of name) result
 starts_calls old mid new name result started added = calls_behind old mid new (Started name ∷ []) (Added name ∷ []) result started (call_up_to mid new (Added name) result added)
+
+-- ---- a session that takes over
+
+pub taking_none : (names : Names) (old new : Option (List FileCall)) (fault : IoFault) → Calls old new (calls_of (Started names.record_name) (Err fault)) → CallsFront old new (taking_over names)
+taking_none names old new fault made =
+    front_first (Started names.record_name ∷ []) (Started names.report_name ∷ Added names.report_name ∷ Added names.record_name ∷ []) (call_up_to old new (Started names.record_name) (Err fault) made)
+
+pub taking_part : (names : Names) (old mid new : Option (List FileCall)) → Calls old mid (Started names.record_name ∷ []) → CallsFront mid new (starts_of names.report_name) → CallsFront old new (taking_over names)
+taking_part names old mid new one made =
+    front_behind old mid new (Started names.record_name ∷ []) (Started names.report_name ∷ Added names.report_name ∷ Added names.record_name ∷ []) one
+    (front_first (starts_of names.report_name) (Added names.record_name ∷ []) made)
+
+pub taking_all : {T : Type 0} (names : Names) (old mid later new : Option (List FileCall)) (result : Result T IoFault) → Calls old mid (Started names.record_name ∷ []) → Calls mid later (starts_of names.report_name)
+    → CallsUpTo later new (Added names.record_name ∷ []) result → CallsUpTo old new (taking_over names) result
+taking_all names old mid later new result one two more =
+    calls_behind old later new (Started names.record_name ∷ Started names.report_name ∷ Added names.report_name ∷ []) (Added names.record_name ∷ []) result
+    (calls_then old mid later (Started names.record_name ∷ []) (starts_of names.report_name) one two) more
 
 -- ---- notes
 

@@ -12,6 +12,10 @@ starts_of name = Started name ∷ Added name ∷ []
 abbrev pub starting : Names → List FileCall
 starting names = Started names.record_name ∷ Added names.record_name ∷ Started names.report_name ∷ Added names.report_name ∷ []
 
+-- the calls of a session that takes over: the record is started first, and gets its text behind that of the report
+abbrev pub taking_over : Names → List FileCall
+taking_over names = Started names.record_name ∷ Started names.report_name ∷ Added names.report_name ∷ Added names.record_name ∷ []
+
 -- the calls that end both files, the record first
 abbrev pub ending : Names → List FileCall
 ending names = Added names.record_name ∷ Added names.report_name ∷ []

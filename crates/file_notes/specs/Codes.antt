@@ -40,4 +40,4 @@ abbrev pub calls_code : Coded (Option (List FileCall))
 calls_code = coded_option (coded_list file_call.the_row.coded)
 
 abbrev pub past_code : Coded Past
-past_code = code_by (Option Had × (Option (List FileCall) × (List Choice × (List Episode × Left)))) (coded× (coded_option had_code) (coded× calls_code (coded× (coded_list choice.the_row.coded) (coded× (coded_list episode.the_row.coded) left_code)))) (λ p. (p.had, (p.calls, (p.choices, (p.episodes, p.left))))) (λ p. record { had = p.0; calls = p.1.0; choices = p.1.1.0; episodes = p.1.1.1.0; left = p.1.1.1.1 }) (λ _. refl)
+past_code = code_by (ℕ × (Option Had × (Option (List FileCall) × (List Choice × (List Episode × Left))))) (coded× coded_ℕ (coded× (coded_option had_code) (coded× calls_code (coded× (coded_list choice.the_row.coded) (coded× (coded_list episode.the_row.coded) left_code))))) (λ p. (p.first, (p.had, (p.calls, (p.choices, (p.episodes, p.left)))))) (λ p. record { first = p.0; had = p.1.0; calls = p.1.1.0; choices = p.1.1.1.0; episodes = p.1.1.1.1.0; left = p.1.1.1.1.1 }) (λ _. refl)

@@ -10,17 +10,20 @@ pub record Had : Type 0 where
   pub record_bytes : Option (List ℕ)
   pub report_bytes : Option (List ℕ)
 
--- what the two files had before and which calls were made before, if that was told; what was noted since, and what a call that failed left
+-- what the two files had before and which calls were made before, if that was told; the number of the first episode; what was noted since, and what a
+-- call that failed left
 pub record Past : Type 0 where
+  pub first : ℕ
   pub had : Option Had
   pub calls : Option (List FileCall)
   pub choices : List Choice
   pub episodes : List Episode
   pub left : Left
 
--- nothing was noted yet
-abbrev pub begun : Option Contents → Option (List FileCall) → Names → Past
-begun told calls names = record {
+-- nothing was noted yet, and the first episode will have this number
+abbrev pub begun : Option Contents → Option (List FileCall) → Names → ℕ → Past
+begun told calls names first = record {
+  first = first;
   had = option_map (λ (files : Contents). record { record_bytes = files names.record_name; report_bytes = files names.report_name }) told;
   calls = calls;
   choices = [];
@@ -55,7 +58,7 @@ without_choices names past more now =
 
 abbrev pub without_episode : Names → Form → Past → Episode → Option Contents → Past
 without_episode names form past e now =
-    record past { left = InReport e (behind now names.report_name (length (had_report past.had ++ episode_texts form 0 past.episodes))) }
+    record past { left = InReport e (behind now names.report_name (length (had_report past.had ++ episode_texts form past.first past.episodes))) }
 
 -- what the files had before: the two what they had, and each other one what it has now
 abbrev pub had_in : Names → Had → Contents → Contents

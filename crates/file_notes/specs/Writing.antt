@@ -67,3 +67,25 @@ StartsBoth = WritesBoth nothing_kept
 
 abbrev pub AddsBoth : Names → List ℕ → List ℕ → Option Contents → Option Contents → Result (Unit {0}) IoFault → Type 0
 AddsBoth = WritesBoth all_kept
+
+-- ---- both files of a session that takes over
+
+-- How far the two were begun. Neither was; or the record is empty, and the report as before or with a part of its text; or the report has its whole text,
+-- and the record is empty or has a part of its own
+pub data BegunPartly (of_record of_report : List ℕ) (record_old record_new report_old report_new : Option (List ℕ)) : Type 0 where
+  Unbegun : record_new ≡ record_old → report_new ≡ report_old → BegunPartly of_record of_report record_old record_new report_old report_new
+  Emptied : record_new ≡ Some [] → HasPart nothing_kept of_report report_old report_new → BegunPartly of_record of_report record_old record_new report_old report_new
+  Copied : (count : ℕ) → record_new ≡ Some (take count of_record) → HasWhole nothing_kept of_report report_old report_new → BegunPartly of_record of_report record_old record_new report_old report_new
+
+-- the two were begun so far, and all other files are as before
+pub record HasBegunPartly (names : Names) (of_record of_report : List ℕ) (old new : Contents) : Type 0 where
+  pub begun : BegunPartly of_record of_report (old names.record_name) (new names.record_name) (old names.report_name) (new names.report_name)
+  pub others : AreOthers names old new
+
+-- The record is emptied, then the report is started with its text, and then the record gets its own, where the files tell it. After a fault or want of
+-- memory, partly
+abbrev pub TakesOverBoth : Names → List ℕ → List ℕ → Option Contents → Option Contents → Result (Unit {0}) IoFault → Type 0
+TakesOverBoth names of_record of_report None new result = Unit {0}
+TakesOverBoth names of_record of_report (Some old) None result = ⊥
+TakesOverBoth names of_record of_report (Some old) (Some new) (Ok done) = HasBoth nothing_kept names of_record of_report old new
+TakesOverBoth names of_record of_report (Some old) (Some new) (Err fault) = HasBegunPartly names of_record of_report old new

@@ -1,4 +1,4 @@
-// Adding texts to files.
+// Texts of what was noted, and adding them to files.
 ghost use Rattle.std.specs.Prelude.{◌≡◌, ◌+◌, ◌^◌, ◌<◌, true, [], ◌∷◌, IfOk};
 ghost use Rattle.rx_io.specs.Faults.{HasCause};
 ghost use Rattle.rx_io.specs.Named.{Adds};
@@ -8,9 +8,10 @@ ghost use Rattle.run_report.specs.Report.{episode_text};
 ghost use Rattle.schedule_file.specs.Lines.{choice_lines};
 ghost use Rattle.schedule_file.specs.Telling.{is_ask};
 ghost use Rattle.file_notes.specs.Asks.{AreAsks};
+ghost use Rattle.file_notes.specs.Texts.{told_text};
 
 use block_book::{Ask, Choice};
-use run_report::{Form, episode_text};
+use run_report::{Form, episode_text, head_text};
 use rx_io::{Bytes, Files, IoFault};
 use schedule_file::add_choice;
 use session_notes::Episode;
@@ -36,6 +37,24 @@ fn choice_bytes(alloc: Global, list: &[Choice]) -> Result<Bytes, AllocError>
     'choices: for choice in list {
         know_numbers(choice.ask);
         add_choice(&mut bytes, *choice)?;
+    }
+    Ok(Bytes::from_vec(bytes))
+}
+
+// The first line of a report, and behind it the texts of some episodes, numbered from 0.
+pub(crate) fn told_bytes(
+    alloc: Global,
+    form: Form,
+    episodes: &[Episode],
+) -> Result<Bytes, AllocError>
+    ensures { IfOk result (λ bytes. bytes ≡ told_text form episodes.now) }
+{
+    let head = head_text(alloc, form)?;
+    let mut bytes = Vec::new(alloc);
+    bytes.extend_from_slice(head.as_slice())?;
+    'episodes: for (i, e) in episodes.iter().enumerate() {
+        let text = episode_text(alloc, i as u64, e, form)?;
+        bytes.extend_from_slice(text.as_slice())?;
     }
     Ok(Bytes::from_vec(bytes))
 }

@@ -1,19 +1,22 @@
-// The first and the last lines of both files.
+// How both files are begun, and their last lines.
 ghost use Rattle.std.specs.Prelude.{◌≡◌, ◌≤◌, ◌<◌, ◌^◌};
 ghost use Rattle.rx_io.specs.Faults.{HasCause};
 ghost use Rattle.run_report.specs.Report.{head_text, end_text};
 ghost use Rattle.schedule_file.specs.Lines.{head_line, end_line};
 ghost use Rattle.schedule_file.specs.declared.recorded.TheConstants.{MAX_WINDOW, MAX_TAKEN, VERSION};
 ghost use Rattle.file_notes.specs.Names.{AreTwo, names_in};
-ghost use Rattle.file_notes.specs.Calling.{CallsUpTo, starting, ending};
-ghost use Rattle.file_notes.specs.Writing.{StartsBoth, AddsBoth};
+ghost use Rattle.file_notes.specs.Calling.{CallsUpTo, starting, ending, taking_over};
+ghost use Rattle.file_notes.specs.Texts.{told_text};
+ghost use Rattle.file_notes.specs.Writing.{StartsBoth, AddsBoth, TakesOverBoth};
 
+use crate::adding::told_bytes;
 use crate::file_names::FileNames;
-use crate::writing::{add_both, start_both};
+use crate::writing::{add_both, start_both, take_over_both};
 use msg_frame::Framing;
 use run_report::{Form, end_text, head_text};
 use rx_io::{Files, IoFault};
 use schedule_file::{end_line, head_line};
+use session_notes::Episode;
 use std::alloc::Global;
 
 /// What a record's first line says: the window in MiB, and the framing.
@@ -60,6 +63,38 @@ pub fn start_files<F: Files>(
         return Err(IoFault::Memory);
     };
     start_both(files, names, of_record.as_slice(), of_report.as_slice())
+}
+
+/// Starts both files of a session that takes over from one that had these episodes, whatever the two had. The record is emptied first. Then the report is
+/// started with its first line and the texts of the episodes, numbered from 0. Last the record gets its first line. So a report with a part of them stands
+/// beside an empty record alone. Where memory runs out before the first call no call is made.
+///
+/// # Errors
+///
+/// `Failed` only where the count of faults rose; `Memory`.
+pub fn start_taken_over<F: Files>(
+    alloc: Global,
+    files: &mut F,
+    names: &FileNames<'_>,
+    first: &FirstLine,
+    form: Form,
+    episodes: &[Episode],
+) -> Result<(), IoFault>
+    requires two { AreTwo (names_in names.now) }
+    requires least { 1 ≤ first.now.window }
+    requires most { first.now.window ≤ MAX_WINDOW }
+    ensures starts { TakesOverBoth (names_in names.now) (head_line VERSION first.now.window first.now.frame) (told_text form episodes.now) (F.told files.old) (F.told files.new) result }
+    ensures calls { CallsUpTo (F.calls files.old) (F.calls files.new) (taking_over (names_in names.now)) result }
+    ensures fixed { F.fixed files.new ≡ F.fixed files.old }
+    ensures cause { HasCause (F.faults files.old) (F.faults files.new) result }
+{
+    let Ok(of_record) = head_line(alloc, first.window, first.frame) else {
+        return Err(IoFault::Memory);
+    };
+    let Ok(of_report) = told_bytes(alloc, form, episodes) else {
+        return Err(IoFault::Memory);
+    };
+    take_over_both(files, names, of_record.as_slice(), of_report.as_slice())
 }
 
 /// Adds the record's last line, and then the report's. Where memory runs out no call is made.

@@ -29,7 +29,7 @@ impl<'n, F: Files> FileNotes<'n, F> {
     ghost use Rattle.std.specs.Prelude.{◌≡◌, [], true};
     ghost use Rattle.file_notes.specs.Names.{AreTwo, names_in};
     ghost use Rattle.file_notes.specs.Left.{Nothing, is_whole};
-    ghost use Rattle.file_notes.specs.Notes.{files_of, names_of, form_of, choices_of, episodes_of, left_of, told_before, calls_before, StandsIn};
+    ghost use Rattle.file_notes.specs.Notes.{files_of, names_of, form_of, choices_of, episodes_of, left_of, first_of, told_before, told_behind, calls_before, StandsIn, StandsInBehind};
     ghost use Rattle.file_notes.specs.Calling.{AddsAlone};
     ghost use Rattle.file_notes.specs.Asks.{AreAsks};
 
@@ -47,6 +47,7 @@ impl<'n, F: Files> FileNotes<'n, F> {
         let past = Past::of(&Fresh {
             files: &files,
             names,
+            number: 0,
         });
         FileNotes {
             alloc,
@@ -54,6 +55,38 @@ impl<'n, F: Files> FileNotes<'n, F> {
             names,
             form,
             number: 0,
+            broken: false,
+            past,
+        }
+    }
+
+    /// The same behind a report that has so many episodes: the first one that is noted has this number, and the later ones are numbered on from it.
+    pub fn make_behind(
+        alloc: Global,
+        files: F,
+        names: FileNames<'n>,
+        form: Form,
+        number: u64,
+    ) -> FileNotes<'n, F>
+        requires { AreTwo (names_in names) }
+        ensures files { files_of result ≡ files }
+        ensures names { names_of result ≡ names_in names.entry }
+        ensures form { form_of result ≡ form }
+        ensures first { first_of result ≡ number }
+        ensures nothing { (choices_of result ≡ []) × ((episodes_of result ≡ []) × (left_of result ≡ Nothing)) }
+        ensures behind { (told_behind result ≡ F.told files) × (calls_before result ≡ F.calls files) }
+    {
+        let past = Past::of(&Fresh {
+            files: &files,
+            names,
+            number,
+        });
+        FileNotes {
+            alloc,
+            files,
+            names,
+            form,
+            number,
             broken: false,
             past,
         }
@@ -71,6 +104,7 @@ impl<'n, F: Files> FileNotes<'n, F> {
     pub fn is_whole(&self) -> bool
         ensures whole { result ≡ is_whole (left_of self.now) }
         ensures stands { StandsIn self.now }
+        ensures behind { StandsInBehind self.now }
         ensures adds { AddsAlone (names_of self.now) (calls_before self.now) (F.calls (files_of self.now)) }
         ensures asks { AreAsks (choices_of self.now) }
     {
@@ -79,7 +113,7 @@ impl<'n, F: Files> FileNotes<'n, F> {
 }
 
 impl<'n, F: Files> Notes for FileNotes<'n, F> {
-    ghost use Rattle.std.specs.Prelude.{◌≡◌, ◌<◌, length, List, Option};
+    ghost use Rattle.std.specs.Prelude.{◌≡◌, ◌<◌, ℕ, length, List, Option};
     ghost use Rattle.rx_io.specs.Named.{Contents};
     ghost use Rattle.rx_io.specs.declared.file_calls.FileCall.{FileCall};
     ghost use Rattle.session_notes.specs.Noting.{ChoicesShow, EpisodeShows};
@@ -90,7 +124,7 @@ impl<'n, F: Files> Notes for FileNotes<'n, F> {
 
     ghost shown = { shown_of F.faults };
 
-    ghost Fixed = { F.Fixed × (Names × (Form × (Option Contents × Option (List FileCall)))) };
+    ghost Fixed = { (F.Fixed × (Option Contents × ℕ)) × (Names × (Form × (Option Contents × Option (List FileCall)))) };
 
     ghost fixed = { notes_fixed };
 

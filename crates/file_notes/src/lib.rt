@@ -1,7 +1,7 @@
 //! A session's notes as two files: its record and its report.
 //!
 //! The two names are different; each call requires it. No other file changes.
-//! The report is started behind the whole first line of the record.
+//! The report is started behind the whole first line of the record. A session that takes over from another starts its own behind an empty record.
 //! Which calls on the two files were made, in order, is said of each call here.
 //! After a call that failed nothing more is added, and want of memory is answered.
 //! `KeepingNotes` are notes whose episodes are kept in memory too, for who writes them into a third file.
@@ -18,7 +18,7 @@ pub mod laws;
 mod past;
 mod writing;
 
-pub use ends::{FirstLine, LastLines, end_files, start_files};
+pub use ends::{FirstLine, LastLines, end_files, start_files, start_taken_over};
 pub use file_names::FileNames;
 pub use file_notes::FileNotes;
 pub use keeping_notes::KeepingNotes;

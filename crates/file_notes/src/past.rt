@@ -36,15 +36,16 @@ impl Past {
     }
 }
 
-// Files and their names, before anything is noted.
+// Files and their names, before anything is noted, and the number that the first episode will have.
 #[derive(Drop)]
 pub(crate) struct Fresh<'a, 'n, F> {
     pub(crate) files: &'a F,
     pub(crate) names: FileNames<'n>,
+    pub(crate) number: u64,
 }
 
 impl<'a, 'n, F: Files> Remembers for Fresh<'a, 'n, F> {
-    ghost past = { λ fresh. begun (F.told fresh.files.now) (F.calls fresh.files.now) (names_in fresh.names) };
+    ghost past = { λ fresh. begun (F.told fresh.files.now) (F.calls fresh.files.now) (names_in fresh.names) fresh.number };
 }
 
 // Answers of the allocator that were noted.

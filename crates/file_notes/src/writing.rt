@@ -3,8 +3,8 @@ ghost use Rattle.std.specs.Prelude.{◌≡◌, [], ◌∷◌};
 ghost use Rattle.rx_io.specs.Faults.{HasCause};
 ghost use Rattle.rx_io.specs.declared.file_calls.FileCall.TheVariants.{Added};
 ghost use Rattle.file_notes.specs.Names.{AreTwo, names_in};
-ghost use Rattle.file_notes.specs.Calling.{CallsUpTo, starts_of, starting, ending};
-ghost use Rattle.file_notes.specs.Writing.{Writes, StartsBoth, AddsBoth, nothing_kept, all_kept};
+ghost use Rattle.file_notes.specs.Calling.{CallsUpTo, starts_of, starting, ending, taking_over};
+ghost use Rattle.file_notes.specs.Writing.{Writes, StartsBoth, AddsBoth, TakesOverBoth, nothing_kept, all_kept};
 
 use crate::file_names::FileNames;
 use rx_io::{Files, IoFault};
@@ -57,6 +57,28 @@ pub(crate) fn start_both<F: Files>(
 {
     match start_file(files, names.record, of_record) {
         Ok(()) => start_file(files, names.report, of_report),
+        Err(fault) => Err(fault),
+    }
+}
+
+// Empties the record, starts the report with a text, and then adds a text to the record.
+pub(crate) fn take_over_both<F: Files>(
+    files: &mut F,
+    names: &FileNames<'_>,
+    of_record: &[u8],
+    of_report: &[u8],
+) -> Result<(), IoFault>
+    requires { AreTwo (names_in names.now) }
+    ensures writes { TakesOverBoth (names_in names.now) of_record.now of_report.now (F.told files.old) (F.told files.new) result }
+    ensures calls { CallsUpTo (F.calls files.old) (F.calls files.new) (taking_over (names_in names.now)) result }
+    ensures fixed { F.fixed files.new ≡ F.fixed files.old }
+    ensures cause { HasCause (F.faults files.old) (F.faults files.new) result }
+{
+    match files.start(names.record) {
+        Ok(()) => match start_file(files, names.report, of_report) {
+            Ok(()) => add_to_file(files, names.record, of_record),
+            Err(fault) => Err(fault),
+        },
         Err(fault) => Err(fault),
     }
 }

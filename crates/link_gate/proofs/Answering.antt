@@ -1,6 +1,6 @@
 -- What is heard of an event that was taken.
 use Rattle.session_history.specs.Heeding as unheeded
-use Rattle.link_gate.proofs.Terms.{List, None, Some, [], ap, append-nil, arith, false, inr, length, length-append, refl, subst, sym, ℕ, ◌++◌, ◌<◌, ◌∙◌, ◌∷◌, ◌≡◌, ◌≤◌, none-some, same_Some, Err, Ok, Result, Send, Entry, Took, LinkEvent, Closes, Ends, Opens, Piece, Settles, IsInOrder, Phases, phases_after, Seen, items_of, Fits, Log, logged, Ledger, IsHeard, IsUnheeded, closing_of, Bounds, Unheeded, events_of, heeded, items_in, refusal, KeepsItems, KeepsPhases, KeepsReplies, phase_after, closes, opens, HearFault, Heard, HearsBy, HearsEvent, HearsThis, MayHear, Takes, IsNew, TakesIn, TakesOrEnds, entered}
+use Rattle.link_gate.proofs.Terms.{List, None, Some, [], ap, append-nil, arith, false, inr, length, length-append, refl, subst, sym, ℕ, ◌++◌, ◌<◌, ◌∙◌, ◌∷◌, ◌≡◌, ◌≤◌, false≢true, none-some, same_Some, Err, Ok, Result, is_ok, Send, Entry, Took, LinkEvent, Closes, Ends, Opens, Piece, Settles, IsInOrder, Phases, phases_after, Seen, items_of, Fits, Log, logged, Ledger, IsHeard, IsUnheeded, closing_of, Bounds, Unheeded, events_of, heeded, items_in, refusal, KeepsItems, KeepsPhases, KeepsReplies, phase_after, closes, opens, HearFault, Heard, HearsBy, HearsEvent, HearsThis, MayHear, Takes, IsNew, TakesIn, TakesOrEnds, entered}
 use Rattle.link_gate.specs.declared.heard.Heard.TheVariants as heard
 use Rattle.link_gate.specs.declared.heard.HearFault.TheVariants as fault
 use Rattle.link_gate.proofs.Phasing.{phases_behind, unopened_by, open_by}
@@ -161,3 +161,9 @@ pub hears_some : (bounds : Bounds) (entries : List Entry) (sends : List Send) (l
     → HearsBy bounds entries sends log ledger now seen shown result
 hears_some bounds entries sends log ledger seen shown now event (Ok answer) did = (event, did)
 hears_some bounds entries sends log ledger seen shown now event (Err fault) did = did
+
+-- where none was taken in, no event is named
+pub hears_none : (bounds : Bounds) (entries : List Entry) (sends : List Send) (log : Log) (ledger : Ledger) (seen shown : Seen) (now : ℕ) (came kept : LinkEvent) (result : Result Heard HearFault) → is_ok result ≡ false
+    → HearsEvent bounds entries sends log ledger now seen shown came result → HearsEvent bounds entries sends log ledger now seen shown kept result
+hears_none bounds entries sends log ledger seen shown now came kept (Ok answer) none did = absurd (false≢true (sym none))
+hears_none bounds entries sends log ledger seen shown now came kept (Err fault) none did = did

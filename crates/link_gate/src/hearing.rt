@@ -1,5 +1,5 @@
 // The next event of a link comes into the log, and into the ledger where it opens a connection.
-ghost use Rattle.std.specs.Prelude.{◌≡◌, ◌≢◌, List, length, None};
+ghost use Rattle.std.specs.Prelude.{◌≡◌, ◌≢◌, List, length, None, OnErr};
 ghost use Rattle.links.specs.declared.journal.Entry.{Entry};
 ghost use Rattle.rx_io.specs.Sends.{Send};
 ghost use Rattle.session_history.specs.Heeding.{Bounds, events_of};
@@ -41,7 +41,7 @@ pub fn hear<K: Link>(
     hear_into(link, log, replies, events, max_events, &mut event)
 }
 
-/// Takes the next event of a link as `hear` does. Where it was taken in, it stands in `event` then.
+/// Takes the next event of a link as `hear` does. Where it was taken in, it stands in `event` then; at an error `event` stays as it was.
 ///
 /// # Errors
 ///
@@ -60,12 +60,15 @@ pub fn hear_into<K: Link>(
         → HearsEvent bounds entries sends log.new replies.new events.new (K.seen link.old) (K.seen link.new) event.new result }
     ensures shows { HearShows (K.seen link.old) (K.seen link.new) replies.new result }
     ensures keeps { KeepsHearing log.old log.new replies.old replies.new events.old events.new max_events result }
+    ensures left { OnErr result (event.new ≡ event.old) }
     ensures went { K.Went link.old link.new }
 {
     match link.next() {
         Ok(next) => {
             let heard = take_or_end(&next, log, replies, events, max_events);
-            *event = next;
+            if heard.is_ok() {
+                *event = next;
+            }
             heard
         }
         Err(fault) => Err(fault_of(fault)),

@@ -7,9 +7,10 @@ use Rattle.session_history.specs.Opened.{is_gone}
 use Rattle.session_history.specs.Giving.{AreGiven}
 use Rattle.session_history.specs.Ends.{EndsBy}
 use Rattle.session_history.proofs.Endings.{events_in-given, received_at_end, given_broken}
+use Rattle.session_history.proofs.Heeding.{events_of-append, events_alone}
 use Rattle.session_history.proofs.Turns.{links_open_once}
 use Rattle.session_history.proofs.Sent.{sent_is_passed}
-use Rattle.over_trunk.proofs.Terms.{Bool, List, None, Option, Some, [], ap, append-nil, append_assoc, arith, false, inl, inr, length, length-append, refl, subst, sym, true, ℕ, ◌++◌, ◌<◌, ◌==◌, ◌∙◌, ◌∷◌, ◌≡◌, none-some, Appends, AllByRecursion, IfSome, ◌&&◌, ◌||◌, IsDrained, Stream, Took, Prefix, Entry, LinkEvent, events_in-append, Coming, Phases, Piece, events_in, phases_after, pieces_in, IsSent, framed_sent, IsRefused, AreFramesOf, frames, AreInOrder, phases_behind, fresh, Image, SessionEnd, Stop, at_its_end, came_to, events_alone, Session, journal_of, AreInTurn, IsComplete, AtEnd, HasComeTo, IsEnded, IsLastRefused, before_end, Unheeded, nothing_before, refusal, Rules, entries_of, StopsTrunk, TookRefused, WritesWhole, WritesSends}
+use Rattle.over_trunk.proofs.Terms.{Bool, List, None, Option, Some, [], ap, append-nil, append_assoc, arith, false, inl, inr, length, length-append, refl, subst, sym, true, ℕ, ◌++◌, ◌<◌, ◌==◌, ◌∙◌, ◌∷◌, ◌≡◌, none-some, Appends, AllByRecursion, IfSome, ◌&&◌, ◌||◌, IsDrained, Stream, Took, Prefix, Entry, LinkEvent, Coming, Phases, Piece, events_in, phases_after, pieces_in, IsSent, framed_sent, IsRefused, AreFramesOf, frames, AreInOrder, phases_behind, fresh, Image, SessionEnd, Stop, at_its_end, came_to, Session, journal_of, AreInTurn, IsComplete, AtEnd, HasComeTo, IsEnded, IsLastRefused, before_end, Unheeded, events_of, nothing_before, Rules, entries_of, StopsTrunk, TookRefused, WritesWhole, WritesSends}
 use Rattle.over_trunk.specs.EndLaws.{AreAllHeeded, NoOtherEnd, SendsAreWritten}
 use Rattle.over_trunk.proofs.FrameFronts.{none_behind, whole_reading, next_frame}
 use Rattle.over_trunk.proofs.HeededFronts.{event_counts, heeded_next}
@@ -46,7 +47,7 @@ none_gone conn (entry.Gave to bytes gone ∷ entries) all =
     off false = refl
 
 -- the frames of all sends were written, by what was passed
-written : {rules : Rules} {image : Image} {coming : Option Coming} {session : Session} {end : SessionEnd} (sink later : Option (List ℕ)) → IsEnded rules image coming session (stop.Ends end) → rules.bounds.before ≡ nothing_before → AreInOrder fresh (events_in (journal_of session))
+written : {rules : Rules} {image : Image} {coming : Option Coming} {session : Session} {end : SessionEnd} (sink later : Option (List ℕ)) → IsEnded rules image coming session (stop.Ends end) → rules.bounds.before ≡ nothing_before → AreInOrder fresh (events_of rules.bounds (journal_of session))
     → session.earlier ≡ [] → rules.hold ≡ 0 → WritesWhole sink later (pieces_in (journal_of session)) → WritesSends sink later session.survivor.now.state.sends
 written None later is alone order first holds_nothing whole = tt
 written {rules = rules} {image = image} {session = session} {end = end} (Some before) later is alone order first holds_nothing whole =
@@ -60,70 +61,69 @@ written {rules = rules} {image = image} {session = session} {end = end} (Some be
       owes_nothing = ends.owes_nothing;
       holds_nothing = holds_nothing;
       none_gone = λ conn. none_gone conn (journal_of session) (framed_sent (pieces_in (journal_of session)) whole.framed);
-      opens_once = links_open_once fresh (events_in (journal_of session)) (in_turn fresh (events_in (journal_of session)) order);
+      opens_once = links_open_once fresh (events_in (journal_of session)) (in_turn fresh (events_in (journal_of session)) (subst (AreInOrder fresh) (events_alone rules.bounds (journal_of session) alone) order));
     }) in
     subst (λ (pieces : List Piece). Appends (Some before) later (frames pieces)) passed whole.wrote
 
-written_at : {rules : Rules} {image : Image} {coming : Option Coming} {session : Session} (why : Stop) (sink later : Option (List ℕ)) → IsEnded rules image coming session why → rules.bounds.before ≡ nothing_before → AreInOrder fresh (events_in (journal_of session))
+written_at : {rules : Rules} {image : Image} {coming : Option Coming} {session : Session} (why : Stop) (sink later : Option (List ℕ)) → IsEnded rules image coming session why → rules.bounds.before ≡ nothing_before → AreInOrder fresh (events_of rules.bounds (journal_of session))
     → AtEnd why (λ end. WritesWhole sink later (pieces_in (journal_of session))) → AtEnd why (λ end. session.earlier ≡ [] → rules.hold ≡ 0 → WritesSends sink later session.survivor.now.state.sends)
 written_at (stop.Ends end) sink later is alone order whole = λ first holds_nothing. written sink later is alone order first holds_nothing whole
 written_at (stop.Breaks fault) sink later is alone order whole = tt
 
 pub sends_are_written : SendsAreWritten
-sends_are_written rules keeping image input input_later output output_later outcome noted_before noted_now counted served =
-    written_at outcome.stop output output_later served.is.is.ended served.bytes.alone served.bytes.took.order served.bytes.wrote_whole
+sends_are_written rules keeping image input input_later output output_later outcome noted_before noted_now counted served alone =
+    written_at outcome.stop output output_later served.is.is.ended alone served.bytes.took.order served.bytes.wrote_whole
 
 -- Of a session whose source has the frames of events that it heeds, each of them: the events that it took are the first of these.
 module _ {rules : Rules} {image : Image} {coming : Option Coming} {session : Session} {why : Stop} (is : IsEnded rules image coming session why) (input : Stream) (input_later : Option Stream)
-    (alone : rules.bounds.before ≡ nothing_before) (well : AreAllHeeded rules.bounds input.left) (order : AreInOrder fresh (events_in (journal_of session))) where
-  front_of : (whole tail : List ℕ) → AreFramesOf (events_in (journal_of session)) whole → Took (Some input) input_later (whole ++ tail) → Prefix (events_in (journal_of session)) well.events
+    (well : AreAllHeeded rules.bounds input.left) (order : AreInOrder fresh (events_of rules.bounds (journal_of session))) where
+  front_of : (whole tail : List ℕ) → AreFramesOf (events_of rules.bounds (journal_of session)) whole → Took (Some input) input_later (whole ++ tail) → Prefix (events_of rules.bounds (journal_of session)) well.events
   front_of whole tail are took =
       let behind = left_is input input_later (whole ++ tail) took in
-      whole_reading fresh (events_in (journal_of session)) well.events whole (tail ++ behind.0) input.left order well.order are well.are (sym (behind.1 ∙ append_assoc whole tail behind.0))
+      whole_reading fresh (events_of rules.bounds (journal_of session)) well.events whole (tail ++ behind.0) input.left order well.order are well.are (sym (behind.1 ∙ append_assoc whole tail behind.0))
 
   -- none of them is refused
-  refused_not : Prefix (events_in (journal_of session)) well.events → (cause : Unheeded) → IsLastRefused rules.bounds (before_end session) cause → ⊥
+  refused_not : Prefix (events_of rules.bounds (journal_of session)) well.events → (cause : Unheeded) → IsLastRefused rules.bounds (before_end session) cause → ⊥
   refused_not front cause last =
-      let events : events_in (journal_of session) ≡ events_in last.before ++ last.event ∷ [] =
-      events_at_end session is.pieces (given_broken rules session.survivor.now.state.sends _ session.broken is.account.broken) ∙ ap events_in last.last ∙ events_in-append last.before (entry.Took last.event ∷ [])
-      ∙ ap (λ (es : List LinkEvent). events_in last.before ++ es) (event_counts last.event last.no_end) in
-      let whole : well.events ≡ events_in last.before ++ last.event ∷ front.0 =
-      sym front.1 ∙ ap (λ (es : List LinkEvent). es ++ front.0) events ∙ append_assoc (events_in last.before) (last.event ∷ []) front.0 in
-      let refused : refusal rules.bounds (events_in last.before) last.event ≡ Some cause =
-      sym (ap (λ (es : List LinkEvent). refusal rules.bounds es last.event) (events_alone rules.bounds last.before alone)) ∙ last.refused in
-      none-some cause (sym (heeded_next rules.bounds [] well.events (events_in last.before) last.event front.0 (well.all_heeded ∙ whole)) ∙ refused)
+      let events : events_of rules.bounds (journal_of session) ≡ events_of rules.bounds last.before ++ last.event ∷ [] =
+      ap (λ (es : List LinkEvent). rules.bounds.before.events ++ es) (events_at_end session is.pieces (given_broken rules session.survivor.now.state.sends _ session.broken is.account.broken))
+      ∙ ap (events_of rules.bounds) last.last ∙ events_of-append rules.bounds last.before (entry.Took last.event ∷ [])
+      ∙ ap (λ (es : List LinkEvent). events_of rules.bounds last.before ++ es) (event_counts last.event last.no_end) in
+      let whole : well.events ≡ events_of rules.bounds last.before ++ last.event ∷ front.0 =
+      sym front.1 ∙ ap (λ (es : List LinkEvent). es ++ front.0) events ∙ append_assoc (events_of rules.bounds last.before) (last.event ∷ []) front.0 in
+      none-some cause (sym (heeded_next rules.bounds [] well.events (events_of rules.bounds last.before) last.event front.0 (well.all_heeded ∙ whole)) ∙ last.refused)
 
   -- and no frame is
-  taken_not : (kind offset : ℕ) → TookRefused (Some input) input_later (events_in (journal_of session)) kind offset → ⊥
+  taken_not : (kind offset : ℕ) → TookRefused (Some input) input_later (events_of rules.bounds (journal_of session)) kind offset → ⊥
   taken_not kind offset took = by_rest front.0 front.1
     where
       behind : (rest : List ℕ) × (input.left ≡ (took.whole ++ took.tail) ++ rest) × (IsDrained input_later → rest ≡ [])
       behind = left_is input input_later (took.whole ++ took.tail) took.took
 
-      front : Prefix (events_in (journal_of session)) well.events
+      front : Prefix (events_of rules.bounds (journal_of session)) well.events
       front = front_of took.whole took.tail took.are took.took
 
       parts : input.left ≡ took.whole ++ (took.tail ++ behind.0)
       parts = behind.1 ∙ append_assoc took.whole took.tail behind.0
 
-      by_rest : (rest : List LinkEvent) → events_in (journal_of session) ++ rest ≡ well.events → ⊥
+      by_rest : (rest : List LinkEvent) → events_of rules.bounds (journal_of session) ++ rest ≡ well.events → ⊥
       by_rest [] same =
-          let all : AreFramesOf (events_in (journal_of session)) input.left = subst (λ (es : List LinkEvent). AreFramesOf es input.left) (sym same ∙ append-nil (events_in (journal_of session))) well.are in
-          let some = some_refused (phases_behind (events_in (journal_of session)) fresh) (IsDrained input_later) kind took.tail took.refused in
-          omega (arith, ap length (none_behind fresh (events_in (journal_of session)) took.whole (took.tail ++ behind.0) input.left order took.are all (sym parts)), length-append took.tail behind.0, some)
+          let all : AreFramesOf (events_of rules.bounds (journal_of session)) input.left = subst (λ (es : List LinkEvent). AreFramesOf es input.left) (sym same ∙ append-nil (events_of rules.bounds (journal_of session))) well.are in
+          let some = some_refused (phases_behind (events_of rules.bounds (journal_of session)) fresh) (IsDrained input_later) kind took.tail took.refused in
+          omega (arith, ap length (none_behind fresh (events_of rules.bounds (journal_of session)) took.whole (took.tail ++ behind.0) input.left order took.are all (sym parts)), length-append took.tail behind.0, some)
       by_rest (next ∷ rest) same =
-          let whole = next_frame fresh well.events (events_in (journal_of session)) rest next input.left [] took.whole (took.tail ++ behind.0) well.order order well.are took.are (sym same) (append-nil input.left ∙ parts) in
-          whole_not (phases_behind (events_in (journal_of session)) fresh) (IsDrained input_later) kind took.tail behind.0 next took.refused behind.2 whole
+          let whole = next_frame fresh well.events (events_of rules.bounds (journal_of session)) rest next input.left [] took.whole (took.tail ++ behind.0) well.order order well.are took.are (sym same) (append-nil input.left ∙ parts) in
+          whole_not (phases_behind (events_of rules.bounds (journal_of session)) fresh) (IsDrained input_later) kind took.tail behind.0 next took.refused behind.2 whole
 
   -- so no other answer comes
-  answers_so : Prefix (events_in (journal_of session)) well.events → IfSome session.came (StopsTrunk (Some input) input_later (events_in (journal_of session))) → (stopped : Stop) → EndsBy rules session stopped → IsComplete rules session stopped
+  answers_so : Prefix (events_of rules.bounds (journal_of session)) well.events → IfSome session.came (StopsTrunk (Some input) input_later (events_of rules.bounds (journal_of session))) → (stopped : Stop) → EndsBy rules session stopped → IsComplete rules session stopped
   answers_so front stops (stop.Ends session_end.Finished) ends =
       let to : HasComeTo rules coming session session_end.Finished = came_to is.comes ends.came in
       to.stands.0.taken ∙ ap length (sym (received_at_end rules.bounds session is.pieces (given_broken rules session.survivor.now.state.sends _ session.broken is.account.broken)))
   answers_so front stops (stop.Ends (session_end.Exited code)) ends = tt
   answers_so front stops (stop.Ends (session_end.GaveUp point cause)) ends = tt
   answers_so front stops (stop.Ends (session_end.InputRefused kind offset)) ends =
-      taken_not kind offset (subst (λ (came : Option SessionEnd). IfSome came (StopsTrunk (Some input) input_later (events_in (journal_of session)))) ends.came stops)
+      taken_not kind offset (subst (λ (came : Option SessionEnd). IfSome came (StopsTrunk (Some input) input_later (events_of rules.bounds (journal_of session)))) ends.came stops)
   answers_so front stops (stop.Ends (session_end.MessageTooLong conn)) ends =
       let to : HasComeTo rules coming session (session_end.MessageTooLong conn) = came_to is.comes ends.came in
       refused_not front unheeded.TooLong to.stands.1.refused
@@ -139,4 +139,4 @@ pub no_other_end : NoOtherEnd
 no_other_end rules keeping image input input_later output output_later outcome noted_before noted_now counted served well =
     let is = served.is.is.ended in
     let took = served.bytes.took in
-    answers_so is input input_later served.bytes.alone well took.order (front_of is input input_later served.bytes.alone well took.order took.whole took.tail took.are took.took) served.bytes.stops outcome.stop is.ends
+    answers_so is input input_later well took.order (front_of is input input_later well took.order took.whole took.tail took.are took.took) served.bytes.stops outcome.stop is.ends

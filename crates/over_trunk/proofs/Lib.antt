@@ -15,4 +15,5 @@ mod TrunkLemmas
 mod StandbyLemmas
 mod StandbyTrunk
 mod ConvertLemmas
+mod ResumeLemmas
 pub mod EndLemmas

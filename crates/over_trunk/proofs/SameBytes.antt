@@ -1,7 +1,7 @@
 -- A session's record is replayed over the bytes that the session had.
 use Rattle.run_history.specs.declared.answer.Answer.TheVariants as answer
 use Rattle.session_history.specs.Heeding as unheeded
-use Rattle.over_trunk.proofs.Terms.{List, None, Option, Some, [], ap, append-nil, append_assoc, inl, inr, refl, subst, sym, ℕ, ◌++◌, ◌∙◌, ◌∷◌, ◌≡◌, ◌⊎◌, Err, Ok, Result, IsDrained, Stream, Took, Prefix, Entry, LinkEvent, Coming, Phases, events_in, front-bad, IsRefused, AreFramesOf, AreInOrder, phases_behind, Bad, Part, Whole, front, fresh, Image, Answer, prefix_trans, State, heeded_front, events_alone, IsAccount, Session, journal_of, events_of, Rules, Noted, Keeping, Recorded, Outcome, HasSession, AreAsked, EndsBy, IsAsking, IsReplay, Replay, bounds_of, TookRefused, TookWhole, ServesTrunk, IsAsRecorded, IsConverted, IsWithin, SameBytesAreReplayed, SessionIsConverted, IsRecordedRun, ReplaysTrunk, TakesReplay, WritesReplay, WritesSends, ConvertsTrunk, converted}
+use Rattle.over_trunk.proofs.Terms.{List, None, Option, Some, [], ap, append-nil, append_assoc, inl, inr, refl, subst, sym, ℕ, ◌++◌, ◌∙◌, ◌∷◌, ◌≡◌, ◌⊎◌, Err, Ok, Result, IsDrained, Stream, Took, Prefix, Entry, LinkEvent, Coming, Phases, events_in, front-bad, IsRefused, AreFramesOf, AreInOrder, phases_behind, Bad, Part, Whole, front, fresh, Image, Answer, prefix_trans, State, heeded_front, IsAccount, Session, journal_of, events_of, Rules, Noted, Keeping, Recorded, Outcome, HasSession, AreAsked, EndsBy, IsAsking, IsReplay, Replay, bounds_of, TookRefused, TookWhole, ServesTrunk, IsAsRecorded, IsConverted, IsWithin, SameBytesAreReplayed, SessionIsConverted, IsRecordedRun, ReplaysTrunk, TakesReplay, WritesReplay, WritesSends, ConvertsTrunk, converted}
 use Rattle.over_trunk.proofs.FrameFronts.{two_readings, whole_reading, next_frame}
 use Rattle.over_trunk.proofs.SameRun.{brought_not, refused_not, mismatch_not, same_end}
 
@@ -70,16 +70,6 @@ module _ (rules : Rules) (image : Image) (session : Session) (recording : Record
 module _ {rules : Rules} {keeping : Keeping} {image : Image} {input again : Stream} {input_later again_later : Option Stream} {output output_later written written_later : Option (List ℕ)} {outcome : Outcome} {answered : Answer}
     {noted_before noted_now : Noted} {counted counted_again : ℕ} {recording : Recorded} (served : ServesTrunk rules keeping image (Some input) input_later output output_later outcome noted_before noted_now counted)
     (replayed : ReplaysTrunk image recording (Some again) again_later written written_later answered counted_again) (same : again.left ≡ input.left) where
-  -- the session's events are all that it had
-  all_events : events_of rules.bounds (journal_of served.telling.account) ≡ events_in (journal_of served.telling.account)
-  all_events = events_alone rules.bounds (journal_of served.telling.account) served.bytes.alone
-
-  order : AreInOrder fresh (events_of rules.bounds (journal_of served.telling.account))
-  order = subst (AreInOrder fresh) (sym all_events) served.bytes.took.order
-
-  are : AreFramesOf (events_of rules.bounds (journal_of served.telling.account)) served.bytes.took.whole
-  are = subst (λ (events : List LinkEvent). AreFramesOf events served.bytes.took.whole) (sym all_events) served.bytes.took.are
-
   -- what stands behind the session's frames
   ours : (rest : List ℕ) × (input.left ≡ (served.bytes.took.whole ++ served.bytes.took.tail) ++ rest) × (IsDrained input_later → rest ≡ [])
   ours = left_is input input_later (served.bytes.took.whole ++ served.bytes.took.tail) served.bytes.took.took
@@ -94,12 +84,12 @@ module _ {rules : Rules} {keeping : Keeping} {image : Image} {input again : Stre
   near : Prefix (events_of rules.bounds (journal_of served.telling.account)) (events_in replayed.entries) ⊎ Prefix (events_in replayed.entries) (events_of rules.bounds (journal_of served.telling.account))
   near =
       two_readings fresh (events_of rules.bounds (journal_of served.telling.account)) (events_in replayed.entries) served.bytes.took.whole (served.bytes.took.tail ++ ours.0) replayed.took.whole (replayed.took.tail ++ theirs.0)
-      order replayed.took.order are replayed.took.are (sym left ∙ theirs.1 ∙ append_assoc replayed.took.whole replayed.took.tail theirs.0)
+      served.bytes.took.order replayed.took.order served.bytes.took.are replayed.took.are (sym left ∙ theirs.1 ∙ append_assoc replayed.took.whole replayed.took.tail theirs.0)
 
   pub as_recorded : HasSession rules served.telling.account recording → IsWithin rules.bounds (bounds_of recording) → IsAsRecorded answered
   as_recorded has within =
       answers_so rules image served.telling.account recording replayed.entries replayed.replay replayed.coming served.is.is.ended.account has within replayed.asked replayed.is again again_later served.bytes.took.whole
-      (served.bytes.took.tail ++ ours.0) order replayed.took.order are left near answered replayed.ends replayed.takes
+      (served.bytes.took.tail ++ ours.0) served.bytes.took.order replayed.took.order served.bytes.took.are left near answered replayed.ends replayed.takes
 
   pub same_run : HasSession rules served.telling.account recording → answered ≡ answer.Finished
       → (replayed.replay.state ≡ served.telling.account.survivor.now.state) × (replayed.replay.choices ≡ served.telling.account.survivor.now.choices)

@@ -1,5 +1,6 @@
 -- A session's run, and a replay of its record over the first of its events.
 use Rattle.links.specs.declared.journal.Entry.TheVariants as entry
+use Rattle.links.proofs.Journaled.{events_in-append}
 use Rattle.run_history.specs.declared.answer.Answer.TheVariants as answer
 use Rattle.run_history.proofs.Runs.{run_more}
 use Rattle.replay.specs.Replaying.{WasAsked}
@@ -8,7 +9,7 @@ use Rattle.replay.proofs.SameLemmas.{Agree, run_same}
 use Rattle.replay.proofs.RecordLemmas.{begins, goes_on, none_used, starved_not}
 use Rattle.replay.proofs.RoomLemmas.{session_leaves_record}
 use Rattle.replay.proofs.SessionLemmas.{session_is_replayed}
-use Rattle.over_trunk.proofs.Terms.{List, None, Option, Some, [], ap, append-nil, append_assoc, arith, inl, inr, length, refl, subst, sym, true, true≢false, ℕ, ◌++◌, ◌∙◌, ◌∷◌, ◌≡◌, ◌≤◌, ◌⊎◌, none-some, Item, Prefix, Entry, LinkEvent, events_in-append, Coming, HasEnded, Unopened, events_in, Seen, no_faults, Choice, items_of, Image, prefix_trans, State, start, run, heeded_front, IsAccount, Session, journal_of, IsLastRefused, Unheeded, events_of, heeded, items_in, Rules, Recorded, items_grow, two_fronts, BringsFirst, HadOneStream, HasSession, IsRecordOf, AreAsked, EndsBy, HasReplayed, IsReplay, Replay, bounds_of, IsWithin, IsRecordedRun}
+use Rattle.over_trunk.proofs.Terms.{List, None, Option, Some, [], ap, append-nil, append_assoc, arith, inl, inr, length, refl, subst, sym, true, true≢false, ℕ, ◌++◌, ◌∙◌, ◌∷◌, ◌≡◌, ◌≤◌, ◌⊎◌, none-some, Item, Prefix, Entry, LinkEvent, Coming, HasEnded, Unopened, events_in, Seen, no_faults, Choice, items_of, Image, prefix_trans, State, start, run, heeded_front, IsAccount, Session, journal_of, IsLastRefused, Unheeded, events_of, heeded, items_in, Rules, Recorded, items_grow, two_fronts, BringsFirst, HadOneStream, HasSession, IsRecordOf, AreAsked, EndsBy, HasReplayed, IsReplay, Replay, bounds_of, IsWithin, IsRecordedRun}
 use Rattle.over_trunk.proofs.HeededFronts.{both_ways, two_of_one, same_next, event_counts, heeded_next, wider}
 
 -- a run is one on more items too

@@ -2,7 +2,9 @@
 use Rattle.session_history.specs.declared.ends.SessionBreak.TheVariants as session_break
 use Rattle.session_history.specs.declared.ends.SessionEnd.TheVariants as session_end
 use Rattle.session_history.specs.declared.ends.Stop.TheVariants as stop
-use Rattle.over_trunk.proofs.Terms.{All, Bool, List, None, Option, Some, [], ap, false, inl, inr, length, option_map, refl, subst, sym, true, ℕ, ◌++◌, ◌∙◌, ◌≡◌, fun_ext, same_Some, Appends, IfSome, IsSome, is_some, IsDrained, Stream, Took, Entry, LinkEvent, Coming, Grew, Handed, IsFresh, Piece, Told, events_in, pieces_in, Seen, Countable, count_after, frames, AreInOrder, GivesOn, Intake, IsCut, IsFramed, IsTail, Output, TakesOn, TookFrames, WroteFrames, phases_behind, fresh, told_coming, told_events, told_nothing, told_pieces, trunk_told, Image, SessionBreak, SessionEnd, Stop, end_then, none_had, Session, after_ending, journal_of, AtBreak, HandedLast, HasComeTo, StaysKnown, TakesAtEnd, WasAsked, answer_of, before_end, HasHanded, Bounds, nothing_before, Rules, Try, Noted, Unnoted, Keeping, stands_of, HandledAt, HandlesRequests, HasKept, HasLeft, LeavesBy, keeping_of, HasWatched, Outcome, Telling, BreaksAt, LinkAnswers, outcome_of, SessionState, BreaksTrunk, Carries, StopsTrunk, TakesNoPart, TakesTrunk, TookTrunk, WritesTrunk, WritesWhole, HeadsAt, HeadsDue, HeadsTrunk, IsRecordedLow, IsRecordedUpTo, RecordsAt, WatchesTrunk}
+use Rattle.links.proofs.Growing.{grew_more, tells_nothing}
+use Rattle.session_state.proofs.ending.KnownLemmas.{known_same, known_then}
+use Rattle.over_trunk.proofs.Terms.{All, Bool, List, None, Option, Some, [], ap, false, inl, inr, length, option_map, refl, subst, sym, true, ℕ, ◌++◌, ◌∙◌, ◌≡◌, fun_ext, same_Some, Appends, IfSome, IsSome, is_some, IsDrained, Stream, Took, Entry, LinkEvent, Coming, Grew, Handed, IsFresh, Piece, Tells, Told, events_in, pieces_in, Seen, Countable, count_after, frames, AreInOrder, GivesOn, Intake, IsCut, IsFramed, IsTail, Output, TakesOn, TookFrames, WroteFrames, phases_behind, fresh, told_coming, told_events, told_nothing, told_pieces, trunk_told, Image, SessionBreak, SessionEnd, Stop, end_then, Session, after_ending, journal_of, AtBreak, HandedLast, HasComeTo, StaysKnown, TakesAtEnd, WasAsked, answer_of, before_end, HasHanded, Before, Bounds, events_of, nothing_before, Rules, Try, Noted, Unnoted, Keeping, stands_of, HandledAt, HandlesRequests, HasKept, HasLeft, LeavesBy, keeping_of, HasWatched, Outcome, Telling, BreaksAt, LinkAnswers, outcome_of, SessionState, BreaksTrunk, Carries, StopsTrunk, TakesNoPart, TakesTrunk, TookTrunk, WritesTrunk, WritesWhole, HeadsAt, HeadsDue, HeadsTrunk, IsRecordedLow, IsRecordedUpTo, RecordsAt, WatchesTrunk}
 use Rattle.over_trunk.proofs.WriteLemmas.{wrote_headed, Short, wrote_trunk, wrote_frames}
 use Rattle.recovery.proofs.Handled.{has_ring}
 use Rattle.over_trunk.proofs.ReadLemmas.{tail_none, tail_asked, events_told, stands_behind}
@@ -102,14 +104,14 @@ writes_whole old new list none few went still grew = by_told old.told refl grew
         wrote_frames before new.told new.wrote new.gives new.handed list went.pieces went.tail few (wrote_told old new before (frames went.pieces ++ went.tail) told went.writes.wrote)
         (wrote_count old new (frames went.pieces ++ went.tail) none went.writes.count) went.framed went.cut still grew
 
-carries : (bounds : Bounds) (old new : Output) (entries : List Entry) → bounds.before ≡ nothing_before → old.wrote ≡ 0 → Short new.told → WroteFrames old new → Grew (option_map (λ _. []) old.told) (told_pieces new.told new.wrote new.gives) (pieces_in entries)
+carries : (bounds : Bounds) (old new : Output) (entries : List Entry) → old.wrote ≡ 0 → Short new.told → WroteFrames old new → Grew (option_map (λ _. []) old.told) (told_pieces new.told new.wrote new.gives) (pieces_in entries)
     → Carries bounds old.told new.told entries
-carries bounds old new entries alone none few went grew = by_told old.told refl grew
+carries bounds old new entries none few went grew = by_told old.told refl grew
   where
     by_told : (before : Option (List ℕ)) → old.told ≡ before → Grew (option_map (λ _. []) before) (told_pieces new.told new.wrote new.gives) (pieces_in entries) → Carries bounds before new.told entries
     by_told None told grew = tt
     by_told (Some before) told grew =
-        carried bounds before new.told new.wrote new.gives entries (frames went.pieces ++ went.tail) (none_had bounds alone) few (wrote_told old new before (frames went.pieces ++ went.tail) told went.writes.wrote)
+        carried bounds before new.told new.wrote new.gives entries (frames went.pieces ++ went.tail) few (wrote_told old new before (frames went.pieces ++ went.tail) told went.writes.wrote)
         (wrote_count old new (frames went.pieces ++ went.tail) none went.writes.count) grew
 
 -- what is known of a piece that was handed, where the pieces are told
@@ -260,36 +262,61 @@ left_recorded rules image before now telling session (stop.Breaks session_break.
 left_recorded rules image before now telling session (stop.Breaks session_break.FileFault) same left = recorded_low session_break.FileFault same left
 left_recorded rules image before now telling session (stop.Breaks session_break.Memory) same left = recorded_low session_break.Memory same left
 
--- a session over a link that was made
-pub watches : (rules : Rules) (keeping : Keeping) (image : Image) {old new : Intake} {out later : Output} (before rest : Seen) {outcome : Outcome} {noted_before noted_now : Noted} {counted : ℕ} {tables_before tables : Option (List (List Try))}
-    → rules.bounds.before ≡ nothing_before → StartsTrunk (shows_by old out before).told old out → WentTrunk old new out later → LinkAnswers (shows_by old out before) (shows_by new later rest) outcome.stop
-    → (watched : HasWatched rules image keeping (shows_by old out before) (shows_by new later rest) outcome noted_before noted_now counted tables_before tables) → AtBreak outcome.stop (RecordsAt rules image keeping watched.recovered.telling outcome noted_before noted_now)
+-- Over a link events came first, and no pieces: those that a session has before it. What comes is told still.
+pub record HeardFirst (rules : Rules) (began at : Seen) : Type 0 where
+  pub heard : List Entry
+  pub events_are : events_in heard ≡ rules.bounds.before.events
+  pub no_pieces : pieces_in heard ≡ []
+  pub tells : Tells began.told at.told heard
+  pub known : StaysKnown began.coming at.coming
+
+-- so it is where nothing came before it
+pub heard_nothing : {rules : Rules} (seen : Seen) → rules.bounds.before ≡ nothing_before → HeardFirst rules seen seen
+heard_nothing seen alone = record { heard = []; events_are = ap (λ (before : Before). before.events) (sym alone); no_pieces = refl; tells = tells_nothing seen.told; known = known_same refl }
+
+-- all events that such a link told, and all pieces
+events_first : {rules : Rules} {began at : Seen} (now : Option (List LinkEvent)) (entries : List Entry) → HeardFirst rules began at → Grew at.told.events now (events_in entries) → Grew began.told.events now (events_of rules.bounds entries)
+events_first {began = began} {at = at} now entries h grew =
+    subst (λ (first : List LinkEvent). Grew began.told.events now (first ++ events_in entries)) h.events_are (grew_more began.told.events at.told.events now (events_in h.heard) (events_in entries) h.tells.events grew)
+
+pieces_first : {rules : Rules} {began at : Seen} (now : Option (List Piece)) (list : List Piece) → HeardFirst rules began at → Grew at.told.pieces now list → Grew began.told.pieces now list
+pieces_first {began = began} {at = at} now list h grew =
+    subst (λ (first : List Piece). Grew began.told.pieces now (first ++ list)) h.no_pieces (grew_more began.told.pieces at.told.pieces now (pieces_in h.heard) list h.tells.pieces grew)
+
+-- what comes was told from its start
+known_first : (came : Option SessionEnd) (takes : Bool) (first at now : Option Coming) → StaysKnown first at → IfSome came (λ end. TakesAtEnd takes end × StaysKnown at now) → IfSome came (λ end. TakesAtEnd takes end × StaysKnown first now)
+known_first None takes first at now known shows = tt
+known_first (Some end) takes first at now known shows = (shows.0, known_then first at now known shows.1)
+
+-- a session over a link that was made, over which events came first
+pub watches : (rules : Rules) (keeping : Keeping) (image : Image) {old new : Intake} {out later : Output} (before at rest : Seen) {outcome : Outcome} {noted_before noted_now : Noted} {counted : ℕ} {tables_before tables : Option (List (List Try))}
+    → HeardFirst rules (shows_by old out before) at → StartsTrunk (shows_by old out before).told old out → WentTrunk old new out later → LinkAnswers (shows_by old out before) (shows_by new later rest) outcome.stop
+    → (watched : HasWatched rules image keeping at (shows_by new later rest) outcome noted_before noted_now counted tables_before tables) → AtBreak outcome.stop (RecordsAt rules image keeping watched.recovered.telling outcome noted_before noted_now)
     → WatchesTrunk rules keeping image old.told new.told out.told later.told outcome noted_before noted_now counted tables_before tables
-watches rules keeping image {old = old} {new = new} {out = out} {later = later} before rest {outcome = outcome} alone starts went answers watched recorded =
+watches rules keeping image {old = old} {new = new} {out = out} {later = later} before at rest {outcome = outcome} first starts went answers watched recorded =
     let recovered = watched.recovered in
     let session : Session = recovered.telling.account in
     let took : TookFrames old new = subst (λ b. TakesOn b old new) starts.takes went.taken in
     let wrote : WroteFrames out later = subst (λ b. GivesOn b out later) starts.gives went.given in
-    let list = events_in (journal_of session) in
+    let list = events_of rules.bounds (journal_of session) in
     let given = pieces_in (journal_of session) in
-    let events = subst (λ (told : Told). Grew told.events (told_events new.told new.took new.phases new.takes) list) starts.told recovered.shows.tells.events in
-    let pieces = subst (λ (told : Told). Grew told.pieces (told_pieces later.told later.wrote later.gives) given) starts.told recovered.shows.tells.pieces in record {
+    let events = subst (λ (told : Told). Grew told.events (told_events new.told new.took new.phases new.takes) list) starts.told (events_first (told_events new.told new.took new.phases new.takes) (journal_of session) first recovered.shows.tells.events) in
+    let pieces = subst (λ (told : Told). Grew told.pieces (told_pieces later.told later.wrote later.gives) given) starts.told (pieces_first (told_pieces later.told later.wrote later.gives) given first recovered.shows.tells.pieces) in record {
       serves = record {
         coming = upcoming new;
         telling = recovered.telling;
         is = recovered.is;
         recorded = recorded;
         bytes = record {
-          alone = alone;
           took = takes_trunk old new list (WasAsked rules session) recovered.shows.asked starts.phases starts.took went.countable took events;
-          stops = stops_if rules session session.came old new list starts.phases starts.took starts.takes went.countable took events recovered.shows.at_end recovered.is.is.ended.comes;
+          stops = stops_if rules session session.came old new list starts.phases starts.took starts.takes went.countable took events (known_first session.came new.takes (upcoming old) at.coming (upcoming new) first.known recovered.shows.at_end) recovered.is.is.ended.comes;
           wrote = writes_trunk out later given starts.wrote went.short wrote pieces;
           wrote_whole = end_then outcome.stop (λ still. writes_whole out later given starts.wrote went.short wrote still pieces) answers.gives;
           breaks = breaks_trunk old new out later list given outcome.stop
               (takes_no_part old new list starts.phases starts.took starts.takes went.countable took events)
               (λ is. writes_whole out later given starts.wrote went.short wrote is pieces) answers.once;
           heads = heads_at rules session out later (shows_by new later rest) outcome.stop starts.wrote went.short wrote refl refl refl pieces recovered.handed;
-          carried = carries rules.bounds out later (journal_of session) alone starts.wrote went.short wrote pieces;
+          carried = carries rules.bounds out later (journal_of session) starts.wrote went.short wrote pieces;
         };
       };
       watched = watched.watched;

@@ -1,9 +1,9 @@
 -- A record that is followed over a trunk, and served on: what is left in bytes, by what its link shows.
 use Rattle.links.specs.declared.journal.LinkEvent.TheVariants as event
 use Rattle.run_history.specs.declared.answer.Answer.TheVariants as answer
-use Rattle.standby.specs.Missing.{AllGiven}
 use Rattle.standby.specs.Serving.{EndsBy}
-use Rattle.over_trunk.proofs.Terms.{List, None, Option, Some, [], ap, arith, length, option_map, refl, subst, sym, true, ℕ, ◌+◌, ◌∙◌, ◌≡◌, ◌≤◌, Err, IfSome, IsSome, Ok, Result, Stream, Entry, Coming, Grew, IsNext, Refuses, Told, events_in, pieces_in, Seen, TrunkLink, Countable, GivesOn, Intake, Output, TakesOn, TookFrames, WroteFrames, told_events, told_nothing, told_pieces, TrunkWent, intake_of, output_of, seen_of, told_of, Image, Answer, Run, Path, items_in, Recorded, Difference, IsReplay, LeavesLink, Replay, bounds_of, Follower, Unfollowed, BreaksBy, CatchesUp, HasBroken, HasCaughtUp, LinkCatches, HasServed, WasServed, WritesWhole, IsRecordedRun, BreaksOffTrunk, CatchesUpTrunk, FollowsTrunk, IsNewTrunk, ServesOnTrunk}
+use Rattle.standby.specs.declared.following.Unfollowed.{Unfollowed}
+use Rattle.over_trunk.proofs.Terms.{List, Option, [], arith, length, option_map, refl, subst, true, ℕ, ◌+◌, ◌∙◌, ◌≡◌, ◌≤◌, Err, IfSome, IsSome, Ok, Result, Stream, Entry, Coming, Grew, IsNext, Refuses, Told, events_in, pieces_in, Seen, TrunkLink, Countable, GivesOn, TakesOn, TookFrames, WroteFrames, TrunkWent, intake_of, output_of, seen_of, told_of, Image, Answer, Run, Path, items_in, Recorded, Difference, IsReplay, LeavesLink, Replay, bounds_of, Follower, BreaksBy, CatchesUp, HasBroken, HasCaughtUp, LinkCatches, AllGiven, HasServed, WasServed, WritesWhole, IsRecordedRun, BreaksOffTrunk, CatchesUpTrunk, FollowsTrunk, IsNewTrunk, ServesOnTrunk}
 use Rattle.over_trunk.proofs.WriteLemmas.{Short}
 use Rattle.over_trunk.proofs.ServeLemmas.{takes_trunk, writes_trunk, writes_whole}
 use Rattle.over_trunk.proofs.StandbyLemmas.{breaks_end, carries_pieces, known_here, known_since, takes_followed, takes_served, takes_whole}

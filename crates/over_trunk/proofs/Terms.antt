@@ -7,16 +7,14 @@ pub use Rattle.std.proofs.lemmas.List.{map-append, nil_from_length}
 pub use Rattle.std.proofs.lemmas.List.Elements.{All-head, All-tail}
 pub use Rattle.std.proofs.lemmas.Option.{none-some, same_Some}
 pub use Rattle.std.specs.Prelude.{Err, IfSome, IsErrOf, IsSome, MatchOption, Ok, Result, is_none, is_some, nat_le, slice_get, ◌&&◌, ◌||◌}
-pub use Rattle.links.proofs.Journaled.{events_in-append}
 pub use Rattle.trunk_wire.proofs.GrammarLemmas.{events_steady, frame-accepted, front-accepted, front-bad, put_bytes-frame}
 pub use Rattle.trunk_wire.proofs.LinkLemmas.{Countable, not_whole}
 pub use Rattle.trunk_wire.proofs.StreamLaws.{IsSent, framed_sent, pieces-cut, pieces-frames}
-pub use Rattle.run_history.proofs.Outputs.{prefix_trans}
+pub use Rattle.run_history.proofs.Outputs.{prefix_trans, sent_to-append}
 pub use Rattle.session_history.proofs.Ended.{at_its_end, came_to, end_then}
 pub use Rattle.session_history.proofs.Heeded.{heeded_front}
-pub use Rattle.session_history.proofs.Heeding.{events_alone, none_had}
 pub use Rattle.replay.proofs.StreamLemmas.{items_grow, two_fronts}
-pub use Rattle.over_trunk.specs.Terms.{AllByRecursion, Answer, Appends, AreAllTables, AreAsked, AreBetween, AreFramesOf, AreGiven, AreInOrder, AreInTurn, AreLastTables, AreOfLines, AreTables, AtBreak, AtEnd, Bad, Bounds, BreaksAt, BreaksBy, BreaksOff, BringsFirst, CatchesUp, Chapter, Choice, Comes, ComesUntold, Coming, Counts, Difference, EndsBy, Entry, Episode, Follower, Front, GivesOn, Grew, HadOneStream, Handed, HandedLast, HandledAt, HandlesRequests, HasAsk, HasBroken, HasCaughtUp, HasComeTo, HasEnded, HasGivenUp, HasHanded, HasKept, HasLeft, HasReplayed, HasReplayedBy, HasServed, HasSession, HasWatched, Image, Intake, IsAccount, IsAnswer, IsAskOf, IsAsking, IsBegun, IsComplete, IsCut, IsDrained, IsEnded, IsFrameOf, IsFramed, IsFresh, IsHandedLast, IsInOrder, IsLastRefused, IsNext, IsOfLine, IsRecordOf, IsRefused, IsReplay, IsTable, IsTail, IsTelling, Item, Keeping, LeavesBy, LeavesLink, LimitEvents, LimitItems, Limits, LinkAnswers, LinkCatches, LinkEvent, Noted, Outcome, Output, Override, Part, Path, Phases, Piece, Prefix, Recorded, Refusal, Refuses, Replay, Rose, Rules, Run, Seen, Send, Session, SessionBreak, SessionEnd, SessionState, State, StaysKnown, Stop, Stream, Survivor, TakesAtEnd, TakesOn, Telling, TellsDifference, Told, TooLong, Took, TookFrames, TrunkLink, TrunkWent, Try, Unfollowed, Unheeded, Unnoted, Unopened, VERSION, Walk, WasAsked, WasServed, Whole, Writes, WritesBy, WroteFrames, after_ending, answer_of, before_end, bounds_of, choice_line, choice_lines, coming_of, count_after, entries, entries_of, episodes_of, event_at, event_of, event_reader, events, events_in, events_of, found_gone, frames, fresh, front, front_accepted, front_by, given_to, gives_below_4096, handed_by, header_of, header_refusal, heard, heeded, intake_of, is_in_step, is_whole, items_in, items_of, journal_of, keeping_for, keeping_of, last_bytes, line_of, lines_text, no_faults, nothing_before, outcome_of, output_of, passed_behind, passed_in, phases_after, phases_behind, piece_frame, piece_of, pieces, pieces_in, put_bytes, refusal, rules_by, run, seen_of, sent_to, stands_of, story_of, told_coming, told_events, told_nothing, told_of, told_pieces, trunk_told, walk_behind, whole_event}
+pub use Rattle.over_trunk.specs.Terms.{AllByRecursion, AllGiven, Answer, Appends, AreAllTables, AreAsked, AreBetween, AreFramesOf, AreGiven, AreInOrder, AreInTurn, AreLastTables, AreOfLines, AreTables, AsksForMore, AtBreak, AtEnd, AtExit, AtFailure, AtRequest, Bad, Before, Bounds, BreaksAt, BreaksBy, BreaksOff, BringsFirst, CatchesUp, Chapter, Choice, Comes, ComesUntold, Coming, Counts, Difference, EndsBy, Entry, Episode, Follower, Front, GivesOn, Grew, HadOneStream, Handed, HandedLast, HandledAt, HandlesRequests, HasAnswerCause, HasAsk, HasBroken, HasCaughtUp, HasComeTo, HasEnded, HasEndedBehind, HasEndedThere, HasGivenUp, HasHanded, HasKept, HasLeft, HasReplayed, HasReplayedBy, HasServed, HasSession, HasWatched, Image, Intake, IsAccount, IsAnswer, IsAskOf, IsAsking, IsBegun, IsComplete, IsCut, IsDrained, IsEnded, IsFrameOf, IsFramed, IsFresh, IsHandedLast, IsInOrder, IsLastRefused, IsNext, IsOfLine, IsRecordOf, IsRefused, IsReplay, IsTable, IsTail, IsTelling, IsUnfollowed, IsUnfollowedBy, Item, Keeping, LeavesBy, LeavesLink, LimitEvents, LimitItems, Limits, LinkAnswers, LinkCatches, LinkEvent, MismatchesAt, Noted, Outcome, Output, Override, Part, Path, Phases, Piece, Prefix, Recorded, Refusal, Refuses, Replay, Rose, Rules, Run, Seen, Send, Session, SessionBreak, SessionEnd, SessionState, Shown, Stand, State, StaysKnown, Stop, Stream, Survivor, TakesAtEnd, TakesOn, TakesOver, Telling, Tells, TellsDifference, Told, TooLong, Took, TookFrames, TookOver, TrunkLink, TrunkWent, Try, Unfollowed, Unheeded, Unnoted, Unopened, VERSION, Walk, WasAsked, WasServed, Whole, Writes, WritesBy, WroteFrames, after_ending, answer_of, before_end, bounds_of, choice_line, choice_lines, coming_of, count_after, entries, entries_of, episodes_of, event_at, event_of, event_reader, events, events_in, events_of, found_gone, frames, fresh, front, front_accepted, front_by, given_to, gives_below_4096, handed_by, header_of, header_refusal, heard, heard_alone, heeded, intake_of, is_in_step, is_whole, items_in, items_of, journal_of, keeping_for, keeping_of, last_bytes, line_of, lines_text, no_faults, nothing_before, outcome_of, output_of, passed_behind, passed_in, phases_after, phases_behind, piece_frame, piece_of, pieces, pieces_in, put_bytes, refusal, rules_behind, rules_by, run, seen_of, sent_to, stands_of, stop_as, story_of, told_coming, told_events, told_nothing, told_of, told_pieces, trunk_told, walk_behind, whole_event}
 unfoldable pub use Rattle.over_trunk.specs.Terms.{end_line, head_line, heeded_behind, start}
 pub use Rattle.over_trunk.specs.Trunk.{BreaksTrunk, Carried, Carries, IsBehind, StopsAt, StopsTrunk, TakesNoPart, TakesTrunk, TookNoPart, TookRefused, TookTrunk, TookWhole, WritesTrunk, WritesWhole, WroteTrunk, WroteWhole}
 pub use Rattle.over_trunk.specs.Serving.{HeadsAt, HeadsDue, HeadsTrunk, IsRecordedLow, IsRecordedUpTo, RecordsAt, ServesTrunk, WatchesTrunk, trunk_counts}
@@ -24,3 +22,4 @@ pub use Rattle.over_trunk.specs.Laws.{ConvertsToItself, IsAsRecorded, IsConverte
 pub use Rattle.over_trunk.specs.Replaying.{ComparesTrunk, IsRecordedRun, ReplaysTrunk, TakesReplay, TookReplay, WritesFirst, WritesFront, WritesReplay, WritesSends, sent_pieces}
 pub use Rattle.over_trunk.specs.Converting.{ComparesConverted, Concludes, ConvertsTrunk, HasConvertCause, converted}
 pub use Rattle.over_trunk.specs.StandingBy.{BreaksOffTrunk, CarriesPieces, CatchesUpTrunk, FollowsTrunk, IsNewTrunk, ServesOnTrunk, TakesFollowed, TakesServed, TakesWhole, TookFollowed}
+pub use Rattle.over_trunk.specs.Resuming.{ResumesBy, ResumesTrunk, StopsFollowing, TakesUnfollowed, TookApart, answer_as}

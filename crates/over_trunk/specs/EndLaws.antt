@@ -1,10 +1,10 @@
 -- What holds of each session over a trunk whose source tells its bytes.
 use Rattle.std.specs.Prelude.{◌≡◌, ℕ, List, [], Option, Some}
-use Rattle.over_trunk.specs.Terms.{Stream, LinkEvent, AreFramesOf, AreInOrder, fresh, Image, IsComplete, AtEnd, Bounds, heeded, Rules, Noted, Keeping, Outcome}
+use Rattle.over_trunk.specs.Terms.{Stream, LinkEvent, AreFramesOf, AreInOrder, fresh, Image, IsComplete, AtEnd, Bounds, heeded, nothing_before, Rules, Noted, Keeping, Outcome}
 use Rattle.over_trunk.specs.Replaying.{WritesSends}
 use Rattle.over_trunk.specs.Serving.{ServesTrunk}
 
--- bytes are the frames of events, each in order for its connection, and a session with these bounds heeds all of them
+-- bytes are the frames of events, each in order for its connection, and a session with these bounds heeds all of them, those before it among them
 pub record AreAllHeeded (bounds : Bounds) (bytes : List ℕ) : Type 0 where
   pub events : List LinkEvent
   pub order : AreInOrder fresh events
@@ -19,10 +19,10 @@ NoOtherEnd =
     (served : ServesTrunk rules keeping image (Some input) input_later output output_later outcome noted_before noted_now counted) →
     AreAllHeeded rules.bounds input.left → IsComplete rules served.telling.account outcome.stop
 
--- A session that holds nothing back and came to an end without a recovery wrote the frames of its run's sends, in order, each whole, and no byte
--- more.
+-- A session with nothing before it that holds nothing back and came to an end without a recovery wrote the frames of its run's sends, in order, each whole,
+-- and no byte more.
 abbrev pub SendsAreWritten : Type 0
 SendsAreWritten =
     (rules : Rules) (keeping : Keeping) (image : Image) (input : Stream) (input_later : Option Stream) (output output_later : Option (List ℕ)) (outcome : Outcome) (noted_before noted_now : Noted) (counted : ℕ)
     (served : ServesTrunk rules keeping image (Some input) input_later output output_later outcome noted_before noted_now counted) →
-    AtEnd outcome.stop (λ end. served.telling.account.earlier ≡ [] → rules.hold ≡ 0 → WritesSends output output_later served.telling.account.survivor.now.state.sends)
+    rules.bounds.before ≡ nothing_before → AtEnd outcome.stop (λ end. served.telling.account.earlier ≡ [] → rules.hold ≡ 0 → WritesSends output output_later served.telling.account.survivor.now.state.sends)

@@ -7,3 +7,4 @@ pub mod Replaying
 pub mod Converting
 pub mod EndLaws
 pub mod StandingBy
+pub mod Resuming

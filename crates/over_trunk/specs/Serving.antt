@@ -3,7 +3,8 @@ use Rattle.std.specs.Prelude.{◌≡◌, ◌⊎◌, ℕ, ◌-◌, ◌≤◌, Lis
 use Rattle.session_history.specs.declared.ends.SessionBreak.TheVariants as session_break
 use Rattle.trials.specs.Chains.{AreChained, AreCheckpoints}
 use Rattle.recovery.specs.Watching.{TellsMore}
-use Rattle.over_trunk.specs.Terms.{Stream, Prefix, Coming, Counts, cut_entries, events_in, pieces_in, Image, Answer, Path, SessionBreak, Stop, Session, after_ending, journal_of, AtBreak, AtEnd, WasAsked, answer_of, before_end, items_in, nothing_before, IsWholePiece, Rules, Try, Noted, Shown, Unnoted, HasRing, Keeping, Stand, HandledAt, HandlesRequests, keeping_for, AreAllTables, FailsUpTo, IsOutcome, Outcome, Telling, story_of, NotesAnswer, outcome_of, IsBegun, SessionState}
+use Rattle.recovery.specs.Handling.{Stand}
+use Rattle.over_trunk.specs.Terms.{Stream, Prefix, Coming, Counts, cut_entries, pieces_in, Image, Answer, Path, SessionBreak, Stop, Session, after_ending, journal_of, AtBreak, AtEnd, WasAsked, answer_of, before_end, events_of, items_in, IsWholePiece, Rules, Try, Noted, Shown, Unnoted, HasRing, Keeping, HandledAt, HandlesRequests, keeping_for, AreAllTables, FailsUpTo, IsOutcome, Outcome, Telling, story_of, NotesAnswer, outcome_of, IsBegun, SessionState}
 use Rattle.over_trunk.specs.Trunk.{TakesTrunk, StopsTrunk, WritesTrunk, WritesWhole, BreaksTrunk, Carries, WroteTrunk}
 
 -- how often a source and a sink have failed, as a link over both counts it
@@ -35,18 +36,16 @@ HeadsAt rules session sink sink_later session_break.WriteFault = HeadsTrunk rule
 HeadsAt rules session sink sink_later session_break.FileFault = Unit {0}
 HeadsAt rules session sink sink_later session_break.Memory = session.broken ≢ [] → HeadsTrunk rules session sink sink_later
 
--- The bytes of a session over a trunk, by its account. Those that the source lost are the frames of the account's events; a part of a frame behind
--- them was asked for; and where the session came to an end, no more was taken than that end says, whatever was answered then. Those that the
--- sink gained are the frames of its pieces, of which a last one may be cut, but not at an end; and for each connection they carry what the
--- account says was passed to it. The cut frame's header is that of a send that was due. A frame was broken off on one side at most. Nothing came
--- before the session, so these are all of its bytes.
+-- The bytes of a session over a trunk, by its account. Those that the source lost are the frames of all events, of those before the session and those of
+-- its journal; a part of a frame behind them was asked for; and where the session came to an end, no more was taken than that end says, whatever was answered
+-- then. Those that the sink gained are the frames of the journal's pieces, of which a last one may be cut, but not at an end; and for each connection they
+-- carry, behind what it had before, what was passed to it. The cut frame's header is that of a send that was due. A frame was broken off on one side at most.
 pub record GoesOverTrunk (rules : Rules) (source source_later : Option Stream) (sink sink_later : Option (List ℕ)) (coming : Option Coming) (session : Session) (why : Stop) : Type 0 where
-  pub alone : rules.bounds.before ≡ nothing_before
-  pub took : TakesTrunk source source_later (events_in (journal_of session)) coming (WasAsked rules session)
-  pub stops : IfSome session.came (StopsTrunk source source_later (events_in (journal_of session)))
+  pub took : TakesTrunk source source_later (events_of rules.bounds (journal_of session)) coming (WasAsked rules session)
+  pub stops : IfSome session.came (StopsTrunk source source_later (events_of rules.bounds (journal_of session)))
   pub wrote : WritesTrunk sink sink_later (pieces_in (journal_of session))
   pub wrote_whole : AtEnd why (λ end. WritesWhole sink sink_later (pieces_in (journal_of session)))
-  pub breaks : BreaksTrunk source source_later sink sink_later (events_in (journal_of session)) (pieces_in (journal_of session)) (answer_of why)
+  pub breaks : BreaksTrunk source source_later sink sink_later (events_of rules.bounds (journal_of session)) (pieces_in (journal_of session)) (answer_of why)
   pub heads : AtBreak why (HeadsAt rules session sink sink_later)
   pub carried : Carries rules.bounds sink sink_later (journal_of session)
 

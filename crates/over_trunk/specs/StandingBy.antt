@@ -2,9 +2,9 @@
 use Rattle.std.specs.Prelude.{◌≡◌, ℕ, ◌+◌, ◌≤◌, List, [], ◌++◌, length, Option, None, Some, Result, Ok, Err}
 use Rattle.counts_file.specs.Counts.{count_of}
 use Rattle.run_history.specs.declared.answer.Answer.TheVariants as answer
-use Rattle.standby.specs.Missing.{AllGiven, PartGiven}
 use Rattle.standby.specs.Serving.{EndsBy}
-use Rattle.over_trunk.specs.Terms.{Appends, IsDrained, Stream, Send, sent_to, Entry, LinkEvent, Coming, Piece, events_in, pieces_in, IsFreshLink, Seen, Choice, TrunkLink, given_to, payload, told_nothing, TrunkWent, seen_of, told_of, Image, Answer, Path, items_in, Recorded, Difference, TellsDifference, IsReplay, Replay, bounds_of, Follower, Unfollowed, AreFollowed, BreaksBy, HasCaughtUp, WasFollowed, AreServed, AreTold, IsFollowed, WasServed}
+use Rattle.standby.specs.declared.following.Unfollowed.{Unfollowed}
+use Rattle.over_trunk.specs.Terms.{Appends, IsDrained, Stream, Send, sent_to, Entry, LinkEvent, Coming, Piece, events_in, pieces_in, IsFreshLink, Seen, Choice, TrunkLink, given_to, payload, told_nothing, seen_of, told_of, Image, Answer, Path, items_in, Recorded, Difference, TellsDifference, IsReplay, Replay, bounds_of, Follower, AreFollowed, BreaksBy, HasCaughtUp, WasFollowed, AllGiven, PartGiven, AreServed, AreTold, IsFollowed, WasServed}
 use Rattle.over_trunk.specs.Trunk.{TakesTrunk, TookWhole, TookRefused, WritesTrunk, WritesWhole, BreaksTrunk}
 use Rattle.over_trunk.specs.Replaying.{IsRecordedRun}
 

@@ -9,7 +9,7 @@ pub use Rattle.rx_io.specs.Sends.{Send, sent_to}
 pub use Rattle.links.specs.declared.journal.Entry.{Entry}
 pub use Rattle.links.specs.declared.journal.LinkEvent.{LinkEvent}
 pub use Rattle.links.specs.LinkForms.{gives_below_4096, handed_by}
-pub use Rattle.links.specs.Links.{Comes, ComesUntold, Coming, Counts, Grew, Handed, HasEnded, IsFresh, IsInOrder, IsNext, Phases, Piece, Refuses, Told, Unopened, cut_entries, events_in, phases_after, pieces_in}
+pub use Rattle.links.specs.Links.{Comes, ComesUntold, Coming, Counts, Grew, Handed, HasEnded, IsFresh, IsInOrder, IsNext, Phases, Piece, Refuses, Tells, Told, Unopened, cut_entries, events_in, phases_after, pieces_in}
 pub use Rattle.links.specs.Seen.{IsFreshLink, Seen, no_faults}
 pub use Rattle.block_book.specs.declared.choice.Choice.{Choice}
 pub use Rattle.trunk_wire.specs.declared.refusal.Refusal.{Refusal}
@@ -34,16 +34,19 @@ pub use Rattle.session_history.specs.declared.ends.SessionEnd.{SessionEnd}
 pub use Rattle.session_history.specs.declared.ends.Stop.{Stop}
 pub use Rattle.session_history.specs.Account.{IsAccount, Session, after_ending, journal_of}
 pub use Rattle.session_history.specs.AccountLaws.{AreInTurn, IsComplete}
+pub use Rattle.session_history.specs.Answering.{HasAnswerCause}
 pub use Rattle.session_history.specs.Ends.{AtBreak, AtEnd, HandedLast, HasComeTo, IsEnded, IsLastRefused, StaysKnown, TakesAtEnd, WasAsked, answer_of, before_end}
 pub use Rattle.session_history.specs.Giving.{HasHanded}
-pub use Rattle.session_history.specs.Heeding.{Bounds, LimitEvents, LimitItems, TooLong, Unheeded, events_of, heeded, items_in, nothing_before, refusal}
+pub use Rattle.session_history.specs.Heeding.{Before, Bounds, LimitEvents, LimitItems, TooLong, Unheeded, events_of, heeded, items_in, nothing_before, refusal}
 unfoldable pub use Rattle.session_history.specs.Heeding.{heeded_behind}
 pub use Rattle.session_history.specs.Lawful.{Chapter, IsWholePiece, Rules, Survivor, entries_of}
 pub use Rattle.session_history.specs.Passing.{AreBetween, passed_behind, passed_in}
 pub use Rattle.session_notes.specs.declared.episode.Episode.{Episode}
 pub use Rattle.session_notes.specs.declared.episode.Try.{Try}
 pub use Rattle.session_notes.specs.Noting.{Noted, Shown, Unnoted}
-pub use Rattle.recovery.specs.Handling.{HasRing, Keeping, Stand, stands_of}
+pub use Rattle.follow.specs.Following.{AsksForMore, HasFollowed, heard_alone, rules_behind}
+pub use Rattle.follow.specs.Handed.{AtExit, AtFailure, AtRequest, Stand}
+pub use Rattle.recovery.specs.Handling.{HasRing, Keeping, stands_of}
 pub use Rattle.schedule_file.specs.declared.recorded.Recorded.{Recorded}
 pub use Rattle.schedule_file.specs.declared.recorded.TheConstants.{VERSION}
 pub use Rattle.schedule_file.specs.Lines.{choice_line, choice_lines, line_of, lines_text}
@@ -54,12 +57,14 @@ pub use Rattle.session_state.specs.Options.{keeping_for}
 pub use Rattle.session_state.specs.Recovered.{AreAllTables, AreLastTables, AreTables, FailsUpTo, HasGivenUp, HasWatched, IsHandedLast, IsOutcome, IsTable, IsTelling, Outcome, Telling, Walk, entries, episodes_of, story_of, walk_behind}
 pub use Rattle.session_state.specs.Serving.{BreaksAt, LinkAnswers, NotesAnswer, outcome_of, rules_by}
 pub use Rattle.session_state.specs.Sessions.{IsBegun, SessionState}
+pub use Rattle.session_following.specs.declared.unfollowed.Unfollowed.{Unfollowed}
+pub use Rattle.session_following.specs.TakingOver.{HasEndedBehind, HasEndedThere, IsUnfollowed, IsUnfollowedBy, MismatchesAt, TakesOver, TookOver, UnnotedBy, stop_as}
 pub use Rattle.replay.specs.declared.difference.Difference.{Difference}
 pub use Rattle.replay.specs.Differing.{HasDifference, TellsDifference}
 pub use Rattle.replay.specs.Giving.{AreGiven, BreaksOff, found_gone, piece_of}
 pub use Rattle.replay.specs.Laws.{BringsFirst, HadOneStream, HasSession, IsRecordOf}
 pub use Rattle.replay.specs.Replaying.{AreAsked, AreOfLines, EndsBy, HasAsk, HasReplayed, HasReplayedBy, IsAsking, IsOfLine, IsReplay, LeavesLink, Replay, bounds_of}
 pub use Rattle.standby.specs.declared.follower.Follower.{Follower}
-pub use Rattle.standby.specs.declared.following.Unfollowed.{Unfollowed}
 pub use Rattle.standby.specs.Following.{AreFollowed, BreaksBy, CatchesUp, HasBroken, HasCaughtUp, LinkCatches, WasFollowed}
+pub use Rattle.standby.specs.Missing.{AllGiven, PartGiven}
 pub use Rattle.standby.specs.Serving.{AreServed, AreTold, HasServed, IsFollowed, WasServed}

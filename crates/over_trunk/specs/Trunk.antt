@@ -97,11 +97,11 @@ BreaksTrunk source source_later sink sink_later events pieces answer.FileFault =
 BreaksTrunk source source_later sink sink_later events pieces answer.Memory = TakesNoPart source source_later events ⊎ WritesWhole sink sink_later pieces
 BreaksTrunk source source_later sink sink_later events pieces _ = Unit {0}
 
--- the payload of the bytes that were written, a last frame that is cut short included, is for each connection what was passed to it
+-- The payload of the bytes that were written, a last frame that is cut short included, is for each connection what was passed to it, behind what it had before.
 pub record Carried (bounds : Bounds) (old new : Option (List ℕ)) (entries : List Entry) : Type 0 where
   pub written : List ℕ
   pub wrote : Appends old new written
-  pub payload_is : (conn : ℕ) → payload conn written ≡ sent_to conn (passed_in bounds entries)
+  pub payload_is : (conn : ℕ) → sent_to conn bounds.before.had ++ payload conn written ≡ sent_to conn (passed_in bounds entries)
 
 -- where the sink tells its bytes
 abbrev pub Carries : Bounds → Option (List ℕ) → Option (List ℕ) → List Entry → Type 0

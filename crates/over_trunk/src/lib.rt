@@ -4,6 +4,8 @@
 //! What is known of it is said of bytes: what was taken and written at each answer.
 //! Where a write broke off, the header of the frame that was cut is that of the send that was due; so at want of memory, if a piece broke off.
 //! No clause says that the payload behind it is from that send, and not the piece before.
+//! A session that takes over from another host, by its record and its report, follows that host's run and writes no byte before it is released.
+//! What it takes are then the frames of the events that it followed and of those behind them; what it writes stands behind what clients had.
 //! A replay writes whole frames of its sends, in their order.
 //! Where a write failed or memory ran out, a first part of the next send's frame may stand behind them.
 //! A conversion is a replay that gives nothing. Its text has each answer of the allocator that the run used, with what was asked.
@@ -19,11 +21,13 @@ mod frame_giver;
 pub mod laws;
 mod record_lines;
 mod replaying;
+mod resuming;
 mod serving;
 mod standing_by;
 
 pub use converting::{Converted, convert_trunk};
 pub use record_lines::rest_lines;
 pub use replaying::{Replayed, replay_trunk};
+pub use resuming::resume_trunk;
 pub use serving::serve_trunk;
 pub use standing_by::{catch_up_trunk, serve_on_trunk};

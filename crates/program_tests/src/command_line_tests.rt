@@ -1,8 +1,8 @@
 // What no clause says of the words: that a command comes out of them, and the sentences for a person. All values are worked out by
 // hand from the table in the documents. A line of a table is a case; one space parts its words.
 use command_line::{
-    COMMANDS, CommandName, POSITIONALS, asked_help, complaint, help_text, is_command, read_command,
-    usage,
+    COMMANDS, CommandName, OptionRow, POSITIONALS, asked_help, complaint, help_text, is_command,
+    read_command, usage,
 };
 use std::alloc::Global;
 use std::process::Abort;
@@ -79,6 +79,8 @@ const ACCEPTED: &str = "\
     standby p r c --record o => Some(Standby(StandbyCommand { program: \"p\", recorded: \"r\", counts: \"c\", recording: \"o\", budget: 1000000 }))\n\
     standby --budget 16777216 p --record o r c => Some(Standby(StandbyCommand { program: \"p\", recorded: \"r\", counts: \"c\", recording: \"o\", budget: 16777216 }))\n\
     standby 1 2 3 --budget 1 --record standby => Some(Standby(StandbyCommand { program: \"1\", recorded: \"2\", counts: \"3\", recording: \"standby\", budget: 1 }))\n\
+    resume p r q c --record o --report t => Some(Resume(ResumeCommand { program: \"p\", recorded: \"r\", reported: \"q\", counts: \"c\", recording: \"o\", report: \"t\", form: Text, hold: 0, ring: 8, every: 1, frames: 4, budget: 1000000, guard: Off }))\n\
+    resume --hold 1000 1 --ring 16 2 --every 64 3 --report 6 --record 5 4 --frames 16 --budget 1 --form json --guard block --durable on --tell off => Some(Resume(ResumeCommand { program: \"1\", recorded: \"2\", reported: \"3\", counts: \"4\", recording: \"5\", report: \"6\", form: Json, hold: 1000, ring: 16, every: 64, frames: 16, budget: 1, guard: Block }))\n\
     serve p 80 1 --record r --report t => Some(Serve(ServeCommand { session: RunCommand { program: \"p\", recording: \"r\", report: \"t\", form: Text, frame: Line, window: 4, hold: 0, ring: 8, every: 1, frames: 4, budget: 1000000, guard: Off }, port: 80, conns: 1, patience: 60, at_once: 1 }))\n\
     serve --patience 0 p --record 80 --report 1 65535 --frame whole 4096 --form json --window 64 --ring 16 --every 64 --frames 16 --budget 16777216 => Some(Serve(ServeCommand { session: RunCommand { program: \"p\", recording: \"80\", report: \"1\", form: Json, frame: Whole, window: 64, hold: 0, ring: 16, every: 64, frames: 16, budget: 16777216, guard: Off }, port: 65535, conns: 4096, patience: 0, at_once: 1 }))\n\
     serve 1 1 1 --record r --report t --patience 3600 --guard extent => Some(Serve(ServeCommand { session: RunCommand { program: \"1\", recording: \"r\", report: \"t\", form: Text, frame: Line, window: 4, hold: 0, ring: 8, every: 1, frames: 4, budget: 1000000, guard: Extent }, port: 1, conns: 1, patience: 3600, at_once: 1 }))\n\
@@ -219,6 +221,23 @@ const REFUSED: &str = "\n \n\
     standby p r c --record o --frame line\n\
     standby p r c --record o --report t\n\
     standby p r c --record o --tell off\n\
+    resume\n\
+    resume p r c --record o --report t\n\
+    resume p r q c --record o\n\
+    resume p r q c --report t\n\
+    resume p r q c d --record o --report t\n\
+    resume p r q p --record o --report t\n\
+    resume p r r c --record o --report t\n\
+    resume p r q q --record o --report t\n\
+    resume p r q c --record r --report t\n\
+    resume p r q c --record q --report t\n\
+    resume p r q c --record o --report q\n\
+    resume p r q c --record o --report c\n\
+    resume p r q c --record o --report o\n\
+    resume p r q c --record o --report t --window 4\n\
+    resume p r q c --record o --report t --frame line\n\
+    resume p r q c --record o --report t --hold 1001\n\
+    resume p r q c --record o --report t --ring 0\n\
     stand p r c --record o\n\
     run p --record r --report t --patience 5\n\
     serve\n\
@@ -280,8 +299,8 @@ const REFUSED: &str = "\n \n\
     replay p r --guard off\n";
 
 const COMPLAINTS: &str =
-    " => word 1: the command is missing, run or asm or replay or convert or standby or serve or diagnose or drill or frame or unframe\n\
-    dril p => word 1: the command is run or asm or replay or convert or standby or serve or diagnose or drill or frame or unframe, not dril\n\
+    " => word 1: the command is missing, run or asm or replay or convert or standby or resume or serve or diagnose or drill or frame or unframe\n\
+    dril p => word 1: the command is run or asm or replay or convert or standby or resume or serve or diagnose or drill or frame or unframe, not dril\n\
     drill p => word 2: SEED is 0 to 4294967295, not p\n\
     drill 4294967296 => word 2: SEED is 0 to 4294967295, not 4294967296\n\
     drill 1 100001 => word 3: COUNT is 1 to 100000, not 100001\n\
@@ -339,7 +358,11 @@ const COMPLAINTS: &str =
     standby --record p p r c => word 4: PROGRAM and --record are two names, not p twice\n\
     standby p r c --record r => word 6: RECORD and --record are two names, not r twice\n\
     standby p r c --record c => word 6: COUNTS and --record are two names, not c twice\n\
-    standby p r c --record o => \n";
+    standby p r c --record o => \n\
+    resume p r q => word 5: COUNTS is missing\n\
+    resume p r q c => word 6: --record is missing, a name\n\
+    resume p r q c --window 4 => word 6: --window is no option of resume\n\
+    resume p r q c --record o --report t => \n";
 
 const RUN_USAGE: &str = "run PROGRAM and in any place, each once:
   --record a name, always
@@ -347,6 +370,20 @@ const RUN_USAGE: &str = "run PROGRAM and in any place, each once:
   --form text or json (text)
   --frame line or length or whole (line)
   --window 1 to 64 (4)
+  --hold 0 to 1000 (0)
+  --ring 1 to 16 (8)
+  --every 1 to 64 (1)
+  --frames 2 to 16 (4)
+  --budget 1 to 16777216 (1000000)
+  --guard off or extent or block (off)
+  --tell auto or on or off (auto)
+  --durable on or off (off)
+";
+
+const RESUME_USAGE: &str = "resume PROGRAM RECORD REPORT COUNTS and in any place, each once:
+  --record a name, always
+  --report a name, always
+  --form text or json (text)
   --hold 0 to 1000 (0)
   --ring 1 to 16 (8)
   --every 1 to 64 (1)
@@ -368,6 +405,18 @@ convert PROGRAM RECORD OUT
 standby PROGRAM RECORD COUNTS and in any place, each once:
   --record a name, always
   --budget 1 to 16777216 (1000000)
+resume PROGRAM RECORD REPORT COUNTS and in any place, each once:
+  --record a name, always
+  --report a name, always
+  --form text or json (text)
+  --hold 0 to 1000 (0)
+  --ring 1 to 16 (8)
+  --every 1 to 64 (1)
+  --frames 2 to 16 (4)
+  --budget 1 to 16777216 (1000000)
+  --guard off or extent or block (off)
+  --tell auto or on or off (auto)
+  --durable on or off (off)
 ";
 
 const SERVE_USAGE: &str =
@@ -422,6 +471,7 @@ const ASKED: &str = " => None\n\
     help replay => Some(Of(Replay))\n\
     help convert => Some(Of(Convert))\n\
     help standby => Some(Of(Standby))\n\
+    help resume => Some(Of(Resume))\n\
     help serve => Some(Of(Serve))\n\
     help diagnose => Some(Of(Diagnose))\n\
     help drill => Some(Of(Drill))\n\
@@ -480,6 +530,7 @@ fn usage_is_told(rt: HostRuntime) -> Result<(), Fail> {
         ("asm", "", "asm SOURCE OUT\n", "", ""),
         ("convert", "", "convert PROGRAM RECORD OUT\n", "", ""),
         ("standby", "", "", STANDBY_USAGE, ""),
+        ("resume", "", "", RESUME_USAGE, ""),
         ("serve", "", "", SERVE_USAGE, ""),
         (
             "drill",
@@ -531,19 +582,25 @@ fn help_is_told(rt: HostRuntime) -> Result<(), Fail> {
         assert_eq!(rt; told.as_str(), expected, "{name:?}");
     }
     let all = help_text(rt.alloc(), None)?;
-    assert_eq!(rt; all.as_str().lines().count(), 20);
+    assert_eq!(rt; all.as_str().lines().count(), 22);
     Ok(())
+}
+
+// Whether each of these rows has a short sentence.
+fn are_short(rows: &[OptionRow]) -> bool {
+    for row in rows {
+        if row.says.len() > 100 {
+            return false;
+        }
+    }
+    true
 }
 
 #[test]
 fn each_sentence_is_short(rt: HostRuntime) {
     for command in COMMANDS {
         assert!(rt; command.says.len() <= 100, "{}", command.says);
-        for row in command.options {
-            assert!(rt; row.says.len() <= 100, "{}", row.says);
-        }
+        assert!(rt; are_short(command.options), "{}", command.says);
     }
-    for row in POSITIONALS {
-        assert!(rt; row.says.len() <= 100, "{}", row.says);
-    }
+    assert!(rt; are_short(&POSITIONALS));
 }

@@ -6,6 +6,8 @@ mod command_line_tests;
 #[cfg(test)]
 mod order_tests;
 #[cfg(test)]
+mod resume_tests;
+#[cfg(test)]
 mod rx_serve_tests;
 #[cfg(test)]
 mod standby_tests;

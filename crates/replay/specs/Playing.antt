@@ -1,8 +1,8 @@
 -- What holds while a record is replayed.
-use Rattle.std.specs.Prelude.{◌≡◌, ℕ, ◌+◌, ◌<◌, ◌≤◌, ◌^◌, Bool, true, false, List, [], ◌∷◌, ◌++◌, length, drop, None, Some, Result, Ok, Err, slice_get, unwrap_or, IfOk, IsErrOf, IsSome}
+use Rattle.std.specs.Prelude.{◌≡◌, ℕ, ◌+◌, ◌-◌, ◌<◌, ◌≤◌, ◌^◌, Bool, true, false, List, [], ◌∷◌, ◌++◌, length, drop, None, Some, Result, Ok, Err, slice_get, unwrap_or, IfOk, IsErrOf, IsSome}
 use Rattle.rx_io.specs.Faults.{Rose}
 use Rattle.run_history.specs.declared.answer.Answer.TheVariants as answer
-use Rattle.replay.specs.Terms.{Item, Send, Entry, Counts, HasEnded, Open, Phases, Tells, Told, events_in, pieces_in, Seen, Ask, Choice, is_allowed, is_bare, Log, Image, Answer, connections_after, Chooses, State, Wants, does, Standing, items_in, received, KeepsItems, KeepsPhases, chosen_standing, Line, Recorded}
+use Rattle.replay.specs.Terms.{Item, Send, Entry, Counts, HasEnded, Open, Phases, Tells, Told, events_in, pieces_in, Seen, Ask, Choice, is_allowed, is_bare, Log, Image, Answer, connections_after, Chooses, State, Wants, does, chosen_standing, Standing, items_in, received, KeepsItems, KeepsPhases, Line, Recorded}
 use Rattle.replay.specs.declared.player.Player.{Player}
 use Rattle.replay.specs.Giving.{found_gone, AreGiven}
 use Rattle.replay.specs.Replaying.{Replay, IsReplay, AreAsked, bounds_of, choice_by, EndsBy, IsAsking, IsUnusable, LeavesLink}
@@ -153,6 +153,14 @@ pub record StandsWaiting (recorded : Recorded) (seen : Seen) (stage : Stage) : T
   pub is : IsWaiting image recorded began seen stage
   pub takes : seen.takes ≡ true
   pub gives : seen.gives ≡ true
+
+-- its guest wants an answer to this, before the record's last instruction, and each block of its heap is live and without padding
+pub record StandsWanting (recorded : Recorded) (ask : Ask) (live : Standing) : Type 0 where
+  pub wants : does None None live.guest.machine ≡ Chooses ask
+  pub bare : is_bare live.guest.heap ≡ true
+  pub shorter : live.steps < recorded.steps
+  pub lives : live.ended ≡ None
+  pub room : live.steps < 2 ^ 64 - 1
 
 -- and so where it has just sent bytes, for some record
 pub record StandsSending (seen : Seen) (conn : ℕ) (bytes : List ℕ) (stage : Stage) : Type 0 where

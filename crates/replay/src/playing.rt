@@ -1,15 +1,12 @@
 // A turn of a replay.
-ghost use Rattle.std.specs.Prelude.{◌≡◌, ◌-◌, ◌<◌, ◌^◌, true, None, slice_get};
+ghost use Rattle.std.specs.Prelude.{◌≡◌, ◌<◌, ◌^◌, true, None, slice_get};
 ghost use Rattle.links.specs.Links.{Told};
 ghost use Rattle.links.specs.Seen.{Seen};
-ghost use Rattle.block_book.specs.Heap.{is_bare};
-ghost use Rattle.run_history.specs.Machine.{Chooses};
-ghost use Rattle.run_history.specs.Run.{does};
 ghost use Rattle.elf_image.specs.declared.image.Image.{Image};
 ghost use Rattle.replay.specs.Differing.{DiffersBy, HasFound};
 ghost use Rattle.replay.specs.Giving.{IsLastSend};
 ghost use Rattle.replay.specs.Replaying.{choice_by};
-ghost use Rattle.replay.specs.Playing.{stage_of, IsBetween, IsWaiting, IsWanting, StandsBetween, StandsWaiting, TurnsBy, GoesOnBy, HasNoFault, LinkTurns, LinkHears, CountsSteps, UsesBy};
+ghost use Rattle.replay.specs.Playing.{stage_of, IsBetween, IsWaiting, IsWanting, StandsBetween, StandsWaiting, StandsWanting, TurnsBy, GoesOnBy, HasNoFault, LinkTurns, LinkHears, CountsSteps, UsesBy};
 ghost use Rattle.replay.specs.Judging.{ended_apart, judged, left_over, unusable_apart};
 
 use crate::difference::Difference;
@@ -131,11 +128,7 @@ impl Player {
         ask: Ask,
         steps: &mut Steps<L>,
     ) -> Result<(), Answer>
-        requires wants { does None None self.old.cpu.slots.live.guest.machine ≡ Chooses ask }
-        requires bare { is_bare self.old.cpu.slots.live.guest.heap ≡ true }
-        requires shorter { self.old.cpu.slots.live.steps < recorded.now.steps }
-        requires lives { self.old.cpu.slots.live.ended ≡ None }
-        requires room { self.old.cpu.slots.live.steps < 2 ^ 64 - 1 }
+        requires { StandsWanting recorded.now ask self.old.cpu.slots.live }
         ensures turns { (image : Image) (began : Told) (seen : Seen) → seen.takes ≡ true → IsWanting image recorded.now began seen ask (stage_of self.old)
             → GoesOnBy image recorded.now began seen (stage_of self.new) result }
         ensures differs { DiffersBy (HasFound recorded.now self.new.cpu.slots.live) self.old.difference self.new.difference result }

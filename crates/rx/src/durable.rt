@@ -27,6 +27,10 @@ pub fn durable_through<'a>(
         Some(Command::Run(run)) => Ok(Some(through_of(&run))),
         Some(Command::Serve(serve)) => Ok(Some(through_of(&serve.session))),
         Some(Command::Diagnose(diagnose)) => Ok(Some(through_of(&diagnose.session))),
+        Some(Command::Resume(resume)) => Ok(Some(Through {
+            each: resume.report,
+            first: resume.recording,
+        })),
         _ => Ok(None),
     }
 }

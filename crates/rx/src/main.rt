@@ -1,6 +1,6 @@
 //! `rx`: runs a guest program on the frames of standard input, and writes what it sends as frames on standard output; or serves the
-//! clients of a port with it; takes over from a host that stopped; diagnoses failures; assembles programs, replays records, and converts
-//! them; serves a generated session; and turns lines into frames and back.
+//! clients of a port with it; takes over from a host that stopped, or goes on for one that was killed; diagnoses failures; assembles
+//! programs, replays records, and converts them; serves a generated session; and turns lines into frames and back.
 #![tactic(auto)]
 
 ghost use Rattle.std.specs.Prelude.{◌≡◌, ◌<◌};
@@ -14,6 +14,7 @@ mod helping;
 mod message;
 mod outputs;
 mod readings;
+mod resume_sentences;
 mod sentences;
 mod standby_sentences;
 mod std_teller;

@@ -1,6 +1,6 @@
 // The files that a command is to write, looked at before it begins: what would be lost by that.
 use command_line::{
-    AsmCommand, Command, ConvertCommand, DiagnoseCommand, RunCommand, StandbyCommand,
+    AsmCommand, Command, ConvertCommand, DiagnoseCommand, ResumeCommand, RunCommand, StandbyCommand,
 };
 use std::fs;
 use std::fs::File;
@@ -195,6 +195,34 @@ fn objection_to_standby<'a>(
     )
 }
 
+fn objection_to_resume<'a>(rt: &HostRuntime, resume: &ResumeCommand<'a>) -> Option<Objection<'a>> {
+    let record = Output {
+        name: resume.recording,
+        kind: Kind::Record,
+    };
+    let report = Output {
+        name: resume.report,
+        kind: Kind::Report,
+    };
+    let read = [
+        resume.program,
+        resume.recorded,
+        resume.reported,
+        resume.counts,
+    ];
+    let others = [
+        resume.program,
+        resume.recorded,
+        resume.reported,
+        resume.counts,
+        resume.recording,
+    ];
+    match objection_to(rt, record, &read) {
+        Some(objection) => Some(objection),
+        None => objection_to(rt, report, &others),
+    }
+}
+
 /// What speaks first against writing the files of a command.
 pub fn find_objection<'a>(rt: &HostRuntime, command: &Command<'a>) -> Option<Objection<'a>> {
     match command {
@@ -204,6 +232,7 @@ pub fn find_objection<'a>(rt: &HostRuntime, command: &Command<'a>) -> Option<Obj
         Command::Asm(asm) => objection_to_asm(rt, asm),
         Command::Convert(convert) => objection_to_convert(rt, convert),
         Command::Standby(standby) => objection_to_standby(rt, standby),
+        Command::Resume(resume) => objection_to_resume(rt, resume),
         Command::Replay(_) | Command::Drill(_) | Command::Frame | Command::Unframe => None,
     }
 }

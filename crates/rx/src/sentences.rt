@@ -9,6 +9,7 @@ use crate::differing::write_difference;
 use crate::message::{write_cause, write_outside, write_refused};
 use crate::outputs::Objection;
 use crate::readings::tell_readings;
+use crate::resume_sentences::tell_resume;
 use crate::standby_sentences::tell_standby;
 use crate::text_sentences::{tell_drill, tell_frame, tell_unframe};
 use command_line::{
@@ -21,7 +22,7 @@ use run_history::{Answer, Cause};
 use rv_asm::explain;
 use rx_io::{Files, StdFiles};
 use rx_serve::{MAX_PROGRAM, MAX_RECORD, MAX_SOURCE};
-use schedule_file::read_record;
+use schedule_file::read_unfinished;
 use std::fmt;
 
 /// Tells that memory ran out.
@@ -108,17 +109,17 @@ pub(crate) fn refused_field(
 
 // The sentence for an answer to `run`.
 #[derive(Debug, Drop)]
-struct RunMessage<'a> {
-    answer: Answer,
-    program: &'a str,
-    recording: &'a str,
-    report: &'a str,
+pub(crate) struct RunMessage<'a> {
+    pub(crate) answer: Answer,
+    pub(crate) program: &'a str,
+    pub(crate) recording: &'a str,
+    pub(crate) report: &'a str,
     /// How many instructions may go by between two items.
-    budget: u32,
+    pub(crate) budget: u32,
     /// The field that the program file is refused for, where it was found.
-    field: Option<RefusedField>,
+    pub(crate) field: Option<RefusedField>,
     /// The file that couldn't be used, where it was found.
-    blame: Option<Blame<'a>>,
+    pub(crate) blame: Option<Blame<'a>>,
 }
 
 impl RunMessage<'_> {
@@ -500,7 +501,7 @@ impl fmt::Display for ReplayMessage<'_> {
     }
 }
 
-// The bytes of a record's window.
+// The bytes of a record's window, also of one whose last line is missing.
 pub(crate) fn recorded_window(rt: &HostRuntime, recording: &str) -> Option<u32>
     ensures { IfSome result (λ window. IsWindow window) }
 {
@@ -508,7 +509,7 @@ pub(crate) fn recorded_window(rt: &HostRuntime, recording: &str) -> Option<u32>
         Ok(text) => text,
         Err(_) => return None,
     };
-    match read_record(rt.alloc(), text.as_slice()) {
+    match read_unfinished(rt.alloc(), text.as_slice()) {
         Ok(recorded) => Some(recorded.window << 20),
         Err(_) => None,
     }
@@ -620,6 +621,7 @@ pub fn tell(rt: &HostRuntime, answer: Answer, difference: Option<Difference>, wo
         Ok(Some(Command::Replay(replay))) => tell_replay(rt, answer, difference, &replay),
         Ok(Some(Command::Convert(convert))) => tell_convert(rt, answer, difference, &convert),
         Ok(Some(Command::Standby(standby))) => tell_standby(rt, answer, difference, &standby),
+        Ok(Some(Command::Resume(resume))) => tell_resume(rt, answer, &resume),
         Ok(Some(Command::Serve(serve))) => tell_serve(rt, answer, &serve),
         Ok(Some(Command::Diagnose(diagnose))) => tell_diagnose(rt, answer, &diagnose),
         Ok(Some(Command::Drill(_))) => tell_drill(rt, answer),

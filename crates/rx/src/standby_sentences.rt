@@ -5,7 +5,9 @@ use crate::sentences::{ReplayMessage, is_cut, recorded_window, refused_field};
 use command_line::StandbyCommand;
 use replay::Difference;
 use run_history::{Answer, Cause};
+use rx_io::{Files, StdFiles};
 use rx_serve::{MAX_COUNTS, MAX_PROGRAM, MAX_RECORD};
+use schedule_file::read_record;
 use std::fmt;
 
 // The sentence for an answer to `standby`: that of a replay, but for what comes of the counts, behind the record's end, and of what is written.
@@ -16,6 +18,20 @@ struct StandbyMessage<'a> {
     recording: &'a str,
     /// How many instructions may go by between two items.
     budget: u32,
+    /// Whether the record that is refused is whole.
+    is_long: bool,
+}
+
+/// Counts that are refused at this line.
+pub(crate) fn write_refused_counts<W: fmt::Write>(
+    f: &mut fmt::Formatter<W>,
+    counts: &str,
+    line: u32,
+) -> fmt::Result {
+    write!(
+        f,
+        "the counts {counts} aren't taken: line {line} isn't of its form, a connection from 0 to 4095 above that of the line before, a space, and how many bytes it has"
+    )
 }
 
 impl StandbyMessage<'_> {
@@ -73,10 +89,11 @@ impl fmt::Display for StandbyMessage<'_> {
         match self.replayed.answer {
             Answer::FileFault => self.file_fault(f),
             Answer::TooLarge => self.too_large(f),
-            Answer::CountsRefused { line } => write!(
+            Answer::RecordRefused { line } if self.is_long => write!(
                 f,
-                "the counts {counts} aren't taken: line {line} isn't of its form, a connection from 0 to 4095 above that of the line before, a space, and how many bytes it has"
+                "the record {recorded} isn't followed: line {line} says that its run has 2^62 instructions or more, which none can be that is followed"
             ),
+            Answer::CountsRefused { line } => write_refused_counts(f, counts, line),
             Answer::Short { conn } => write!(
                 f,
                 "the counts {counts} say that connection {conn} has more bytes than the run of the record {recorded} sent there: is it the record of what was served?"
@@ -88,6 +105,17 @@ impl fmt::Display for StandbyMessage<'_> {
             ),
             _ => write!(f, "{}", self.replayed),
         }
+    }
+}
+
+// Whether a record that is refused is one: then its run is too long to be followed.
+fn is_long(rt: &HostRuntime, answer: Answer, recorded: &str) -> bool {
+    let Answer::RecordRefused { .. } = answer else {
+        return false;
+    };
+    match StdFiles::make(rt, rt.alloc()).load(rt.alloc(), recorded, MAX_RECORD) {
+        Ok(text) => read_record(rt.alloc(), text.as_slice()).is_ok(),
+        Err(_) => false,
     }
 }
 
@@ -120,6 +148,7 @@ pub fn tell_standby(
         counts: standby.counts,
         recording: standby.recording,
         budget: standby.budget,
+        is_long: is_long(rt, answer, standby.recorded),
     };
     let _ = eprintln!(rt; "rx: {message}");
 }

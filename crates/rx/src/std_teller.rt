@@ -26,7 +26,9 @@ fn is_asked(rt: &HostRuntime, words: &[String]) -> bool {
     };
     match (name_of(word.as_str()), asked_tell(words)) {
         (Some(CommandName::Diagnose), Tell::Auto) => true,
-        (Some(CommandName::Run | CommandName::Serve), Tell::Auto) => rt.stderr().is_terminal(),
+        (Some(CommandName::Run | CommandName::Serve | CommandName::Resume), Tell::Auto) => {
+            rt.stderr().is_terminal()
+        }
         (_, told) => told == Tell::On,
     }
 }

@@ -1,12 +1,11 @@
 -- A session whose recoverable part is another one.
-use Rattle.elf_image.specs.declared.image.Image.{Image}
+use Rattle.std.proofs.Common.{false}
 use Rattle.links.specs.declared.journal.Entry.{Entry}
-use Rattle.alloc_env.specs.declared.env.Env.{Env}
 use Rattle.recovery.specs.Forgetting.{Forgets}
 use Rattle.recovery.specs.Recoverables.{KeepsHeld, KeepsUnsaved}
-use Rattle.rx_engine.proofs.Terms.{List, Option, ap, false, subst, sym, ℕ, ◌≡◌, Seen, Override, Path, Rules, Recoverable, Stand, is_far, KeepsRing, goes_as, walked, SessionState, IsBrokenOff, Since}
+use Rattle.recovery.specs.Handling.{Stand}
+use Rattle.rx_engine.proofs.Terms.{List, Option, ap, subst, sym, ℕ, ◌≡◌, Seen, Env, Image, Override, Path, SessionBreak, Rules, Recoverable, is_far, KeepsRing, goes_as, walked, SessionState, IsBrokenOff, Since}
 use Rattle.rx_engine.specs.declared.session.Session.TheInside.{Inside}
-use Rattle.session_history.specs.declared.ends.SessionBreak.{SessionBreak}
 
 -- no checkpoint is due with as many items taken
 pub near_now : (every : ℕ) (newest : Option Stand) {taken count : ℕ} → taken ≡ count → is_far every taken newest ≡ false → is_far every count newest ≡ false

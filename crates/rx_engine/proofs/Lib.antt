@@ -1,2 +1,12 @@
 pub mod Terms
 pub mod HeldLemmas
+pub mod ReleaseLemmas
+pub mod AwaitLemmas
+pub mod EndingOn
+pub mod RequestLemmas
+pub mod RequestKeeping
+pub mod StoppingAsked
+pub mod UnnotedLemmas
+pub mod StepKeeping
+pub mod TurnFollowed
+pub mod TakeLemmas

@@ -12,7 +12,7 @@ use links::Link;
 use session_history::{SessionBreak, SessionEnd, Stop};
 
 // What an event that wasn't heard means for a session.
-fn stop_at(fault: HearFault) -> Stop
+pub(crate) fn stop_at(fault: HearFault) -> Stop
     ensures { IsStopAt fault result }
 {
     match fault {

@@ -1,5 +1,5 @@
 // The checkpoints of a session.
-ghost use Rattle.std.specs.Prelude.{◌≡◌, ◌<◌, ◌+◌, ◌^◌, [], ◌∷◌, length, true, IfSome, slice_get};
+ghost use Rattle.std.specs.Prelude.{◌≡◌, ◌<◌, ◌+◌, ◌^◌, [], ◌∷◌, length, true, IfSome, OnErr, slice_get};
 ghost use Rattle.links.specs.Seen.{Seen};
 ghost use Rattle.reply_ledger.specs.Trimming.{trimmed};
 ghost use Rattle.elf_image.specs.declared.image.Image.{Image};
@@ -10,6 +10,7 @@ ghost use Rattle.recovery.specs.Handling.{alone, stands_of};
 ghost use Rattle.session_state.specs.Sessions.{IsBegun};
 ghost use Rattle.session_state.specs.Standing.{Since, IsWaitingFor};
 ghost use Rattle.session_state.specs.Leaving.{IsHandled, CanForgetSends};
+ghost use Rattle.session_following.specs.TakingOver.{UnnotedBy};
 ghost use Rattle.session_state.specs.Serving.{IsReadyToServe, StandsSomewhere, WaitsBy, KeepsSaving, KeepsNoting, KeepsForgetting, NotesRest, HasNoteRest, rules_by};
 
 use crate::Session;
@@ -48,6 +49,9 @@ impl<R: AccessRule> Session<R> {
         ensures waits { (image : Image) (began : Since) (seen : Seen) → seen.takes ≡ true → IsWaitingFor (rules_by R.rule self.old) image (record began { noted = (N.shown notes.old).told }) seen self.old
             → WaitsBy (rules_by R.rule self.old) image (record began { noted = (N.shown notes.new).told }) seen self.new result }
         ensures keeps { KeepsNoting (N.shown notes.old) (N.shown notes.new) self.old self.new result }
+        ensures episodes { (N.shown notes.new).told.episodes ≡ (N.shown notes.old).told.episodes }
+        ensures none { OnErr result (((N.shown notes.new).told.choices ≡ (N.shown notes.old).told.choices) × (self.new ≡ self.old)) }
+        ensures unnoted { UnnotedBy (N.shown notes.old).told.unnoted (N.shown notes.new).told.unnoted self.new.choices result }
         ensures fixed { N.fixed notes.new ≡ N.fixed notes.old }
     {
         let safe = self.held.cpu.oldest_marks().choices;

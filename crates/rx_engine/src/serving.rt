@@ -90,7 +90,12 @@ impl<R: AccessRule> Session<R> {
     }
 
     // At an end: passes what is held back, notes the rest of the answers of the allocator, and gives up the sends that no trial needs.
-    fn finish<K: Link, N: Notes>(&mut self, link: &mut K, notes: &mut N, end: SessionEnd) -> Stop
+    pub(crate) fn finish<K: Link, N: Notes>(
+        &mut self,
+        link: &mut K,
+        notes: &mut N,
+        end: SessionEnd,
+    ) -> Stop
         requires { StandsEnding (rules_by R.rule self.old) (K.seen link.old) end self.old }
         ensures served { (image : Image) (began : Since) (first : Seen) (ending : IsEnding (rules_by R.rule self.old) image (record began { told = first.told; noted = (N.shown notes.old).told }) (K.seen link.old) self.old end)
             → IsFinishing (rules_by R.rule self.old) first (K.seen link.old) ending.story end → IsTrimmed self.old
@@ -195,7 +200,7 @@ impl<R: AccessRule> Session<R> {
     }
 
     // The guest takes the item that it waits for, which is there.
-    fn take<L: Ledger>(&mut self, steps: &mut Steps<L>)
+    pub(crate) fn take<L: Ledger>(&mut self, steps: &mut Steps<L>)
         requires { StandsTaking (rules_by R.rule self.old) self.old }
         ensures going { (image : Image) (began : Since) (seen : Seen) → IsWaitingFor (rules_by R.rule self.old) image began seen self.old → IsGoing (rules_by R.rule self.old) image began seen self.new }
         ensures keeps { KeepsItem self.old self.new }

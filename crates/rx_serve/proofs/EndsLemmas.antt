@@ -4,7 +4,8 @@ use Rattle.session_history.specs.declared.ends.Stop.TheVariants as stop
 use Rattle.rx_io.specs.declared.fault.IoFault.TheVariants as fault
 use Rattle.run_history.specs.declared.answer.Answer.TheVariants as answer
 use Rattle.trunk_text.specs.declared.turning.Ended.TheVariants as ended
-use Rattle.rx_serve.proofs.Terms.{List, None, Option, Some, inl, inr, refl, subst, sym, ℕ, ◌-◌, ◌∙◌, ◌≡◌, Result, IoFault, ListenEntry, Binds, CrowdBinds, number_cases, Ended, Answer, Stop, is_end_answer, IsEnd, answer_of, DrillEnds, DiagnoseValue, RunValue, ServeValue, asm, convert, diagnose, drill, frame, replay, run, serve, standby, unframe, End, Outside, HasLoadCause, HasAsmCause, window_of, Port, Route, Several, trunk_of, IsFilesAnswer, HasNotBegun, HasServed, EndsOver, Heard, IsBindAnswer, ServeEnds, limits_of, DiagnoseEnds, turned_answer, RunEnds, OnlyBadWordsAreRefused}
+use Rattle.session_following.specs.declared.unfollowed.Unfollowed.TheVariants as unfollowed
+use Rattle.rx_serve.proofs.Terms.{List, None, Option, Some, inl, inr, refl, subst, sym, ℕ, ◌-◌, ◌∙◌, ◌≡◌, Result, IoFault, ListenEntry, Binds, CrowdBinds, number_cases, Ended, Image, Answer, Stop, is_end_answer, IsEnd, answer_of, Handed, Unfollowed, DrillEnds, DiagnoseValue, ResumeValue, RunValue, ServeValue, asm, convert, diagnose, drill, frame, replay, resume, run, run_in, serve, standby, unframe, End, Outside, HasLoadCause, HasAsmCause, window_of, Port, Route, Several, trunk_of, IsFilesAnswer, HasNotBegun, HasServed, EndsOver, Heard, IsBindAnswer, ServeEnds, limits_of, DiagnoseEnds, HasHandoverCause, ResumeEnds, ResumesSession, unreleased_answer, turned_answer, RunEnds, OnlyBadWordsAreRefused}
 use Rattle.rx_serve.proofs.ReplayLemmas.{replay_not_refused}
 use Rattle.rx_serve.proofs.ConvertLemmas.{convert_not_refused}
 use Rattle.rx_serve.proofs.StandbyLemmas.{standby_not_refused}
@@ -63,6 +64,28 @@ diagnose_not_refused value old new end (inr (inr served)) is =
       | inr (at_end, (why, note)) ↦ note_not_refused why end.answer note is
     ]
 
+-- nor is a `resume`
+unreleased_not_refused : (why : Unfollowed) → unreleased_answer why ≡ answer.BadWords → ⊥
+unreleased_not_refused (unfollowed.Mismatch step) is = cc
+unreleased_not_refused (unfollowed.Short conn) is = cc
+unreleased_not_refused (unfollowed.Stops why) is = stop_not_refused why is
+
+session_not_refused : (value : RunValue) (image : Image) (handed : Handed) (old new : Outside) (end : End) → ResumesSession value image handed old new end → end.answer ≡ answer.BadWords → ⊥
+session_not_refused value image handed old new end (inl none) is = elim none.starts [
+  | inl (why, (note, starts)) ↦ note_not_refused why end.answer note is
+  | inr (memory, starts) ↦ absurd (let other : answer.Memory ≡ answer.BadWords = sym memory ∙ is in cc)
+]
+session_not_refused value image handed old new end (inr (inl stopped)) is = unreleased_not_refused stopped.why (sym stopped.answered ∙ is)
+session_not_refused value image handed old new end (inr (inr resumed)) is = elim resumed.served.closes [
+  | inl (at_end, (same, ends)) ↦ stop_not_refused resumed.served.why (sym same ∙ is)
+  | inr (inl (at_end, (why, (note, ends)))) ↦ note_not_refused why end.answer note is
+  | inr (inr (none, (same, left))) ↦ stop_not_refused resumed.served.why (sym same ∙ is)
+]
+
+resume_not_refused : (value : ResumeValue) (old new : Outside) (end : End) → ResumeEnds value old new end → end.answer ≡ answer.BadWords → ⊥
+resume_not_refused value old new end (inl none) is = (subst (HasHandoverCause old.files value) is none.cause).holds
+resume_not_refused value old new end (inr taken) is = session_not_refused (run_in value taken.window taken.frame) taken.image taken.handed (record old { calls = taken.calls_loaded }) new end taken.resumes is
+
 -- nor is an input that was turned
 turned_not_refused : (why : Ended) → turned_answer why ≡ answer.BadWords → ⊥
 turned_not_refused ended.Finished is = cc
@@ -79,6 +102,7 @@ only_bad_words (Some (asm value)) before later old new end ends is = absurd (sub
 only_bad_words (Some (replay value)) before later old new end ends is = absurd (replay_not_refused value old new end.answer ends.replays is)
 only_bad_words (Some (convert value)) before later old new end ends is = absurd (convert_not_refused value old new end.answer ends.converts is)
 only_bad_words (Some (standby value)) before later old new end ends is = absurd (standby_not_refused value old new end ends is)
+only_bad_words (Some (resume value)) before later old new end ends is = absurd (resume_not_refused value old new end ends is)
 only_bad_words (Some (serve value)) before later old new end ends is = absurd (serve_not_refused value before later old new end ends is)
 only_bad_words (Some (diagnose value)) before later old new end ends is = absurd (diagnose_not_refused value old new end ends is)
 only_bad_words (Some (drill value)) before later old new end ends is = absurd (subst (DrillEnds value.seed value.count (new.counter - old.counter) old.output new.output) is ends.drilled)

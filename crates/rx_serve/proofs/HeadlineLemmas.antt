@@ -6,11 +6,10 @@ use Rattle.run_history.specs.declared.answer.Answer.TheVariants as answer
 use Rattle.run_history.specs.Run.{run}
 use Rattle.session_history.specs.Owing.{OwesNothing}
 use Rattle.session_history.specs.Ends.{EndsBy}
-use Rattle.over_trunk.specs.Trunk.{StopsTrunk, Carries}
 use Rattle.session_history.specs.Passing.{passed_in}
 use Rattle.over_crowd.specs.Calls as crowd
 use Rattle.over_crowd.specs.Serving as gathered
-use Rattle.rx_serve.proofs.Terms.{IfSome, List, None, Option, Some, [], ap, append-nil, arith, drop, length, refl, subst, suc, sym, true, zero, ℕ, ◌++◌, ◌∙◌, ◌≡◌, ◌≤◌, length-take-le, take-append-drop, none-some, option_and_then_some, same_Some, Item, ListenEntry, IsDrained, Stream, Prefix, sent_to, Entry, Coming, events_in, CrowdEntry, Limits, Choice, payload, Image, Answer, next_parts, Chooses, Effect, Emits, Ends, Fails, Goes, State, Wants, start, Run, after, effect, next, output, SessionEnd, Stop, at_its_end, came_to, holds_at_end, is_end_answer, passed_all, received_at_end, HasPassedAll, IsAccount, Session, journal_of, AtEnd, EndsAt, HasComeTo, IsEnd, answer_of, end_answer, AreGiven, Rules, entries_of, Episode, Unnoted, noted, Keeping, HasNoted, IsOutcome, Telling, given_to, EndsAfter, GoesOverPort, GoesOverCrowd, End, GoesOver, IsDone, IsServed, Passed, PassedCalls, PassedOver, PassedTrunk, Port, Route, Serves, Several, Trunk, Headline, LastExits, received_items}
+use Rattle.rx_serve.proofs.Terms.{IfSome, List, None, Option, Some, [], ap, append-nil, arith, drop, length, refl, subst, suc, sym, true, zero, ℕ, ◌++◌, ◌∙◌, ◌≡◌, ◌≤◌, length-take-le, take-append-drop, none-some, option_and_then_some, same_Some, Item, ListenEntry, IsDrained, Stream, Prefix, sent_to, Entry, Coming, CrowdEntry, Limits, Choice, payload, Image, Answer, next_parts, Chooses, Effect, Emits, Ends, Fails, Goes, State, Wants, start, Run, after, effect, next, output, SessionEnd, Stop, at_its_end, came_to, holds_at_end, is_end_answer, passed_all, received_at_end, HasPassedAll, IsAccount, Session, journal_of, AtEnd, EndsAt, HasComeTo, IsEnd, answer_of, end_answer, AreGiven, events_of, Rules, entries_of, Episode, Unnoted, noted, Keeping, HasNoted, IsOutcome, Telling, Carries, StopsTrunk, given_to, EndsAfter, GoesOverPort, GoesOverCrowd, End, GoesOver, IsDone, IsServed, Passed, PassedCalls, PassedOver, PassedTrunk, Port, Route, Serves, Several, Trunk, Headline, LastExits, received_items}
 
 ended_of : Option State → Option ℕ
 ended_of None = None
@@ -100,7 +99,7 @@ passed_trunk rules image None later session end account all carries = tt
 passed_trunk rules image (Some before) later session end account all carries = record {
   written = carries.written;
   wrote = carries.wrote;
-  passed = passed_by rules image session end (λ conn. payload conn carries.written) carries.payload_is account all;
+  passed = passed_by rules image session end (λ conn. sent_to conn rules.bounds.before.had ++ payload conn carries.written) carries.payload_is account all;
 }
 
 -- and given to the connections of a port
@@ -209,7 +208,7 @@ passed_over (Several limits calls calls_later) rules image coming session why en
 
 done_over : (route : Route) (rules : Rules) (coming : Option Coming) (session : Session) (why : Stop) → GoesOver route rules coming session why → session.came ≡ Some session_end.Finished → IsDone route
 done_over (Trunk source source_later sink sink_later) rules coming session why goes came =
-    drained source source_later _ (subst (λ (end : Option SessionEnd). IfSome end (StopsTrunk source source_later (events_in (journal_of session)))) came goes.stops)
+    drained source source_later _ (subst (λ (end : Option SessionEnd). IfSome end (StopsTrunk source source_later (events_of rules.bounds (journal_of session)))) came goes.stops)
 done_over (Port conns calls calls_later) rules coming session why goes came = served_all conns rules calls calls_later session came goes.1
 done_over (Several limits calls calls_later) rules coming session why goes came = served_several limits rules calls calls_later session came goes.1
 

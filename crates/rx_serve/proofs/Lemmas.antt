@@ -5,10 +5,12 @@ pub use Rattle.rx_serve.proofs.CallingLemmas.{adds_of, asm_refused, asm_written,
 pub use Rattle.rx_serve.proofs.RouteLemmas.{bind_faults, watched_port, watched_several, watched_trunk}
 pub use Rattle.rx_serve.proofs.RunLemmas.{begun_own, counts_fit, has_begun, no_memory, no_more, not_begun, not_loaded, not_risen, not_started, ready, rose_within, run_ends, unwatched}
 pub use Rattle.rx_serve.proofs.DiagnosingLemmas.{diagnosed, diagnosis_other, diagnosis_part, kept_is, some_kept, start_faults, watched_length}
+pub use Rattle.rx_serve.proofs.ResumeLemmas.{faults_as, has_resumed, has_stopped, may_be_handed, notes_later, resumed_faults, resumed_fits, resumes_at, resumes_noted, served_behind}
 pub use Rattle.rx_serve.proofs.RecordLemmas.{line_few}
 pub use Rattle.rx_serve.proofs.ReplayLemmas.{has_recording, no_file_fault, no_read_cause, no_write_cause}
 pub use Rattle.rx_serve.proofs.ConvertLemmas.{as_replay, leaves_text, not_file_fault, not_read_of_writes, not_write_of_writes}
 pub use Rattle.rx_serve.proofs.StandbyFileLemmas.{answers_few, called_none, called_one, called_two, no_counts, no_record, same_loads}
+pub use Rattle.rx_serve.proofs.ResumeFileLemmas.{four_called_none, four_called_one, four_called_three, four_called_two, four_no_counts, four_no_record, four_no_report, no_adopted, report_line_few, unfinished_line_few}
 pub use Rattle.rx_serve.proofs.StandbyLemmas.{broken_faults, broken_off, closed_text, closes_as, faults_at, first_short, none_short, served_faults, served_no_file, serves_as, short_faults, takes_at, unstarted_faults, wider_faults}
 pub use Rattle.rx_serve.proofs.CommandLemmas.{records_are_converted, records_are_replayed, second_version_stays}
 pub use Rattle.rx_serve.proofs.SessionLaws.{all_sends_are_written, good_input_is_taken}

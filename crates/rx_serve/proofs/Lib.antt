@@ -12,10 +12,12 @@ pub mod HeadlineLemmas
 pub mod GuardLemmas
 pub mod RunLemmas
 pub mod DiagnosingLemmas
+mod ResumeLemmas
 mod RecordLemmas
 mod ReplayLemmas
 mod ConvertLemmas
 mod StandbyFileLemmas
+mod ResumeFileLemmas
 mod StandbyLemmas
 mod ChoiceRanges
 mod CommandLemmas

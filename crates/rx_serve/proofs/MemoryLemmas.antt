@@ -2,7 +2,7 @@
 use Rattle.run_history.specs.declared.answer.Answer.TheVariants as answer
 use Rattle.trunk_text.specs.declared.turning.Ended.TheVariants as ended
 use Rattle.trunk_text.specs.Turns.{Moved}
-use Rattle.rx_serve.proofs.Terms.{List, None, Option, Some, [], arith, inl, refl, rules, subst, sym, ◌++◌, ◌-◌, ◌≡◌, All, framing, Turned, Way, unframing, Answer, DrillEnds, CommandValue, asm, convert, diagnose, drill, frame, replay, run, serve, standby, unframe, End, Outside, HasNoSession, CallsConvert, replayed, Heard, HasReplayCause, HasTakeoverCause, TurnsInput}
+use Rattle.rx_serve.proofs.Terms.{List, None, Option, Some, [], arith, inl, refl, rules, subst, sym, ◌++◌, ◌-◌, ◌≡◌, All, framing, Turned, Way, unframing, Answer, DrillEnds, CommandValue, asm, convert, diagnose, drill, frame, replay, resume, run, serve, standby, unframe, End, Outside, HasNoSession, CallsConvert, replayed, Heard, HasReplayCause, HasTakeoverCause, HasHandoverCause, TurnsInput}
 use Rattle.rx_serve.specs.Commands.{Ends}
 
 nothing_moved : (old : Outside) → Moved old.input old.input old.output old.output [] []
@@ -47,6 +47,8 @@ memory_ends (Some (standby value)) before old end some is nothing none =
       nothing = nothing;
       differs = none;
     })
+memory_ends (Some (resume value)) before old end some is nothing none =
+    inl (record { cause = subst (λ (a : Answer). HasHandoverCause old.files value a) (sym is) tt; same_files = refl; called = search rules; untouched = refl; nothing = nothing })
 memory_ends (Some (serve value)) before old end some is nothing none = search (rules, is, nothing)
 memory_ends (Some (diagnose value)) before old end some is nothing none = search (rules, is, nothing)
 memory_ends (Some (drill value)) before old end some is nothing none = record {

@@ -3,9 +3,10 @@ use Rattle.std.proofs.lemmas.Slice.Eq.{bytes_eq-Decides}
 use Rattle.std.specs.Str.{bytes_eq}
 use Rattle.std.proofs.Common.{◌≢◌}
 use Rattle.command_line.specs.Texts.{Text}
+use Rattle.command_line.specs.Commands.{are_four, are_new, have_six, is_fifth, resume_form}
 use Rattle.command_line.specs.Options.{takes_of, value_of}
-use Rattle.command_line.proofs.Asking.{asked_run, asked_serve, asked_diagnose}
-use Rattle.rx_serve.proofs.Terms.{List, Some, false, not, refl, subst, sym, true, true≢false, ◌&&◌, ◌∙◌, ◌≡◌, and_parts, ◌≢◌, IsThird, AreTwo, DiagnoseValue, RunValue, ServeValue, command_of, diagnose, diagnose_form, diagnose_value, fits, has_fourth, have_names, is_diagnose, is_run, is_serve, positional, run, run_form, run_value, serve, serve_form, serve_value, Parts, conns_row, diagnosis_row, port_row, record_row, report_row, names_of}
+use Rattle.command_line.proofs.Asking.{asked, asked_run, asked_serve, asked_diagnose}
+use Rattle.rx_serve.proofs.Terms.{List, Some, false, not, refl, subst, sym, true, true≢false, ◌&&◌, ◌∙◌, ◌≡◌, and_parts, ◌≢◌, IsThird, AreTwo, DiagnoseValue, ResumeValue, RunValue, ServeValue, command_of, diagnose, diagnose_form, diagnose_value, fits, has_fourth, have_names, is_diagnose, is_resume, is_run, is_serve, positional, resume, resume_value, run, run_form, run_value, serve, serve_form, serve_value, Parts, conns_row, diagnosis_row, port_row, record_row, report_row, names_of, new_names}
 
 not_alike : (a b : Text) → not (bytes_eq a b) ≡ true → a ≢ b
 not_alike a b differs same = elim (bytes_eq a b) as (λ t. bytes_eq a b ≡ t → not t ≡ true → ⊥) [
@@ -69,3 +70,23 @@ diagnose_names_differ words value asked = (three_names words value asked).two
 
 pub diagnosis_differs : (words : List Text) (value : DiagnoseValue) → command_of words ≡ Some (diagnose value) → IsThird (names_of value.session) value.diagnosis
 diagnosis_differs words value asked = (three_names words value asked).third
+
+-- so have the two that `resume` writes
+of_resumed : (p : Parts) → is_resume p ≡ true → AreTwo (new_names (resume_value p))
+unfolding is_resume resume_value
+of_resumed p is =
+    let program : Text = positional 0 p in
+    let recorded : Text = positional 1 p in
+    let reported : Text = positional 2 p in
+    let counts : Text = positional 3 p in
+    let recording : Text = value_of record_row p.options in
+    let report : Text = value_of report_row p.options in
+    let six = (and_parts (fits resume_form p) (have_six p) is).1 in
+    let fresh = (and_parts (are_four program recorded reported counts) (are_new program recorded reported counts recording report) six).1 in
+    let others = (and_parts (is_fifth program recorded reported counts recording) (is_fifth program recorded reported counts report && not (bytes_eq recording report)) fresh).1 in
+    not_alike recording report (and_parts (is_fifth program recorded reported counts report) (not (bytes_eq recording report)) others).1
+
+pub new_names_differ : (words : List Text) (value : ResumeValue) → command_of words ≡ Some (resume value) → AreTwo (new_names value)
+new_names_differ words value asked_is =
+    let found = asked words (resume value) asked_is in
+    subst (λ (v : ResumeValue). AreTwo (new_names v)) found.value_is (of_resumed found.parts_are found.is)

@@ -2,7 +2,7 @@
 use Rattle.schedule_file.specs.Telling.{answer_of}
 use Rattle.rx_serve.proofs.Terms.{Bool, List, None, Some, [], arith, false, length, true, ℕ, ◌+◌, ◌∷◌, ◌≡◌, ◌≤◌, if◌then◌else◌, is_some, ◌==◌, lines_of, onto, refused_behind, refused_from, refused_line, refused_lines, refused_under, end_of, head_of}
 
-behind_few : (number line : ℕ) (lines : List (List ℕ)) → refused_behind number lines ≡ Some line → line ≤ number
+pub behind_few : (number line : ℕ) (lines : List (List ℕ)) → refused_behind number lines ≡ Some line → line ≤ number
 behind_few number line [] is = let none : None ≡ Some line = is in absurd (cc)
 behind_few number line (first ∷ lines) is = let same : number ≡ line = cc in omega (arith, same)
 
@@ -20,7 +20,7 @@ onto_few : (byte : ℕ) (lines : List (List ℕ)) → length (onto byte lines) �
 onto_few byte [] = omega arith
 onto_few byte (line ∷ lines) = omega arith
 
-lines_few : (text : List ℕ) → length (lines_of text) ≤ length text
+pub lines_few : (text : List ℕ) → length (lines_of text) ≤ length text
 lines_few [] = omega arith
 lines_few (byte ∷ bytes) = by (byte == 10) (lines_few bytes)
   where

@@ -2,7 +2,7 @@
 use Rattle.session_history.specs.declared.ends.SessionBreak.TheVariants as session_break
 use Rattle.session_history.specs.declared.ends.Stop.TheVariants as stop
 use Rattle.rx_io.specs.declared.fault.IoFault.TheVariants as fault
-use Rattle.rx_serve.proofs.Terms.{inl, inr, subst, ◌≡◌, IoFault, Answer, Stop, holds_at_end, Session, IsComplete, IsEnd, answer_of, Rules, keeping_for, NoOtherEnd, SendsAreWritten, options_of, rules_of_run, IsFilesAnswer, AllSendsAreWritten, GoodInputIsTaken}
+use Rattle.rx_serve.proofs.Terms.{inl, inr, refl, subst, ◌≡◌, IoFault, Answer, Stop, holds_at_end, Session, IsComplete, IsEnd, answer_of, Rules, keeping_for, NoOtherEnd, SendsAreWritten, options_of, rules_of_run, IsFilesAnswer, AllSendsAreWritten, GoodInputIsTaken}
 use Rattle.rx_serve.proofs.RouteLemmas.{to_trunk}
 use Rattle.rx_serve.proofs.NotingLemmas.{closes_same}
 
@@ -25,4 +25,4 @@ good_input_is_taken law value input old new end served well =
 pub all_sends_are_written : SendsAreWritten → AllSendsAreWritten
 all_sends_are_written law value input old new end served at_end holds_nothing first =
     let is = closes_same value end.taken end.steps served.files_served new.files (answer_of served.why) end.answer served.closes at_end in
-    holds_at_end served.why (subst IsEnd is at_end) (law (rules_of_run value) (keeping_for (options_of value)) served.image input new.input old.output new.output _ _ _ served.noted.counted (to_trunk _ _ _ _ _ _ _ _ _ _ _ served.noted.serves)) first holds_nothing
+    holds_at_end served.why (subst IsEnd is at_end) (law (rules_of_run value) (keeping_for (options_of value)) served.image input new.input old.output new.output _ _ _ served.noted.counted (to_trunk _ _ _ _ _ _ _ _ _ _ _ served.noted.serves) refl) first holds_nothing

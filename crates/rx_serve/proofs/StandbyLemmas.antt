@@ -2,13 +2,12 @@
 use Rattle.file_notes.specs.Writing as files
 use Rattle.run_history.specs.declared.answer.Answer.TheVariants as answer
 use Rattle.rx_io.specs.declared.fault.IoFault.TheVariants as fault
-use Rattle.session_history.specs.Answering.{HasAnswerCause}
 use Rattle.standby.specs.declared.following.Unfollowed.{Unfollowed}
 use Rattle.standby.specs.declared.kept.Kept.{Kept}
 use Rattle.standby.specs.Following.{BreaksBy, kept_to}
 use Rattle.standby.specs.Missing.{AllGiven, IsShort}
 use Rattle.standby.specs.Serving.{EndsBy, WasServed, plain_limits}
-use Rattle.rx_serve.proofs.Terms.{List, None, Ok, Option, Some, [], ap, arith, inl, inr, length, map, refl, rules, subst, sym, ℕ, ◌*◌, ◌++◌, ◌+◌, ◌-◌, ◌<◌, ◌^◌, ◌∙◌, ◌∷◌, ◌≡◌, ◌≤◌, mul-le, Err, ◌⊎◌, IoFault, FileCall, Added, Calls, HasCause, Rose, Contents, Stream, Send, sent_to, Entry, Counts, events_in, pieces_in, Choice, Image, Answer, IsEnd, items_in, few_items, Recorded, MAX_TAKEN, choice_line, choice_lines, end_line, head_line, line_of, lines_text, IsRecord, count_of, calls_then, front_behind, CallsFront, CallsUpTo, starts_of, Difference, bounds_of, BreaksOffTrunk, ServesOnTrunk, StandbyValue, End, Faults, HasFaults, Outside, faults, outside, HasNoSession, IsFilesAnswer, HasTakeoverCause, loading, AreCovered, CallsRecording, ClosesRecording, EndsRecording, HasRecorded, HasTakenUp, IsBrokenOff, IsFirstShort, IsNotServed, IsServedOn, StandbyEnds, StartsRecording, TakesOver}
+use Rattle.rx_serve.proofs.Terms.{List, None, Ok, Option, Some, [], ap, arith, inl, inr, length, map, refl, rules, subst, sym, ℕ, ◌*◌, ◌++◌, ◌+◌, ◌-◌, ◌<◌, ◌^◌, ◌∙◌, ◌∷◌, ◌≡◌, ◌≤◌, mul-le, Err, ◌⊎◌, IoFault, FileCall, Added, Calls, HasCause, Rose, Contents, Stream, Send, sent_to, Entry, Counts, events_in, pieces_in, Choice, Image, Answer, HasAnswerCause, IsEnd, items_in, few_items, Recorded, MAX_TAKEN, choice_line, choice_lines, end_line, head_line, line_of, lines_text, IsRecord, count_of, calls_then, front_behind, CallsFront, CallsUpTo, starts_of, Difference, bounds_of, BreaksOffTrunk, ServesOnTrunk, StandbyValue, End, Faults, HasFaults, Outside, faults, outside, HasNoSession, IsFilesAnswer, HasTakeoverCause, loading, AreCovered, CallsRecording, ClosesRecording, EndsRecording, HasRecorded, HasTakenUp, IsBrokenOff, IsFirstShort, IsNotServed, IsServedOn, StandbyEnds, StartsRecording, TakesOver}
 use Rattle.rx_serve.proofs.FewSteps.{few_behind, few_taken}
 use Rattle.rx_serve.proofs.NotingLemmas.{not_read, not_write, note_is_no_end}
 use Rattle.rx_serve.proofs.RunLemmas.{rose_within}

@@ -32,14 +32,18 @@ pub record CallsEnding (value : RunValue) (old new : Option (List FileCall)) (en
   pub is : IsEnding value ended end last
   pub made : Calls old new last
 
--- A session was served: all calls before it were made, then some each of which adds to the record or to the report, then those that end both files, or
+-- A session was served: these calls before it were made, then some each of which adds to the record or to the report, then those that end both files, or
 -- some first ones of them.
-pub record CallsServed (value : RunValue) (old new : Option (List FileCall)) (ended end : Answer) : Type 0 where
+pub record CallsServedBehind (before : List FileCall) (value : RunValue) (old new : Option (List FileCall)) (ended end : Answer) : Type 0 where
   pub added : List FileCall
   pub each : All (λ call. is_addition (names_of value) call ≡ true) added
   pub last : List FileCall
   pub is : IsEnding value ended end last
-  pub made : Calls old new (before_session value ++ (added ++ last))
+  pub made : Calls old new (before ++ (added ++ last))
+
+-- so it is behind all calls before a session
+abbrev pub CallsServed : RunValue → Option (List FileCall) → Option (List FileCall) → Answer → Answer → Type 0
+CallsServed value = CallsServedBehind (before_session value) value
 
 -- ---- asm
 

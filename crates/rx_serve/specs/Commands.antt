@@ -1,7 +1,7 @@
 -- What each command leaves.
 use Rattle.std.specs.Prelude.{◌≡◌, ◌≢◌, ◌⊎◌, ℕ, Option, Some, None}
 use Rattle.run_history.specs.declared.answer.Answer.TheVariants as answer
-use Rattle.rx_serve.specs.Terms.{ListenEntry, framing, unframing, CallsFront, AsmValue, CommandValue, ConvertValue, ReplayValue, RunValue, asm, convert, diagnose, drill, frame, replay, run, serve, standby, unframe}
+use Rattle.rx_serve.specs.Terms.{ListenEntry, framing, unframing, CallsFront, AsmValue, CommandValue, ConvertValue, ReplayValue, RunValue, asm, convert, diagnose, drill, frame, replay, resume, run, serve, standby, unframe}
 use Rattle.rx_serve.specs.declared.ending.End.{End}
 use Rattle.rx_serve.specs.Assembly.{Assembles, HasAsmCause}
 use Rattle.rx_serve.specs.Calling.{CallsAsm, CallsConvert, replaying}
@@ -10,6 +10,7 @@ use Rattle.rx_serve.specs.Drilling.{DrillLeaves}
 use Rattle.rx_serve.specs.Ended.{HasNoSession}
 use Rattle.rx_serve.specs.Outside.{Outside, IsUntouched}
 use Rattle.rx_serve.specs.Replaying.{ReplaysFile, TellsFile}
+use Rattle.rx_serve.specs.Resuming.{ResumeEnds}
 use Rattle.rx_serve.specs.Route.{trunk_of}
 use Rattle.rx_serve.specs.Running.{HasNotBegun, HasServed}
 use Rattle.rx_serve.specs.Serving.{Heard, ServeEnds, heard_at}
@@ -60,6 +61,7 @@ Ends (Some (asm value)) before later old new end = AsmEnds value old new end
 Ends (Some (replay value)) before later old new end = ReplayEnds value old new end
 Ends (Some (convert value)) before later old new end = ConvertEnds value old new end
 Ends (Some (standby value)) before later old new end = StandbyEnds value old new end
+Ends (Some (resume value)) before later old new end = ResumeEnds value old new end
 Ends (Some (serve value)) before later old new end = ServeEnds value before later old new end
 Ends (Some (diagnose value)) before later old new end = DiagnoseEnds value old new end
 Ends (Some (drill value)) before later old new end = DrillLeaves value old new end

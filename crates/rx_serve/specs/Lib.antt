@@ -18,7 +18,10 @@ pub mod Diagnosing
 pub mod Replaying
 pub mod Converting
 pub mod StandbyFiles
+pub mod ResumeFiles
 pub mod StandingBy
+pub mod Resuming
+pub mod TakingOn
 pub mod Drilling
 pub mod TextFrames
 pub mod Commands

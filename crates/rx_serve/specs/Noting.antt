@@ -1,14 +1,13 @@
 -- The two files of a session: its record and its report.
-use Rattle.std.specs.Prelude.{◌≡◌, ◌⊎◌, ℕ, ◌+◌, List, [], Option, Some, Result, Ok, Err}
+use Rattle.std.specs.Prelude.{◌≡◌, ◌⊎◌, ℕ, ◌+◌, List, [], ◌∷◌, length, Option, Some, Result, Ok, Err}
 use Rattle.command_line.specs.declared.run_words.Form.{Form as Wanted}
 use Rattle.command_line.specs.declared.run_words.Form.TheVariants as wanted
-use Rattle.file_notes.specs.Texts.{report_text}
 use Rattle.run_history.specs.declared.answer.Answer.TheVariants as answer
 use Rattle.rx_io.specs.declared.fault.IoFault.TheVariants as fault
 use Rattle.run_report.specs.declared.form.Form.TheVariants as form
 use Rattle.run_report.specs.Report as report
 use Rattle.schedule_file.specs.Lines as recording
-use Rattle.rx_serve.specs.Terms.{IoFault, Contents, Choice, Image, Answer, IsEnd, Rules, Episode, Try, NoneFailed, noted, Keeping, TellsMore, Form, VERSION, record_of, text_of, AreAsks, Left, unnoted_of, Names, Stands, AddsBoth, StartsBoth, AreAllTables, Outcome, story_of, RunValue}
+use Rattle.rx_serve.specs.Terms.{IoFault, Contents, Choice, Image, Answer, IsEnd, Rules, Episode, Try, NoneFailed, noted, Keeping, TellsMore, Form, VERSION, record_of, text_of, AreAsks, Left, unnoted_of, Names, Stands, StandsBehind, report_text, AddsBoth, StartsBoth, AreAllTables, Outcome, story_of, RunValue}
 use Rattle.rx_serve.specs.Outside.{Outside}
 use Rattle.rx_serve.specs.Route.{Route, Serves}
 use Rattle.rx_serve.specs.Status.{status_of}
@@ -39,25 +38,37 @@ abbrev pub HaveTexts : RunValue → List Choice → List Episode → Answer → 
 HaveTexts value choices episodes ended taken steps files files_later =
     StartsBoth (names_of value) (text_of (record_of value.window value.frame choices steps taken)) (report_text (report_form value.form) episodes (status_of ended) taken steps) files files_later (Ok tt)
 
--- A session served, and what it noted stands in its two files behind their first lines: a line of each answer of the allocator that can't be
--- rolled back, and the text of each episode. What is left behind them is a part of what the call of its notes that broke it off was handed, so of lines of
--- its own answers of the allocator, or of the text of its own last episode; else nothing is. The numbers of what was asked have 32 bits each. So many
--- instructions were counted.
-pub record ServesNoted (rules : Rules) (keeping : Keeping) (image : Image) (value : RunValue) (route : Route) (old new : Outside) (outcome : Outcome) : Type 0 where
+-- what stands in the two files behind some episodes that were told before: the first one that was noted has the number behind theirs
+abbrev pub StandsFrom : List Episode → Names → Form → Option Contents → Option Contents → List Choice → List Episode → Left → Type 0
+StandsFrom [] names wanted = Stands names wanted
+StandsFrom (first ∷ rest) names wanted = StandsBehind names wanted (length (first ∷ rest))
+
+-- A session served, and what it noted stands in its two files behind what they were started with, so behind the episodes that were told before: a line of each
+-- answer of the allocator that can't be rolled back, and the text of each episode. What is left behind them is a part of what the call of its notes that broke
+-- it off was handed, so of lines of its own answers of the allocator, or of the text of its own last episode; else nothing is. The numbers of what was asked have
+-- 32 bits each. So many instructions were counted.
+pub record ServesNotedBehind (before : List Episode) (rules : Rules) (keeping : Keeping) (image : Image) (value : RunValue) (route : Route) (old new : Outside) (outcome : Outcome) : Type 0 where
   pub choices : List Choice
   pub episodes : List Episode
   pub left : Left
   pub counted : ℕ
   pub counts : new.counter ≡ old.counter + counted
   pub serves : Serves route rules keeping image outcome (noted (Some []) (Some []) (Some NoneFailed)) (noted (Some choices) (Some episodes) (Some (unnoted_of left))) counted
-  pub stands : Stands (names_of value) (report_form value.form) old.files new.files choices episodes left
+  pub stands : StandsFrom before (names_of value) (report_form value.form) old.files new.files choices episodes left
   pub asks : AreAsks choices
 
 -- A session that was watched served so, and its watch, where it tells its tables, has told those of its recoveries more. What the watch counted isn't
 -- the session's.
-pub record WatchesNoted (rules : Rules) (keeping : Keeping) (image : Image) (value : RunValue) (route : Route) (old new : Outside) (outcome : Outcome) (tables_before tables : Option (List (List Try))) : Type 0 where
-  pub noted : ServesNoted rules keeping image value route old new outcome
+pub record WatchesNotedBehind (before : List Episode) (rules : Rules) (keeping : Keeping) (image : Image) (value : RunValue) (route : Route) (old new : Outside) (outcome : Outcome) (tables_before tables : Option (List (List Try))) : Type 0 where
+  pub noted : ServesNotedBehind before rules keeping image value route old new outcome
   pub watched : TellsMore tables_before tables (AreAllTables rules (story_of noted.serves.telling) noted.serves.telling.walk outcome.stop)
+
+-- both where no episode was told before
+abbrev pub ServesNoted : Rules → Keeping → Image → RunValue → Route → Outside → Outside → Outcome → Type 0
+ServesNoted = ServesNotedBehind []
+
+abbrev pub WatchesNoted : Rules → Keeping → Image → RunValue → Route → Outside → Outside → Outcome → Option (List (List Try)) → Option (List (List Try)) → Type 0
+WatchesNoted = WatchesNotedBehind []
 
 -- What a session that came to this end leaves behind its notes. At an end of its own the last lines were written; where that failed, the answer
 -- says it in place of the end. Where it was broken off, its files are left as they are.

@@ -4,7 +4,7 @@ use Rattle.std.specs.Io.KnownBytes.{Appends}
 use Rattle.session_history.specs.declared.ends.SessionEnd.TheVariants as session_end
 use Rattle.over_crowd.specs.Calls as crowd
 use Rattle.over_crowd.specs.Serving as gathered
-use Rattle.rx_serve.specs.Terms.{ListenEntry, IsDrained, Stream, Prefix, ComesUntold, Coming, CrowdEntry, Limits, payload, Image, Answer, output, SessionEnd, Stop, Session, journal_of, AtBreak, IsEnd, Rules, is_open, Try, Noted, Keeping, TellsMore, AreAllTables, IsOutcome, Outcome, Telling, story_of, GoesOverTrunk, RecordsAt, given_to, EndsAfter, GoesOverPort, GoesOverCrowd}
+use Rattle.rx_serve.specs.Terms.{ListenEntry, IsDrained, Stream, Prefix, sent_to, ComesUntold, Coming, CrowdEntry, Limits, payload, Image, Answer, output, SessionEnd, Stop, Session, journal_of, AtBreak, IsEnd, Rules, is_open, Try, Noted, Keeping, TellsMore, AreAllTables, IsOutcome, Outcome, Telling, story_of, GoesOverTrunk, RecordsAt, given_to, EndsAfter, GoesOverPort, GoesOverCrowd}
 use Rattle.rx_serve.specs.Outside.{Outside}
 
 -- A trunk, by what its source and its sink told before and after; or so many connections of a port, one after another, by the calls that its listener
@@ -44,11 +44,11 @@ pub record Passed (rules : Rules) (session : Session) (end : Answer) (bytes : �
   pub fronts : (conn : ℕ) → Prefix (bytes conn) (output session.survivor.now.state conn)
   pub all : IsEnd end → (conn : ℕ) → is_open rules.bounds (journal_of session) conn ≡ true → bytes conn ≡ output session.survivor.now.state conn
 
--- over a trunk: what the bytes carry that were written behind those that stood there
+-- over a trunk: what the bytes carry that were written behind those that stood there, and what clients had of it before the session
 pub record PassedTrunk (rules : Rules) (session : Session) (end : Answer) (before : List ℕ) (later : Option (List ℕ)) : Type 0 where
   pub written : List ℕ
   pub wrote : Appends (Some before) later written
-  pub passed : Passed rules session end (λ conn. payload conn written)
+  pub passed : Passed rules session end (λ conn. sent_to conn rules.bounds.before.had ++ payload conn written)
 
 -- over a port: what the gives took among the calls that were made behind those before
 pub record PassedCalls {Call : Type 0} (given : ℕ → List Call → List ℕ) (rules : Rules) (session : Session) (end : Answer) (before : List Call) (later : Option (List Call)) : Type 0 where

@@ -16,6 +16,7 @@ use crate::ending::End;
 use crate::replaying::replay_file;
 use crate::serving::run_program;
 use crate::standing_by::stand_by;
+use crate::taking_on::resume_program;
 use crate::text_frames::{frame_input, unframe_input};
 use command_line::{Command, read_command};
 use crowd::Crowd;
@@ -35,6 +36,8 @@ use telling::Teller;
 /// `convert PROGRAM RECORD OUT` does the recorded run again over `input`, gives nothing, and writes the record of version 2 of that run.
 /// `standby PROGRAM RECORD COUNTS --record R` follows the recorded run over the trunk of `input` and `output`, writes what its clients lack by their counts,
 /// and lets it serve on, with a record of its own.
+/// `resume PROGRAM RECORD REPORT COUNTS --record R --report T` follows the run of a host that was killed over the trunk of `input` and `output`, with its
+/// recoveries and without giving anything. Once it has reached all that the three files tell it goes on as a `run`: clients get what they lack by their counts.
 /// `serve PROGRAM PORT CONNS --record RECORD --report REPORT` lets the program serve so many connections of `listener` at a port, one after
 /// another, with a record and a report as of `run`; with `--at-once N` those of `crowd`, up to N at the same time.
 /// `diagnose PROGRAM --record RECORD --report REPORT --diagnosis DIAGNOSIS` is a `run` that tries all environments at all checkpoints at each
@@ -58,6 +61,8 @@ pub fn run_rx<F: Files, S: Source, K: Sink, N: Listener, C: Crowd, L: Ledger, T:
     // table. `asm`: the executable of the text's image, and nothing else is touched. `replay`: the recorded run is done again, or no replay began, by its
     // cause. `convert`: the recorded run is done again, and at its end its record of version 2 is written; or no run began or came to its end, by its
     // cause. `standby`: the recorded run is followed, and served on, with the record of the whole run at its end; or nothing was taken over, by its cause.
+    // `resume`: the run of the host that was killed is followed, and what a `run` leaves is left behind it, with record and report of the whole run at its end;
+    // or it wasn't released, or nothing was handed over, by its cause.
     // `drill`: five lines of one session. `frame` and `unframe`: what each line or frame of the input becomes. Words of no command are refused, and
     // nothing is touched.
     ensures ends { Ends (command_of (texts_of words.now)) (heard (N.told listener.old) (C.told crowd.old)) (heard (N.told listener.new) (C.told crowd.new)) (outside (F.told files.old) (F.calls files.old) (S.told input.old) (K.told output.old) steps.old) (outside (F.told files.new) (F.calls files.new) (S.told input.new) (K.told output.new) steps.new) result }
@@ -94,6 +99,9 @@ pub fn run_rx<F: Files, S: Source, K: Sink, N: Listener, C: Crowd, L: Ledger, T:
         }
         Ok(Some(Command::Standby(standby))) => {
             stand_by(alloc, &standby, files, input, output, steps)
+        }
+        Ok(Some(Command::Resume(resume))) => {
+            resume_program(alloc, &resume, files, input, output, teller, steps)
         }
         Ok(Some(Command::Serve(serve))) => serve_clients(
             alloc, &serve, files, listener, crowd, teller, steps,

@@ -90,7 +90,7 @@ fn read_followed(alloc: Global, text: &[u8]) -> Result<Recorded, Answer>
 }
 
 // Reads how many bytes each client has.
-fn read_counted(alloc: Global, text: &[u8]) -> Result<Counts, Answer>
+pub(crate) fn read_counted(alloc: Global, text: &[u8]) -> Result<Counts, Answer>
     ensures { ReadsCounted text.now result }
 {
     match read_counts(alloc, text) {

@@ -1,11 +1,6 @@
 -- One more answer of the allocator beside those of a record.
-use Rattle.std.proofs.Common.{Bool, List, true, false, [], ap, append-nil, append_assoc, arith, inl, inr, length, length-append, refl, sym, ◌++◌, ◌<◌, ◌∙◌, ◌∷◌, ◌≡◌, ◌≢◌, ◌≤◌, ◌⊎◌, get_or}
-use Rattle.std.proofs.Math.Seq.{get_or-append_seam}
-use Rattle.std.proofs.lemmas.Bool.{false≢true}
-use Rattle.std.specs.Prelude.{IsTrue, MatchBool, ◌↔◌}
-use Rattle.session_history.specs.Terms.{Prefix}
-use Rattle.follow.specs.Terms.{Choice}
-use Rattle.session_following.specs.Judging.{Agree, IsOther}
+use Rattle.std.proofs.Common.{◌≢◌}
+use Rattle.session_following.proofs.Terms.{Bool, List, [], ap, append-nil, append_assoc, arith, false, get_or, inl, inr, length, length-append, refl, sym, true, ◌++◌, ◌<◌, ◌∙◌, ◌∷◌, ◌≡◌, ◌≤◌, ◌⊎◌, get_or-append_seam, false≢true, IsTrue, MatchBool, ◌↔◌, Prefix, Choice, Agree, IsOther}
 
 -- a front is no longer than the whole
 pub front_length : {X : Type 0} (front whole : List X) → Prefix front whole → length front ≤ length whole

@@ -1,10 +1,8 @@
 -- A second host that takes over says neither that the files are of another run, nor that clients have more.
-use Rattle.session_history.specs.Terms.{Path}
-use Rattle.follow.proofs.Terms.{Option, Some, arith, inl, inr, subst, ◌<◌, ◌≡◌, IfSome, Stand, Finish, HasReached, IsFollowed, IsTakeover, Takeover, stopped, plan_in}
 use Rattle.follow.proofs.Agreed.{answers_agree, stuck_has_reached}
 use Rattle.follow.proofs.Placed.{episodes_are_placed}
 use Rattle.follow.proofs.Reached.{follows_before}
-use Rattle.session_following.specs.Answers.{EndsEarly, FilesAndClients, IsShort, IsUnlike, NeitherIsSaid, NoPlan, OtherAnswer, OtherPlace}
+use Rattle.session_following.proofs.Terms.{Option, Some, arith, inl, inr, subst, ◌<◌, ◌≡◌, IfSome, Path, Finish, HasReached, Stand, IsFollowed, IsTakeover, Takeover, plan_in, stopped, EndsEarly, FilesAndClients, IsShort, IsUnlike, NeitherIsSaid, NoPlan, OtherAnswer, OtherPlace}
 
 -- where it hasn't reached what was handed over it has fewer instructions than the record's last line
 before_finish : (over : Takeover) (path : Path) (stand : Stand over.limits (plan_in over) path) (finish : Finish) → IsTakeover over → IsFollowed over path → ¬ HasReached over.limits over.handed path stand → over.handed.finish ≡ Some finish → path.steps < finish.steps

@@ -1,15 +1,6 @@
 -- A session that has just begun, with all before it that another one's journal brought: it has the same items, and knows the same of its connections.
 use Rattle.item_log.specs.Log as logs
-use Rattle.reply_ledger.specs.Shows.{Shows}
-use Rattle.session_history.specs.Opened.{closes, is_gone, is_open, opens}
-use Rattle.session_history.specs.Keeping.{KeepsItems, KeepsPhases, KeepsReplies, phase_after}
-use Rattle.session_history.specs.Heeding.{Before, events_of, heeded}
-use Rattle.session_history.proofs.Heeding.{heeded-alike, items_in-alike}
-use Rattle.std.proofs.lemmas.Bool.{true≢false}
-use Rattle.std.specs.Prelude.{◌&&◌}
-use Rattle.session_history.specs.Terms.{Entry, Item, LinkEvent, Send, sent_to, Phases, Log, Ledger}
-use Rattle.follow.proofs.Terms.{List, None, [], ap, append-nil, false, length, not, subst, sym, take, ℕ, ◌∙◌, ◌≡◌, ◌≤◌, Image, Override, Path, Served, origin, Rules, items_in, passed_in}
-use Rattle.session_following.specs.Following.{rules_after}
+use Rattle.session_following.proofs.Terms.{List, None, [], ap, append-nil, false, length, not, subst, sym, take, ℕ, ◌∙◌, ◌≡◌, ◌≤◌, true≢false, ◌&&◌, Item, Send, sent_to, Entry, LinkEvent, Phases, Log, Ledger, Shows, Image, Override, Path, Served, origin, heeded-alike, items_in-alike, Before, events_of, heeded, items_in, KeepsItems, KeepsPhases, KeepsReplies, phase_after, Rules, closes, is_gone, is_open, opens, passed_in, rules_after}
 
 module _ (rules : Rules) (entries : List Entry) (what : Before) (same : what.events ≡ events_of rules.bounds entries) where
   pub same_events : events_of (rules_after rules what).bounds [] ≡ events_of rules.bounds entries

@@ -1,36 +1,6 @@
 -- What each step makes of a session that follows.
 use Rattle.links.specs.declared.journal.Entry.TheVariants as entry
-use Rattle.guest_cpu.specs.Runs.{GoesOn}
-use Rattle.guest_cpu.specs.Serving.{standing_of}
-use Rattle.guest_cpu.specs.Writing.{Writes}
-use Rattle.links.proofs.Journaled.{events_in-append}
-use Rattle.links.specs.Links.{Phases}
-use Rattle.links.specs.Seen.{Seen}
-use Rattle.block_book.specs.declared.choice.Choice.{Choice}
-use Rattle.reply_ledger.specs.Ledger.{IsOpened}
-use Rattle.session_history.specs.Heeding.{Before, events_of, nothing_before}
-use Rattle.session_history.specs.Keeping.{IsSendable, KeepsItems, KeepsPhases, KeepsReplies}
-use Rattle.session_history.specs.Lawful.{Survivor}
-use Rattle.session_history.specs.Terms.{Entry, Item, Ledger, LinkEvent, Send, events_in}
-use Rattle.session_history.proofs.Asked.{TookOne, asks_takes}
-use Rattle.session_history.proofs.Heeding.{events_alone, items_in-alike, none_had}
-use Rattle.trials.proofs.Asking.{asks_under_all}
-use Rattle.trials.proofs.Planned.{start_taken}
-use Rattle.run_history.specs.Machine.{start, start_machine}
-use Rattle.std.specs.Prelude.{unwrap_or}
-use Rattle.recovery.specs.Rings.{IsInForce}
-use Rattle.session_state.specs.Serving.{IsCounted}
-use Rattle.session_state.specs.Sessions.{SessionState}
-use Rattle.session_state.specs.Standing.{IsGoing, IsHearing, Since, Story, entries, sends}
-use Rattle.session_state.proofs.events.HearLemmas.{HasSameRun}
-use Rattle.session_state.proofs.standing.CheckpointLemmas.{HasSameSide}
-use Rattle.std.proofs.lemmas.List.{map-append}
-use Rattle.follow.proofs.Terms.{List, None, [], ap, append-nil, arith, cond, inl, inr, length, length-append, ltb, refl, subst, sym, ℕ, ◌++◌, ◌+◌, ◌<◌, ◌∙◌, ◌∷◌, ◌≡◌, ◌≤◌, ◌⊎◌, Image, Env, Plain, AsksFor, Limits, Override, Path, Served, env_at, origin, later_of, serves_to, items_in, passed_in, received, Rules, plan_of, held, Handed, HasReached, Stand, HasFollowed, heard_alone, rules_behind}
-use Rattle.session_following.specs.Following.{came_before, plan_up_to, rules_after}
-use Rattle.session_following.specs.Followed.{IsFollowing, followed_before, rules_following}
-use Rattle.session_following.specs.Sending.{held_count, with_held}
-use Rattle.session_following.specs.Reaching.{HasNotReached, IsNotReached}
-use Rattle.session_following.specs.Standing.{HasJustBegun, story_alone}
+use Rattle.session_following.proofs.Terms.{List, None, [], ap, append-nil, arith, cond, inl, inr, length, length-append, ltb, refl, subst, sym, ℕ, ◌++◌, ◌+◌, ◌<◌, ◌∙◌, ◌∷◌, ◌≡◌, ◌≤◌, ◌⊎◌, map-append, unwrap_or, Item, Send, Entry, LinkEvent, events_in-append, Phases, events_in, Seen, Choice, Env, Plain, IsOpened, Ledger, Image, serves_to, start, start_machine, AsksFor, Limits, Override, Path, Served, env_at, origin, GoesOn, standing_of, Writes, TookOne, asks_takes, later_of, events_alone, items_in-alike, none_had, Before, events_of, items_in, nothing_before, received, IsSendable, KeepsItems, KeepsPhases, KeepsReplies, Rules, Survivor, passed_in, asks_under_all, start_taken, HasFollowed, heard_alone, rules_behind, Handed, HasReached, Stand, held, plan_of, IsInForce, HasSameRun, HasSameSide, IsCounted, SessionState, IsGoing, IsHearing, Since, Story, entries, sends, came_before, plan_up_to, rules_after, HasNotReached, IsNotReached, HasJustBegun, story_alone, held_count, with_held, IsFollowing, followed_before, rules_following}
 use Rattle.session_following.proofs.Based.{SaysAs, replies_after, same_items, says_itself}
 use Rattle.session_following.proofs.Held.{held_beside, sent_is_held}
 use Rattle.session_following.proofs.PlanLemmas.{goes_to, same_steps, says_alike, says_start, says_until, up_to_env, up_to_same}

@@ -1,18 +1,8 @@
 -- The requests of a part that is followed: those that were handled so far are those before a session that has just begun there.
-use Rattle.session_history.specs.Heeding.{events_of}
-use Rattle.session_history.specs.Terms.{Entry, Item, LinkEvent, Send}
-use Rattle.session_history.specs.Lawful.{Survivor}
-use Rattle.session_history.specs.Serving.{first_survivor, starting_path}
-use Rattle.guest_cpu.specs.Writing.{Writes}
 use Rattle.guest_cpu.proofs.WritingLemmas.{writes_more}
-use Rattle.trials.proofs.Going.{taken_later}
 use Rattle.elf_image.specs.Image.{base}
-use Rattle.ckpt_ring.specs.Rings.{from_newest}
-use Rattle.recovery.specs.Handling.{AreRinged, AreWritten, HasFollowedRequests, HasHandled, HasWritten, Keeping, Stand, first_stands, handle, handled, starting_stands}
-use Rattle.session_state.specs.Leaving.{HandlesRequests}
-use Rattle.std.specs.Prelude.{IfSome, replicate}
-use Rattle.follow.proofs.Terms.{List, None, Option, Some, [], ap, append-nil, arith, false, inl, inr, length, length-append, refl, subst, sym, ℕ, ◌++◌, ◌+◌, ◌∙◌, ◌∷◌, ◌≡◌, served_on, served_same, served_with, Image, Override, Path, Served, origin, Rules, items_in}
-use Rattle.session_following.specs.Following.{came_before, rules_after}
+use Rattle.recovery.specs.Handling.{Stand}
+use Rattle.session_following.proofs.Terms.{List, None, Option, Some, [], ap, append-nil, arith, false, inl, inr, length, length-append, refl, subst, sym, ℕ, ◌++◌, ◌+◌, ◌∙◌, ◌∷◌, ◌≡◌, IfSome, replicate, Item, Send, Entry, LinkEvent, from_newest, Image, Override, Path, Served, origin, Writes, served_on, served_same, served_with, events_of, items_in, Rules, Survivor, first_survivor, starting_path, taken_later, AreRinged, AreWritten, HasFollowedRequests, HasHandled, HasWritten, Keeping, first_stands, handle, handled, starting_stands, HandlesRequests, came_before, rules_after}
 use Rattle.session_following.proofs.Based.{SaysAs, same_items}
 
 -- requests behind others

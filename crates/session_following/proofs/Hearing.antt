@@ -2,22 +2,7 @@
 use Rattle.item_log.specs.Log as logs
 use Rattle.links.specs.declared.journal.Entry.TheVariants as entry
 use Rattle.links.specs.declared.journal.LinkEvent.TheVariants as event
-use Rattle.links.specs.Links.{Phases}
-use Rattle.links.specs.Seen.{Seen}
-use Rattle.reply_ledger.specs.Ledger.{closed_connection, with_change}
-use Rattle.link_gate.proofs.ReplyLemmas.{closed_keeps}
-use Rattle.session_history.specs.Heeding.{nothing_before}
-use Rattle.session_history.specs.Hearing.{closing_of}
-use Rattle.session_history.specs.Keeping.{KeepsReplies}
-use Rattle.session_history.specs.Terms.{Ledger, LinkEvent, Log}
-use Rattle.session_state.specs.Sessions.{SessionState}
-use Rattle.session_state.specs.Standing.{Since}
-use Rattle.session_state.proofs.events.HearingLemmas.{HeardEvent, closes_closed, run_of, with_heard}
-use Rattle.session_state.proofs.guest.GuestLemmas.{received_is}
-use Rattle.follow.proofs.Terms.{List, None, Option, [], arith, subst, ℕ, ◌++◌, ◌∷◌, ◌≡◌, ◌≤◌, Image, AsksFor, Path, received, Rules, plan_of, Handed}
-use Rattle.session_following.specs.Following.{plan_up_to}
-use Rattle.session_following.specs.Followed.{IsFollowing, rules_following}
-use Rattle.session_following.specs.Reaching.{IsNotReached}
+use Rattle.session_following.proofs.Terms.{List, None, Option, [], arith, subst, ℕ, ◌++◌, ◌∷◌, ◌≡◌, ◌≤◌, LinkEvent, Phases, Seen, Log, Ledger, closed_connection, with_change, Image, AsksFor, Path, closing_of, nothing_before, received, KeepsReplies, Rules, closed_keeps, Handed, plan_of, HeardEvent, closes_closed, run_of, with_heard, received_is, SessionState, Since, plan_up_to, IsNotReached, IsFollowing, rules_following}
 use Rattle.session_following.proofs.Following.{heard_following}
 
 module _ {R : Type 0} where

@@ -1,30 +1,13 @@
 -- A send of a session that follows: as much of it as clients have is marked as passed at once, with the number of items taken.
-use Rattle.reply_ledger.specs.Shows.{Shows}
-use Rattle.reply_ledger.specs.Shows.{stamped_of}
 use Rattle.reply_ledger.specs.Ledger as ledgers
 use Rattle.reply_ledger.specs.Inside.{earlier_at}
-use Rattle.reply_ledger.specs.Ledger.{Connection, IsOpened, Passed, passed_connection, passed_to, stamped_to, with_passed, with_send, connection_of}
-use Rattle.reply_ledger.specs.Ledger.{stamped}
 use Rattle.reply_ledger.proofs.ConnectionLemmas.{is_open-changed}
 use Rattle.reply_ledger.proofs.RunLemmas.{length-bytes_of}
 use Rattle.reply_ledger.proofs.ShowsLemmas.{bytes_of-stamped_of, shows-passed, shows-sent}
-use Rattle.session_history.specs.Opened.{is_open, opens}
-use Rattle.session_history.specs.Keeping.{AreSendable, IsSendable, KeepsReplies}
-use Rattle.session_history.specs.Heeding.{Before, events_of}
-use Rattle.session_history.specs.Terms.{Ledger, Prefix, Send, sent_to}
+use Rattle.run_history.proofs.Outputs.{sent_to-append, sent_to-more}
 use Rattle.link_gate.proofs.KeepLemmas.{known-changed, next_of}
-use Rattle.link_gate.proofs.ReplyLemmas.{sendable_then}
-use Rattle.std.proofs.lemmas.Bool.{eq-eqb, eqb-false, eqb-true, true≢false}
-use Rattle.std.proofs.lemmas.List.{length-take, length-take-le}
 use Rattle.std.proofs.lemmas.Grind.{flat_map-append}
-use Rattle.std.proofs.Math.Seq.{drop-append_seam, take-length}
-use Rattle.std.specs.Prelude.{is_some}
-use Rattle.follow.proofs.Terms.{Bool, List, None, [], ap, append-nil, append_assoc, arith, cond, drop, eqb, false, inl, inr, length, length-append, refl, subst, sym, take, true, ℕ, ◌++◌, ◌+◌, ◌-◌, ◌∙◌, ◌∷◌, ◌≡◌, ◌≤◌, cases_lt, take-append-drop, take-append-le, take_all, sent_to-append, sent_to-more, count_of, held, held_behind, Rules, passed_in}
-use Rattle.std.proofs.Common.{length-drop, min}
-use Rattle.follow.proofs.Fronts.{held_is_front, part_behind}
-use Rattle.session_following.specs.Following.{rules_after}
-use Rattle.session_following.specs.Sending.{held_count, with_held}
-use Rattle.session_following.specs.Laws.{HeldGrows, SentIsHeld}
+use Rattle.session_following.proofs.Terms.{Bool, List, None, [], ap, append-nil, append_assoc, arith, cond, drop, eqb, false, inl, inr, length, length-append, length-drop, min, refl, subst, sym, take, true, ℕ, ◌++◌, ◌+◌, ◌-◌, ◌∙◌, ◌∷◌, ◌≡◌, ◌≤◌, drop-append_seam, take-length, cases_lt, eq-eqb, eqb-false, eqb-true, true≢false, length-take, length-take-le, take-append-drop, take-append-le, take_all, is_some, Prefix, Send, sent_to, Connection, IsOpened, Ledger, Passed, connection_of, passed_connection, passed_to, stamped, stamped_to, with_passed, with_send, Shows, stamped_of, Before, events_of, AreSendable, IsSendable, KeepsReplies, Rules, is_open, opens, passed_in, sendable_then, held_is_front, part_behind, count_of, held, held_behind, rules_after, held_count, with_held, HeldGrows, SentIsHeld}
 use Rattle.session_following.proofs.Based.{only_had, same_heeded, same_open}
 
 -- what is held of more sends

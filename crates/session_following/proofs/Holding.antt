@@ -1,20 +1,6 @@
 -- What is known of a session that follows doesn't tell how many items more have to be taken before a reply is passed.
-use Rattle.ckpt_ring.specs.Rings.{Checkpoints}
-use Rattle.guest_cpu.specs.Cpus.{CpuState}
-use Rattle.links.specs.Links.{Phases}
-use Rattle.recovery.specs.Handling.{HasHandled, Keeping, Stand, first_stands, starting_stands}
-use Rattle.recovery.specs.Rings.{KeepsRing}
-use Rattle.recovery.specs.Sessions.{AreKept}
-use Rattle.session_history.specs.Lawful.{Survivor}
-use Rattle.session_history.specs.Serving.{Carries}
-use Rattle.session_history.specs.Terms.{Entry, Ledger, Log}
-use Rattle.session_state.specs.Leaving.{HandlesRequests, keeping_of}
-use Rattle.session_state.specs.Sessions.{SessionState}
-use Rattle.session_state.specs.Standing.{Since}
-use Rattle.follow.proofs.Terms.{List, [], inl, inr, ℕ, ◌∷◌, AsksForMore, Handed, Image, LinkEvent, Override, Path, Rules}
-use Rattle.session_following.specs.Followed.{IsFollowing}
-use Rattle.session_following.specs.Standing.{HasJustBegun}
-use Rattle.session_following.specs.Turning.{holding}
+use Rattle.recovery.specs.Handling.{Stand}
+use Rattle.session_following.proofs.Terms.{List, [], inl, inr, ℕ, ◌∷◌, Entry, LinkEvent, Phases, Checkpoints, Log, Ledger, Image, Override, Path, CpuState, Rules, Survivor, Carries, AsksForMore, Handed, HasHandled, Keeping, first_stands, starting_stands, KeepsRing, AreKept, HandlesRequests, keeping_of, SessionState, Since, HasJustBegun, IsFollowing, holding}
 use Rattle.session_following.proofs.Handled.{WroteAs, all_wrote, begun_stands}
 
 module _ (rules : Rules) (hold : ℕ) where

@@ -1,9 +1,6 @@
 -- How many bytes clients lack, line by line.
-use Rattle.std.proofs.Common.{Bool, List, [], inl, inr, ap, append_assoc, arith, cond, eqb, length, refl, replicate, set, subst, sym, take, ℕ, ◌++◌, ◌+◌, ◌-◌, ◌<◌, ◌∙◌, ◌∷◌, ◌≡◌, ◌≤◌, get_or, get_or-set_other, get_or-set_same}
-use Rattle.std.proofs.lemmas.Bool.{cases_eq, cases_lt, eq-eqb, ne_eqb}
-use Rattle.std.proofs.lemmas.List.{get_or-replicate, get_or_past, length-replicate, take_all, take_more}
-use Rattle.follow.specs.Held.{count_of}
-use Rattle.session_following.specs.Missing.{HasCounts}
+use Rattle.std.proofs.Common.{replicate}
+use Rattle.session_following.proofs.Terms.{Bool, List, [], ap, append_assoc, arith, cond, eqb, get_or, get_or-set_other, get_or-set_same, inl, inr, length, refl, set, subst, sym, take, ℕ, ◌++◌, ◌+◌, ◌-◌, ◌<◌, ◌∙◌, ◌∷◌, ◌≡◌, ◌≤◌, cases_eq, cases_lt, eq-eqb, ne_eqb, get_or-replicate, get_or_past, length-replicate, take_all, take_more, count_of, HasCounts}
 
 -- a list by its last element
 pub last_line : {A : Type 0} (rest behind whole : List A) (d : A) → 1 ≤ length rest → rest ++ behind ≡ whole → take (length rest - 1) rest ++ get_or rest (length rest - 1) d ∷ behind ≡ whole

@@ -1,3 +1,4 @@
+pub mod Terms
 pub mod Based
 pub mod Held
 pub mod PlanLemmas

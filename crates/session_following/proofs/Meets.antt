@@ -1,23 +1,9 @@
 -- A session that follows meets what the parts of an ordinary one ask for: it stands between two events of its guest, or waits for an item; and a send may be noted.
-use Rattle.links.specs.Links.{Grew, Phases}
-use Rattle.links.specs.Seen.{Seen}
-use Rattle.reply_ledger.specs.Ledger.{IsOpened, NotBefore, times_of}
-use Rattle.reply_ledger.specs.Shows.{Shows}
 use Rattle.run_history.specs.Call.{may_send}
 use Rattle.link_gate.specs.Passing.{AreStampedBy}
-use Rattle.session_history.specs.Terms.{Send}
-use Rattle.session_notes.specs.Noting.{Noted}
-use Rattle.recovery.specs.Watching.{TellsMore}
 use Rattle.recovery.proofs.Sending.{between_behind, times_low}
-use Rattle.session_state.specs.Recovered.{AreTables}
-use Rattle.session_state.specs.Sessions.{SessionState}
-use Rattle.session_state.specs.Standing.{IsBetween, IsGoing, IsWaitingFor, Since}
 use Rattle.session_state.proofs.passing.PassLemmas.{stamped_by}
-use Rattle.follow.proofs.Terms.{List, [], append-nil, arith, drop, subst, sym, true, ℕ, ◌<◌, ◌∙◌, ◌≡◌, Image, LinkEvent, AsksFor, Path, Rules, items_in, held, plan_of, Handed, ap, refl, take}
-use Rattle.follow.proofs.Stamps.{held_is_in_order}
-use Rattle.session_following.specs.Following.{plan_up_to}
-use Rattle.session_following.specs.Followed.{IsFollowing, rules_following}
-use Rattle.session_following.specs.Turning.{marked, nothing_told}
+use Rattle.session_following.proofs.Terms.{List, [], ap, append-nil, arith, drop, refl, subst, sym, take, true, ℕ, ◌<◌, ◌∙◌, ◌≡◌, Send, LinkEvent, Grew, Phases, Seen, IsOpened, NotBefore, times_of, Shows, Image, AsksFor, Path, items_in, Rules, Noted, held_is_in_order, Handed, held, plan_of, TellsMore, AreTables, SessionState, IsBetween, IsGoing, IsWaitingFor, Since, plan_up_to, IsFollowing, rules_following, marked, nothing_told}
 use Rattle.session_following.proofs.Rebased.{just_due, just_going, just_hearing}
 use Rattle.session_following.proofs.Steps.{IsMarked}
 

@@ -1,12 +1,5 @@
 -- Whether a run is past the failure of the last episode.
-use Rattle.std.proofs.Common.{List, None, Option, length, leb, ltb, subst, sym, ℕ, ◌-◌, ◌≡◌, ◌≤◌, get_or}
-use Rattle.std.proofs.lemmas.Bool.{le-leb, leb-true, lt-ltb, ltb-true}
-use Rattle.std.specs.Prelude.{IfSome, IsTrue, ◌↔◌}
-use Rattle.std.specs.List.{last_or}
-use Rattle.follow.specs.Terms.{Episode}
-use Rattle.session_following.specs.declared.judging.StandKind.{StandKind}
-use Rattle.session_following.specs.declared.judging.StandKind.TheVariants.{Failure, Request}
-use Rattle.session_following.specs.Judging.{IsPastAs}
+use Rattle.session_following.proofs.Terms.{List, None, Option, get_or, leb, length, ltb, subst, sym, ℕ, ◌-◌, ◌≡◌, ◌≤◌, le-leb, leb-true, lt-ltb, ltb-true, last_or, IfSome, IsTrue, ◌↔◌, Episode, StandKind, Failure, Request, IsPastAs}
 use Rattle.session_following.proofs.Placing.{last_is}
 
 pub request_past : (episodes : List Episode) (episode : Episode) (kind : StandKind) (taken : ℕ) → 1 ≤ length episodes → episode ≡ get_or episodes (length episodes - 1) episode → kind ≡ Request

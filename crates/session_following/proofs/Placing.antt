@@ -1,14 +1,7 @@
 -- The environment that is in force behind the last episode of a report.
-use Rattle.std.proofs.Common.{Bool, List, None, Option, Some, [], ap, arith, cond, length, ltb, refl, subst, sym, take, ℕ, ◌++◌, ◌+◌, ◌-◌, ◌∙◌, ◌∷◌, ◌≡◌, ◌≤◌, get_or}
-use Rattle.std.proofs.lemmas.Bool.{false≢true, le-ltb}
-use Rattle.std.proofs.lemmas.List.{take_all, take_more}
-use Rattle.std.specs.Prelude.{IfSome, is_some}
-use Rattle.std.specs.List.{last_or}
 use Rattle.std.specs.Option.{option_map_or}
-use Rattle.follow.specs.Terms.{Plain, Override, env_at, Episode, Try, plan_of_trial}
-use Rattle.follow.specs.Plans.{AreWellPlaced, IsWellPlaced, adopted_try, first_count, plan_behind, plan_from, plan_of}
-use Rattle.recovery.specs.Rings.{IsInForce}
-use Rattle.session_following.specs.Placed.{EndsAfter, IsFollowedBy}
+use Rattle.trials.specs.Trials.{plan_of_trial}
+use Rattle.session_following.proofs.Terms.{Bool, List, None, Option, Some, [], ap, arith, cond, get_or, length, ltb, refl, subst, sym, take, ℕ, ◌++◌, ◌+◌, ◌-◌, ◌∙◌, ◌∷◌, ◌≡◌, ◌≤◌, false≢true, le-ltb, take_all, take_more, last_or, IfSome, is_some, Plain, Override, env_at, Episode, Try, AreWellPlaced, IsWellPlaced, adopted_try, first_count, plan_behind, plan_from, plan_of, IsInForce, EndsAfter, IsFollowedBy}
 
 -- the plan behind an episode of which a trial survived
 behind_trial : (plan : List Override) (episode : Episode) (attempt : Try) → adopted_try episode.tries ≡ Some attempt → plan_behind plan episode ≡ plan_of_trial plan attempt.checkpoint attempt.env episode.point

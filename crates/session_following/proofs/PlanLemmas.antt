@@ -1,11 +1,6 @@
 -- Plans that say the same up to a count of items have the same runs up to there.
-use Rattle.std.proofs.Common.{suc, zero}
-use Rattle.std.proofs.lemmas.Bool.{le-ltb}
-use Rattle.trials.proofs.Going.{Before, Behind, Equal, compare, served_as, served_one, steps_later, taken_later}
-use Rattle.trials.proofs.Planned.{env_within, env_before}
-use Rattle.follow.proofs.Terms.{Bool, List, Some, [], ap, arith, cond, inl, inr, ltb, subst, sym, ℕ, ◌+◌, ◌<◌, ◌∙◌, ◌∷◌, ◌≡◌, ◌≤◌, ◌⊎◌, cases_lt, lt-ltb, later_of, served_on, served_same, Item, Env, Plain, Image, Limits, Override, Path, Rules, Served, env_at, origin, planned_next, served_next, serves_to}
-use Rattle.session_following.specs.Following.{plan_up_to}
-use Rattle.session_following.specs.Laws.{UpToIsExact}
+use Rattle.trials.proofs.Going.{Before}
+use Rattle.session_following.proofs.Terms.{Bool, List, Some, [], ap, arith, cond, inl, inr, ltb, subst, suc, sym, zero, ℕ, ◌+◌, ◌<◌, ◌∙◌, ◌∷◌, ◌≡◌, ◌≤◌, ◌⊎◌, cases_lt, le-ltb, lt-ltb, Item, Env, Plain, Image, serves_to, Limits, Override, Path, Served, env_at, origin, planned_next, served_next, later_of, served_on, served_same, Rules, Behind, Equal, compare, served_as, served_one, steps_later, taken_later, env_before, env_within, plan_up_to, UpToIsExact}
 use Rattle.session_following.proofs.Based.{SaysAs}
 
 -- the plan up to a count says the same there

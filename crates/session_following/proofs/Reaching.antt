@@ -1,11 +1,5 @@
 -- A run that follows stood nowhere before where it had reached what was handed over: so it stays as it goes on, and as more items come.
-use Rattle.std.proofs.Common.{suc, zero}
-use Rattle.std.proofs.lemmas.Option.{option_and_then_some, same_Some}
-use Rattle.session_history.specs.Terms.{serve}
-use Rattle.trials.proofs.Results.{apart_asks_fails, apart_ended, asks_on, ended_on, fails_on}
-use Rattle.follow.proofs.Terms.{List, Some, [], ap, arith, inl, inr, length, length-append, refl, subst, sym, ℕ, ◌++◌, ◌+◌, ◌<◌, ◌∙◌, ◌∷◌, ◌≡◌, ◌≤◌, ◌⊎◌, cases_lt, Item, LinkEvent, Image, Limits, Override, Path, Served, env_at, origin, planned_next, later_of, served_on, served_with, serves_to, taken_later, Rules, plan_of, AtExit, AtFailure, AtRequest, Handed, HasReached, Stand, AsksForMore, AsksFor}
-use Rattle.session_following.specs.Reaching.{HasAskedBefore, HasNotReached, IsNotReached}
-use Rattle.session_following.specs.Laws.{NotReachedStays}
+use Rattle.session_following.proofs.Terms.{List, Some, [], ap, arith, inl, inr, length, length-append, refl, subst, suc, sym, zero, ℕ, ◌++◌, ◌+◌, ◌<◌, ◌∙◌, ◌∷◌, ◌≡◌, ◌≤◌, ◌⊎◌, cases_lt, option_and_then_some, same_Some, Item, LinkEvent, Image, serves_to, AsksFor, Limits, Override, Path, Served, env_at, origin, planned_next, serve, later_of, served_on, served_with, Rules, taken_later, apart_asks_fails, apart_ended, asks_on, ended_on, fails_on, AsksForMore, AtExit, AtFailure, AtRequest, Handed, HasReached, Stand, plan_of, HasAskedBefore, HasNotReached, IsNotReached, NotReachedStays}
 use Rattle.session_following.proofs.PlanLemmas.{goes_to, same_steps}
 
 module _ (limits : Limits) (items : List Item) (image : Image) (handed : Handed) (now : Path) where

@@ -1,25 +1,6 @@
 -- A session with no recovery, whose journal has events alone, stands as one that has just begun where its run stands, with all before it that came; and one that has just begun goes on as any session.
-use Rattle.links.proofs.Growing.{tells_nothing}
-use Rattle.links.specs.Links.{Grew, Phases, Tells, Told}
-use Rattle.links.specs.Seen.{Seen}
-use Rattle.session_history.specs.Heeding.{Before, events_of}
-use Rattle.session_history.specs.Keeping.{KeepsReplies}
-use Rattle.session_history.specs.Lawful.{Survivor}
-use Rattle.session_history.specs.Opened.{opens}
-use Rattle.session_history.specs.Serving.{IsSoundBefore, starting_path}
-use Rattle.session_history.specs.Terms.{Entry, Item, LinkEvent, Send}
 use Rattle.session_history.proofs.Sessions.{serving_first}
-use Rattle.trials.proofs.Recovered.{timed_from}
-use Rattle.recovery.specs.Rings.{AreBehind, IsInForce, KeepsRing}
-use Rattle.recovery.specs.Handling.{stands_of}
-use Rattle.recovery.specs.Watching.{TellsMore}
-use Rattle.session_state.specs.Leaving.{HandlesRequests, keeping_of}
-use Rattle.session_state.specs.Recovered.{AreTables, spent}
-use Rattle.session_state.specs.Sessions.{SessionState}
-use Rattle.session_state.specs.Standing.{AnswersFor, GoesWith, HasPassedDue, IsGoing, IsTold, IsWaitingFor, Since, Story}
-use Rattle.follow.proofs.Terms.{List, None, [], ap, arith, length, refl, subst, sym, ℕ, ◌++◌, ◌+◌, ◌<◌, ◌∙◌, ◌≡◌, ◌≤◌, ◌⊎◌, served_same, AsksFor, Image, Override, Path, Served, origin, Rules, held, items_in, received}
-use Rattle.session_following.specs.Following.{came_before, rules_after}
-use Rattle.session_following.specs.Standing.{HasJustBegun, begun_story, story_alone}
+use Rattle.session_following.proofs.Terms.{List, None, [], ap, arith, length, refl, subst, sym, ℕ, ◌++◌, ◌+◌, ◌<◌, ◌∙◌, ◌≡◌, ◌≤◌, ◌⊎◌, Item, Send, Entry, LinkEvent, tells_nothing, Grew, Phases, Tells, Told, Seen, Image, AsksFor, Override, Path, Served, origin, served_same, Before, events_of, items_in, received, KeepsReplies, Rules, Survivor, opens, IsSoundBefore, starting_path, timed_from, held, stands_of, AreBehind, IsInForce, KeepsRing, TellsMore, HandlesRequests, keeping_of, AreTables, spent, SessionState, AnswersFor, GoesWith, HasPassedDue, IsGoing, IsTold, IsWaitingFor, Since, Story, came_before, rules_after, HasJustBegun, begun_story, story_alone}
 use Rattle.session_following.proofs.Based.{SaysAs, items_after, phases_after_all, same_events, same_heeded}
 use Rattle.session_following.proofs.Rings.{carries_after, ring_after}
 use Rattle.session_following.proofs.Handled.{handled_after}

@@ -1,31 +1,8 @@
 -- Where a session that follows is released: the environment of the report that is in force then; and a release at an exit of its guest.
 use Rattle.session_history.specs.declared.ends.SessionEnd.TheVariants as session_end
 use Rattle.session_history.specs.declared.ends.Stop.TheVariants as stop
-use Rattle.guest_cpu.specs.Runs.{GoesOn, IsSilent}
-use Rattle.guest_cpu.specs.Serving.{standing_of}
-use Rattle.guest_cpu.specs.Writing.{Writes}
-use Rattle.links.specs.Links.{Grew}
-use Rattle.links.specs.Seen.{Seen}
-use Rattle.session_history.specs.Heeding.{Before, events_of, nothing_before}
-use Rattle.session_history.specs.Keeping.{KeepsItems, KeepsReplies}
-use Rattle.session_history.specs.Terms.{Item, Ledger, LinkEvent, Send, events_in}
-use Rattle.trials.proofs.Recovered.{timed_from}
-use Rattle.recovery.specs.Rings.{IsInForce}
-use Rattle.recovery.specs.Watching.{TellsMore}
-use Rattle.session_state.specs.Leaving.{keeping_of}
-use Rattle.session_state.specs.Recovered.{AreTables}
-use Rattle.session_state.specs.Serving.{IsCounted}
-use Rattle.session_state.specs.Sessions.{SessionState}
-use Rattle.session_state.specs.Standing.{IsEnding, IsTold, Since}
-use Rattle.session_state.proofs.guest.GuestLemmas.{answers_for, none_lost, none_noted, received_is}
 use Rattle.session_state.proofs.recovering.TableLemmas.{tables_here, told_unwatched}
-use Rattle.session_state.proofs.standing.CheckpointLemmas.{HasSameSide, saved_on}
-use Rattle.session_state.proofs.standing.HeldLemmas.{requests_on}
-use Rattle.std.proofs.lemmas.Bool.{le-ltb}
-use Rattle.follow.proofs.Terms.{Bool, List, None, Some, [], ap, append-nil, arith, cond, inl, inr, ltb, refl, subst, sym, ℕ, ◌+◌, ◌<◌, ◌∙◌, ◌∷◌, ◌≡◌, ◌≤◌, ◌⊎◌, cases_lt, IsSome, Image, Plain, AsksFor, Override, Path, Served, env_at, origin, served_on, items_in, Rules, plan_of, held, AtExit, Handed, HasReached, HasFollowed, heard_alone, rules_behind}
-use Rattle.session_following.specs.Following.{came_before, plan_up_to}
-use Rattle.session_following.specs.Followed.{IsFollowing, rules_following}
-use Rattle.session_following.specs.Standing.{begun_story}
+use Rattle.session_following.proofs.Terms.{Bool, List, None, Some, [], ap, append-nil, arith, cond, inl, inr, ltb, refl, subst, sym, ℕ, ◌+◌, ◌<◌, ◌∙◌, ◌∷◌, ◌≡◌, ◌≤◌, ◌⊎◌, cases_lt, le-ltb, IsSome, Item, Send, LinkEvent, Grew, events_in, Seen, Plain, Ledger, Image, AsksFor, Override, Path, Served, env_at, origin, GoesOn, IsSilent, standing_of, Writes, served_on, Before, events_of, items_in, nothing_before, KeepsItems, KeepsReplies, Rules, timed_from, HasFollowed, heard_alone, rules_behind, AtExit, Handed, HasReached, held, plan_of, IsInForce, TellsMore, answers_for, none_lost, none_noted, received_is, HasSameSide, saved_on, requests_on, keeping_of, AreTables, IsCounted, SessionState, IsEnding, IsTold, Since, came_before, plan_up_to, begun_story, IsFollowing, rules_following}
 use Rattle.session_following.proofs.Based.{SaysAs, items_after, replies_after}
 use Rattle.session_following.proofs.Following.{items_following, whole_following}
 use Rattle.session_following.proofs.Handled.{handled_after}

@@ -1,53 +1,17 @@
 -- Where a session that follows is released: an ordinary session begins there, with all that was followed before it.
 use Rattle.guest_cpu.specs.declared.event.Event.TheVariants as step
-use Rattle.guest_cpu.specs.Cpus.{CpuState}
-use Rattle.links.specs.Links.{Grew, Phases, Tells, Told}
-use Rattle.links.specs.Seen.{Seen}
-use Rattle.recovery.specs.Rings.{IsInForce}
-use Rattle.recovery.specs.Watching.{TellsMore}
-use Rattle.session_history.specs.Heeding.{Before, nothing_before}
-use Rattle.session_notes.specs.declared.episode.Episode.{Episode}
-use Rattle.session_notes.specs.declared.episode.Try.{Try}
-use Rattle.trials.proofs.Asking.{asks_under_all}
-use Rattle.follow.specs.Plans.{adopted_try}
-use Rattle.follow.specs.Terms.{last_or}
-use Rattle.session_notes.specs.Noting.{Noted}
 use Rattle.std.proofs.lemmas.List.Elements.{All-head, All-tail}
-use Rattle.std.specs.Prelude.{All, Err, IfSome, ◌≢◌}
 use Rattle.session_history.specs.declared.ends.SessionBreak.{SessionBreak}
 use Rattle.session_history.specs.declared.ends.SessionBreak.TheVariants as session_break
-use Rattle.session_history.specs.declared.ends.Stop.{Stop}
 use Rattle.session_history.specs.declared.ends.Stop.TheVariants as stop
-use Rattle.session_state.specs.Leaving.{IsTrimmed, LeavesBy, keeping_of}
-use Rattle.session_state.specs.Options.{rules_in}
-use Rattle.session_state.specs.Recovered.{AreTables, Telling}
-use Rattle.session_state.specs.Serving.{BreaksPassing, IsCounted, StopsBy, TrimsAt, rules_by}
-use Rattle.session_state.specs.Sessions.{SessionState}
-use Rattle.session_state.specs.Standing.{IsGoing, Since, told_since}
 use Rattle.session_state.proofs.ending.EndLemmas.{served_off}
 use Rattle.session_state.proofs.ending.LeavingLemmas.{left_by}
-use Rattle.follow.proofs.Terms.{Bool, List, None, Option, Some, [], append-nil, ap, arith, drop, inl, inr, length, refl, subst, sym, take, true, ℕ, ◌+◌, ◌<◌, ◌≤◌, ◌∙◌, ◌∷◌, ◌≡◌, ◌⊎◌, IsSome, Image, Env, AsksFor, Heap, Override, Path, Rules, plan_of, AtExit, AtFailure, AtRequest, IsPastFailure, Choice, Handed, HasReached, Item, LinkEvent, Send, Served, Stand, heard_alone, items_in, origin, rules_behind, served_on}
-use Rattle.session_following.specs.Following.{rules_after}
-use Rattle.session_following.specs.Followed.{rules_following}
-use Rattle.session_following.specs.Moving.{before_moved, before_released}
-use Rattle.session_following.specs.Standing.{HasJustBegun}
-use Rattle.session_following.specs.Turning.{Follows, HasReachedOn, HasRunOn, IsReleased, IsReleasedAtExit, held_back, holding, marked}
-use Rattle.session_following.proofs.Following.{released_following}
+use Rattle.session_following.proofs.Terms.{Bool, List, None, Option, Some, [], ap, append-nil, arith, drop, inl, inr, length, refl, subst, sym, take, true, ℕ, ◌+◌, ◌<◌, ◌∙◌, ◌∷◌, ◌≡◌, ◌≤◌, ◌⊎◌, last_or, All, Err, IfSome, IsSome, ◌≢◌, Item, Send, LinkEvent, Grew, Phases, Tells, Told, Seen, Choice, Heap, Env, Image, AsksFor, Override, Path, Served, origin, CpuState, standing_of, Standing, Writes, Stop, served_on, Before, items_in, nothing_before, Rules, Episode, Try, Noted, asks_under_all, heard_alone, rules_behind, AtExit, AtFailure, AtRequest, Handed, HasReached, IsPastFailure, Stand, adopted_try, plan_of, IsInForce, TellsMore, taken_all, IsTrimmed, LeavesBy, keeping_of, rules_in, AreTables, Telling, BreaksPassing, IsCounted, StopsBy, TrimsAt, rules_by, SessionState, IsGoing, Since, told_since, Unfollowed, plan_up_to, rules_after, HasJustBegun, before_moved, before_released, rules_following, EndsAfter, IsFollowedBy, IsMissing, Agree, IsJudgedAt, kind_of, IsUnfollowed, IsUnfollowedBy, TookOver, Follows, HasReachedOn, HasRunOn, IsReleased, IsReleasedAtExit, held_back, holding, marked}
+use Rattle.session_following.proofs.Following.{released_following, whole_following}
 use Rattle.session_following.proofs.Holding.{following_holding}
 use Rattle.session_following.proofs.Moving.{moved_before}
 use Rattle.session_following.proofs.Released.{exited_following, newest_past}
-use Rattle.guest_cpu.specs.Serving.{standing_of}
-use Rattle.guest_cpu.specs.Standing.{Standing}
-use Rattle.guest_cpu.specs.Writing.{Writes}
-use Rattle.session_state.proofs.Lemmas.{taken_all}
 use Rattle.session_following.specs.declared.judging.StandKind.TheVariants as kind
-use Rattle.session_following.specs.declared.unfollowed.Unfollowed.{Unfollowed}
-use Rattle.session_following.specs.Following.{plan_up_to}
-use Rattle.session_following.specs.Judging.{Agree, IsJudgedAt, kind_of}
-use Rattle.session_following.specs.Placed.{EndsAfter, IsFollowedBy}
-use Rattle.session_following.specs.Missing.{IsMissing}
-use Rattle.session_following.specs.TakingOver.{IsUnfollowed, IsUnfollowedBy, TookOver}
-use Rattle.session_following.proofs.Following.{whole_following}
 use Rattle.session_following.proofs.PlanLemmas.{goes_to}
 use Rattle.session_following.proofs.Reaching.{not_on}
 use Rattle.session_following.proofs.Rebased.{just_going}

@@ -1,22 +1,8 @@
 -- The checkpoints of a session that has just begun, with all before it that another one's journal brought, under a plan that says the same up to there.
-use Rattle.session_history.specs.Opened.{opens}
-use Rattle.session_history.specs.Heeding.{Before, events_of}
-use Rattle.session_history.specs.Terms.{Entry, Item, Log, Ledger}
-use Rattle.session_history.specs.Serving.{Carries}
-use Rattle.session_history.specs.Passing.{AreBetween, Covers, IsFeasible}
 use Rattle.session_history.proofs.Passing.{in_order_wider}
 use Rattle.trials.specs.Chains.{AreChained}
 use Rattle.trials.proofs.Chained.{chained_from}
-use Rattle.guest_cpu.specs.Cpus.{CpuState}
-use Rattle.guest_cpu.specs.Writing.{Writes}
-use Rattle.ckpt_ring.specs.Rings.{Checkpoints}
-use Rattle.recovery.specs.Sessions.{AreKept, CanGoOn}
-use Rattle.recovery.specs.Rings.{KeepsRing}
-use Rattle.std.specs.Prelude.{IfSome, replicate, slice_get}
-use Rattle.follow.proofs.Terms.{List, [], ap, false, length, subst, sym, ℕ, ◌∙◌, ◌∷◌, ◌≡◌, ◌≤◌, served_on, served_same, Send, Image, Override, Path, Served, origin, AreInOrder, Rules, held, items_in, passed_in, received}
-use Rattle.follow.proofs.Fronts.{held_is_in_time}
-use Rattle.follow.proofs.Stamps.{held_is_in_order}
-use Rattle.session_following.specs.Following.{rules_after}
+use Rattle.session_following.proofs.Terms.{List, [], ap, false, length, subst, sym, ℕ, ◌∙◌, ◌∷◌, ◌≡◌, ◌≤◌, IfSome, replicate, slice_get, Item, Send, Entry, Checkpoints, Log, Ledger, Image, Override, Path, Served, origin, CpuState, Writes, served_on, served_same, Before, events_of, items_in, received, Rules, opens, AreBetween, AreInOrder, Covers, IsFeasible, passed_in, Carries, held_is_in_time, held_is_in_order, held, KeepsRing, AreKept, CanGoOn, rules_after}
 use Rattle.session_following.proofs.Based.{SaysAs, only_had, same_heeded, same_items}
 
 -- a run to there is one under the other plan

@@ -1,22 +1,8 @@
 -- What is said of a run that follows, from what the code tests.
-use Rattle.std.proofs.Common.{Bool, List, None, Option, Some, ap, arith, false, inl, inr, refl, subst, sym, true, ℕ, ◌∙◌, ◌≡◌, ◌≢◌, ◌≤◌, ◌⊎◌}
-use Rattle.std.proofs.lemmas.Option.{IfSome_then}
-use Rattle.std.proofs.lemmas.Bool.{cases_eq, false≢true}
-use Rattle.std.specs.Prelude.{IfSome, is_some, option_map}
-use Rattle.std.specs.List.{last_or}
-use Rattle.session_history.specs.Terms.{Item, Limits, Path}
-use Rattle.follow.specs.Terms.{AsksFor, Episode, Override}
-use Rattle.follow.specs.Plans.{plan_of}
-use Rattle.follow.specs.Handed.{AtExit, AtFailure, AtRequest, Finish, Handed, HasReached, IsPastFailure, IsStuck, Stand}
-use Rattle.session_following.specs.declared.handed_over.HandedOver.{HandedOver}
-use Rattle.session_following.specs.declared.handed_over.Place.{Place}
-use Rattle.session_following.specs.declared.judging.StandKind.{StandKind}
-use Rattle.session_following.specs.declared.judging.StandKind.TheVariants.{Exit, Failure, Request}
-use Rattle.session_following.specs.Answers.{EndsEarly, HasReachedFiles, IsAtFinish, IsShort, IsUnlike, OtherPlace}
+use Rattle.std.proofs.Common.{◌≢◌}
+use Rattle.session_following.proofs.Terms.{Bool, List, None, Option, Some, ap, arith, false, inl, inr, refl, subst, sym, true, ℕ, ◌∙◌, ◌≡◌, ◌≤◌, ◌⊎◌, cases_eq, false≢true, IfSome_then, last_or, IfSome, is_some, option_map, Item, AsksFor, Limits, Override, Path, Episode, AtExit, AtFailure, AtRequest, Finish, Handed, HasReached, IsPastFailure, IsStuck, Stand, plan_of, HandedOver, Place, StandKind, Exit, Failure, Request, EndsEarly, HasReachedFiles, IsAtFinish, IsInPlace, IsShort, IsUnlike, OtherPlace, IsLeast, HasFiles, IsBehind, IsElsewhere, IsJudgedAt, IsPastAs, IsThere, MayReach, kind_of}
 use Rattle.session_following.specs.HandedOver.{finish_of, handed_of}
-use Rattle.session_following.specs.Judging.{HasFiles, IsBehind, IsElsewhere, IsJudgedAt, IsPastAs, IsThere, MayReach, kind_of}
 use Rattle.session_following.proofs.Agreement.{front_length, front_of}
-use Rattle.session_following.specs.Missing.{IsLeast}
 
 -- where a record's last line is reached
 behind_to : (finish : Option Place) (steps : ℕ) → IfSome (option_map finish_of finish) (λ f. f.steps ≤ steps) → IsBehind finish steps
@@ -144,15 +130,23 @@ module _ {limits : Limits} {items : List Item} (handed : HandedOver) {path : Pat
     first = λ other below. let never = least.1 other below in let is = at.missing_are other in omega (arith, never, is);
   }
 
-  pub said_stuck : IsJudgedAt limits items (handed_of handed) path stand missing kind taken steps chosen stuck → stuck ≡ true → HasFiles handed kind taken steps chosen → (conn : ℕ) → IsLeast missing (Some conn)
-      → IsShort limits items (handed_of handed) path conn
-  said_stuck at is files conn least = said_short at files conn least (inl (at.is_stuck is))
+  -- it stands where the last line says, if at it or behind it
+  in_place : IsJudgedAt limits items (handed_of handed) path stand missing kind taken steps chosen stuck → ¬ IsElsewhere handed.finish taken steps → IsInPlace (handed_of handed) path
+  in_place at never =
+      at_place (handed_of handed) path handed.finish refl
+      (λ elsewhere. never (subst (λ (n : ℕ). IsElsewhere handed.finish taken n) at.steps_are (subst (λ (n : ℕ). IsElsewhere handed.finish n path.steps) at.taken_are elsewhere)))
 
-  pub said_there : IsJudgedAt limits items (handed_of handed) path stand missing kind taken steps chosen stuck → IsThere handed.finish taken steps → HasFiles handed kind taken steps chosen → (conn : ℕ) → IsLeast missing (Some conn)
-      → IsShort limits items (handed_of handed) path conn
-  said_there at is files conn least =
-      said_short at files conn least
-      (inr (there (handed_of handed) path handed.finish refl (subst (λ (n : ℕ). IsThere handed.finish n path.steps) (sym at.taken_are) (subst (λ (n : ℕ). IsThere handed.finish taken n) (sym at.steps_are) is))))
+  pub said_stuck : IsJudgedAt limits items (handed_of handed) path stand missing kind taken steps chosen stuck → stuck ≡ true → ¬ IsElsewhere handed.finish taken steps → HasFiles handed kind taken steps chosen → (conn : ℕ)
+      → IsLeast missing (Some conn) → IsShort limits items (handed_of handed) path conn × IsInPlace (handed_of handed) path
+  said_stuck at is never files conn least = (said_short at files conn least (inl (at.is_stuck is)), in_place at never)
+
+  pub said_there : IsJudgedAt limits items (handed_of handed) path stand missing kind taken steps chosen stuck → IsThere handed.finish taken steps → ¬ IsElsewhere handed.finish taken steps → HasFiles handed kind taken steps chosen
+      → (conn : ℕ) → IsLeast missing (Some conn) → IsShort limits items (handed_of handed) path conn × IsInPlace (handed_of handed) path
+  said_there at is never files conn least = (
+    said_short at files conn least
+        (inr (there (handed_of handed) path handed.finish refl (subst (λ (n : ℕ). IsThere handed.finish n path.steps) (sym at.taken_are) (subst (λ (n : ℕ). IsThere handed.finish taken n) (sym at.steps_are) is)))),
+    in_place at never,
+  )
 
   -- where it may go on
   may_reach : IsJudgedAt limits items (handed_of handed) path stand missing kind taken steps chosen stuck → stuck ≡ false → ¬ IsElsewhere handed.finish taken steps
@@ -160,9 +154,7 @@ module _ {limits : Limits} {items : List Item} (handed : HandedOver) {path : Pat
   may_reach at is never not_yet = record {
     not_yet = not_yet;
     goes_on = is;
-    place =
-        at_place (handed_of handed) path handed.finish refl
-        (λ elsewhere. never (subst (λ (n : ℕ). IsElsewhere handed.finish taken n) at.steps_are (subst (λ (n : ℕ). IsElsewhere handed.finish n path.steps) at.taken_are elsewhere)));
+    place = in_place at never;
   }
 
   pub may_early : IsJudgedAt limits items (handed_of handed) path stand missing kind taken steps chosen stuck → stuck ≡ false → ¬ IsElsewhere handed.finish taken steps → ¬ HasFiles handed kind taken steps chosen → MayReach limits (handed_of handed) path stuck

@@ -1,30 +1,6 @@
 -- What a step makes of a session that has just begun: its guest ran on; an event of its link came; or a method of an ordinary session was called.
 use Rattle.links.specs.declared.journal.Entry.TheVariants as entry
-use Rattle.links.specs.Links.{Phases, Told, Tells}
-use Rattle.links.specs.Seen.{Seen}
-use Rattle.guest_cpu.specs.Runs.{GoesOn}
-use Rattle.guest_cpu.specs.Serving.{standing_of}
-use Rattle.guest_cpu.specs.Writing.{Writes}
-use Rattle.session_history.specs.Heeding.{events_of}
-use Rattle.session_history.specs.Keeping.{KeepsItems, KeepsPhases}
-use Rattle.session_history.specs.Lawful.{Chapter, entries_of}
-use Rattle.session_history.specs.Serving.{first_survivor, starting_path}
-use Rattle.session_history.specs.Terms.{Entry, Item, LinkEvent}
-use Rattle.trials.specs.Episodes.{Recovery}
-use Rattle.session_notes.specs.declared.episode.Try.{Try}
-use Rattle.block_book.specs.declared.choice.Choice.{Choice}
-use Rattle.recovery.specs.Rings.{Brings}
-use Rattle.recovery.specs.Watching.{TellsMore}
-use Rattle.session_state.specs.Recovered.{AreTables}
-use Rattle.session_state.specs.Serving.{IsCounted}
-use Rattle.session_state.specs.Sessions.{SessionState}
-use Rattle.session_state.specs.Standing.{AnswersFor, GoesWith, IsGoing, IsHearing, IsTold, KeepsCheckpoints, Since, Story, entries}
-use Rattle.session_state.proofs.events.HearLemmas.{HasSameRun, answers_still, goes_then, opens_still, saved_then}
-use Rattle.session_state.proofs.guest.GuestLemmas.{answers_for, goes_with}
-use Rattle.session_state.proofs.standing.CheckpointLemmas.{HasSameSide, saved_on}
-use Rattle.session_state.proofs.standing.HeldLemmas.{requests_on}
-use Rattle.follow.proofs.Terms.{List, None, Option, Some, [], ap, append-nil, arith, length, length-append, refl, subst, sym, ◌++◌, ◌∙◌, ◌∷◌, ◌≡◌, served_on, served_same, served_with, Image, Override, Path, Served, origin, Rules, items_in}
-use Rattle.session_following.specs.Standing.{HasJustBegun, begun_story, story_alone}
+use Rattle.session_following.proofs.Terms.{List, None, Option, Some, [], ap, append-nil, arith, length, length-append, refl, subst, sym, ◌++◌, ◌∙◌, ◌∷◌, ◌≡◌, Item, Entry, LinkEvent, Phases, Tells, Told, Seen, Choice, Image, Override, Path, Served, origin, GoesOn, standing_of, Writes, served_on, served_same, served_with, events_of, items_in, KeepsItems, KeepsPhases, Chapter, Rules, entries_of, first_survivor, starting_path, Try, Recovery, Brings, TellsMore, HasSameRun, answers_still, goes_then, opens_still, saved_then, answers_for, goes_with, HasSameSide, saved_on, requests_on, AreTables, IsCounted, SessionState, AnswersFor, GoesWith, IsGoing, IsHearing, IsTold, KeepsCheckpoints, Since, Story, entries, HasJustBegun, begun_story, story_alone}
 use Rattle.session_following.proofs.Rebased.{StandsThere}
 
 module _ {R : Type 0} where

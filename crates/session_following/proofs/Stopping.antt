@@ -1,36 +1,11 @@
 -- Why a session that follows stops before it is released: it is judged where it stands, or its link is heard in vain.
 use Rattle.item_log.specs.Log as logs
-use Rattle.links.specs.Links.{Coming, Tells, Told}
-use Rattle.links.specs.Seen.{Seen}
-use Rattle.link_gate.specs.Calls.{ComesLast, HearsBy}
-use Rattle.link_gate.specs.declared.heard.HearFault.{HearFault}
 use Rattle.link_gate.specs.declared.heard.HearFault.TheVariants as fault
-use Rattle.run_history.specs.declared.answer.Cause.{Cause}
-use Rattle.run_history.specs.Served.{FailsBy}
-use Rattle.session_history.specs.declared.ends.Stop.{Stop}
 use Rattle.session_history.specs.Heeding as unheeded
-use Rattle.session_history.specs.Heeding.{Unheeded, events_of, refusal}
-use Rattle.session_history.specs.Terms.{Ledger, Log, events_in}
-use Rattle.session_history.proofs.Heeding.{events_alone}
-use Rattle.session_notes.specs.Noting.{Noted}
-use Rattle.session_state.specs.Serving.{IsStopAt}
-use Rattle.session_state.specs.Sessions.{SessionState}
-use Rattle.session_state.proofs.Lemmas.{taken_all}
-use Rattle.session_state.proofs.ending.StartLemmas.{between_counted, between_fits}
 use Rattle.session_state.proofs.guest.ChoiceLemmas.{few_choices}
-use Rattle.trials.proofs.Results.{apart_asks_fails, apart_ended}
-use Rattle.std.specs.Prelude.{Err, replicate, ◌≢◌, ◌^◌}
-use Rattle.std.proofs.lemmas.List.{length-replicate}
-use Rattle.follow.proofs.Terms.{Bool, List, Option, [], ap, append-nil, arith, inl, inr, length, refl, subst, sym, true, ℕ, ◌++◌, ◌+◌, ◌<◌, ◌∙◌, ◌∷◌, ◌≡◌, ◌≤◌, ◌⊎◌, Image, AsksFor, AtExit, AtFailure, AtRequest, Handed, IsSome, IsStuck, Item, LinkEvent, Path, Rules, Stand, heard_alone, items_in, plan_of}
-use Rattle.follow.specs.Plans.{AreWellPlaced}
-use Rattle.session_following.specs.declared.judging.StandKind.{StandKind}
+use Rattle.session_following.proofs.Terms.{Bool, List, Option, [], ap, append-nil, arith, inl, inr, length, refl, subst, sym, true, ℕ, ◌++◌, ◌+◌, ◌<◌, ◌∙◌, ◌∷◌, ◌≡◌, ◌≤◌, ◌⊎◌, length-replicate, Err, IsSome, replicate, ◌^◌, ◌≢◌, Item, LinkEvent, Coming, Tells, Told, events_in, Seen, Log, Ledger, Image, Cause, AsksFor, FailsBy, Path, Stop, events_alone, Unheeded, events_of, items_in, refusal, Rules, HearFault, ComesLast, HearsBy, Noted, apart_asks_fails, apart_ended, heard_alone, AtExit, AtFailure, AtRequest, Handed, IsStuck, Stand, AreWellPlaced, plan_of, between_counted, between_fits, taken_all, IsStopAt, SessionState, StandKind, rules_following, EndsEarly, IsInPlace, IsShort, IsUnlike, NoPlan, OtherAnswer, OtherPlace, Agree, IsJudgedAt, kind_of, HasEndedBehind, HasEndedThere, IsUnfollowedBy, Follows, WaitsOn, held_back, nothing_told}
 use Rattle.session_following.specs.declared.judging.StandKind.TheVariants as stands
 use Rattle.session_following.specs.declared.unfollowed.Unfollowed.TheVariants as unfollowed
-use Rattle.session_following.specs.Answers.{EndsEarly, IsShort, IsUnlike, NoPlan, OtherAnswer, OtherPlace}
-use Rattle.session_following.specs.Followed.{rules_following}
-use Rattle.session_following.specs.Judging.{Agree, IsJudgedAt, kind_of}
-use Rattle.session_following.specs.TakingOver.{HasEndedBehind, HasEndedThere, IsUnfollowedBy}
-use Rattle.session_following.specs.Turning.{Follows, WaitsOn, held_back, nothing_told}
 use Rattle.session_following.proofs.Meets.{between_following}
 use Rattle.session_following.proofs.Waiting.{asks_more, tells_none, tells_one}
 
@@ -157,8 +132,8 @@ module _ (rules : Rules) (image : Image) (handed : Handed) (coming : Option Comi
   unlike_there placed same agree came ends steps (OtherPlace finish stand is late apart never) = (OtherPlace finish stand is late apart never, (came, steps))
   unlike_there placed same agree came ends steps (EndsEarly stand stuck less) = (EndsEarly stand (subst (λ (its : List Item). IsStuck its stand) same stuck) less, (ends stand, steps))
 
-  pub short_there : {conn : ℕ} → (last ≡ []) ⊎ HasEndedBehind rules image handed coming events last → EndsWell → IsShort rules.limits (items_in rules.bounds (heard_alone events)) handed now conn → IsUnfollowedBy rules image handed coming events last now (unfollowed.Short conn)
-  short_there came ends short = (short, (came, inl (ends short.stand)))
+  pub short_there : {conn : ℕ} → (last ≡ []) ⊎ HasEndedBehind rules image handed coming events last → EndsWell → IsShort rules.limits (items_in rules.bounds (heard_alone events)) handed now conn × IsInPlace handed now → IsUnfollowedBy rules image handed coming events last now (unfollowed.Short conn)
+  short_there came ends (short, place) = (short, (came, inl (ends short.stand), place))
 
 -- a run that stands at its request, and isn't stuck there
 module _ (rules : Rules) (image : Image) (handed : Handed) (coming : Option Coming) (events : List LinkEvent) (now : Path) (asks : AsksFor rules.limits (plan_of handed.episodes) now now.state.machine.taken) where
@@ -176,9 +151,9 @@ module _ (rules : Rules) (image : Image) (handed : Handed) (coming : Option Comi
   unlike_here placed agree steps (OtherPlace finish stand is late apart never) = (OtherPlace finish stand is late apart never, (inl refl, steps))
   unlike_here placed agree steps (EndsEarly stand stuck less) = absurd (not_stuck stand stuck)
 
-  pub short_here : {conn : ℕ} → IsShort rules.limits (enough now.state.machine.taken) handed now conn → IsUnfollowedBy rules image handed coming events [] now (unfollowed.Short conn)
-  short_here short =
+  pub short_here : {conn : ℕ} → IsShort rules.limits (enough now.state.machine.taken) handed now conn × IsInPlace handed now → IsUnfollowedBy rules image handed coming events [] now (unfollowed.Short conn)
+  short_here (short, place) =
       elim short.last [
         | inl stuck ↦ absurd (not_stuck short.stand stuck)
-        | inr there ↦ (record { stand = short.stand; last = inr there; files = short.files; more = short.more; first = short.first }, (inl refl, inr there))
+        | inr there ↦ (record { stand = short.stand; last = inr there; files = short.files; more = short.more; first = short.first }, (inl refl, inr there, place))
       ]

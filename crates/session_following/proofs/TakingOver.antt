@@ -1,33 +1,10 @@
 -- A session that takes over, before it followed anything, and where it begins to.
-use Rattle.links.proofs.Growing.{grew_nothing, tells_nothing}
-use Rattle.links.specs.Links.{Grew}
-use Rattle.links.specs.Seen.{Seen}
-use Rattle.session_history.specs.Terms.{LinkEvent}
-use Rattle.session_notes.specs.Noting.{Noted}
-use Rattle.session_state.specs.Sessions.{IsBegun, SessionState}
-use Rattle.trials.proofs.Planned.{start_taken}
-use Rattle.follow.proofs.Terms.{Bool, List, Some, [], ap, arith, drop, inr, length, length-append, refl, subst, sym, take, ℕ, ◌++◌, ◌∙◌, ◌∷◌, ◌≡◌, served_same, Heap, Image, Override, Path, Rules, Send, env_at, items_in, origin, plan_of, Handed, heard_alone}
-use Rattle.guest_cpu.specs.Serving.{standing_of}
-use Rattle.links.specs.Links.{IsFresh}
-use Rattle.recovery.specs.Handling.{alone, stands_of}
-use Rattle.recovery.specs.Rings.{KeepsRing}
-use Rattle.run_history.specs.Machine.{start, start_machine}
-use Rattle.session_history.specs.Heeding.{nothing_before}
-use Rattle.session_state.specs.Options.{rules_in}
-use Rattle.session_state.specs.Serving.{rules_by}
-use Rattle.session_state.proofs.ending.StartLemmas.{starts_at, starts_between}
-use Rattle.session_following.specs.declared.unfollowed.Unfollowed.{Unfollowed}
-use Rattle.session_following.specs.Following.{came_before, rules_after}
-use Rattle.session_following.specs.Followed.{IsFollowing, followed_before}
-use Rattle.session_following.specs.Missing.{IsMissing}
-use Rattle.session_following.specs.Moving.{before_begun, path_at}
-use Rattle.session_following.specs.Turning.{Follows, held_back, marked, nothing_told}
+use Rattle.session_following.proofs.Terms.{Bool, List, Some, [], ap, arith, drop, inr, length, length-append, refl, subst, sym, take, ℕ, ◌++◌, ◌∙◌, ◌∷◌, ◌≡◌, Send, LinkEvent, grew_nothing, tells_nothing, Grew, IsFresh, Seen, Heap, Image, start, start_machine, Override, Path, env_at, origin, standing_of, served_same, items_in, nothing_before, Rules, Noted, start_taken, heard_alone, Handed, plan_of, alone, stands_of, KeepsRing, starts_at, starts_between, rules_in, rules_by, IsBegun, SessionState, Unfollowed, came_before, rules_after, before_begun, path_at, IsFollowing, followed_before, IsMissing, IsUnfollowed, IsUnfollowedBy, Follows, held_back, marked, nothing_told}
 use Rattle.session_following.proofs.Following.{start_sends, started_following}
 use Rattle.session_following.proofs.Holding.{following_holding}
 use Rattle.session_following.proofs.Meets.{is_marked}
 use Rattle.session_following.proofs.Moving.{start_before}
 use Rattle.session_following.proofs.Turning.{past_following}
-use Rattle.session_following.specs.TakingOver.{IsUnfollowed, IsUnfollowedBy}
 
 module _ {R : Type 0} where
   pub nothing_followed : {rules : Rules} {image : Image} {handed : Handed} {seen : Seen} {shown : Noted} {counted : ℕ} {session : SessionState R} (why : Unfollowed) → IsBegun image session.options session.cpu.rule session → counted ≡ 0

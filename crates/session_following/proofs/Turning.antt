@@ -1,40 +1,12 @@
 -- What a turn makes of a session that follows: its guest ran to an event.
-use Rattle.guest_cpu.specs.declared.event.Event.{Event}
-use Rattle.guest_cpu.specs.Cpus.{CpuState, live_of, with_live}
-use Rattle.guest_cpu.specs.Serving.{standing_of}
-use Rattle.guest_cpu.specs.Writing.{RunsWriting, Writes}
 use Rattle.guest_cpu.proofs.RunLemmas.{runs_write}
 use Rattle.rv_exec.specs.Stepping.{limits_of}
 use Rattle.std.specs.declared.alloc.AllocError.{AllocError}
-use Rattle.std.specs.Prelude.{Result, ◌≢◌}
-use Rattle.block_book.specs.declared.choice.Choice.{Choice}
-use Rattle.links.specs.Links.{Grew, Phases, Tells, Told}
-use Rattle.links.specs.Seen.{Seen}
 use Rattle.session_history.specs.declared.ends.SessionBreak.TheVariants as session_break
 use Rattle.session_history.specs.declared.ends.Stop.TheVariants as stop
-use Rattle.reply_ledger.specs.Ledger.{IsOpened, Ledger}
-use Rattle.session_history.specs.Heeding.{Before, nothing_before}
-use Rattle.session_history.specs.Keeping.{IsSendable}
-use Rattle.session_notes.specs.Noting.{Noted}
-use Rattle.session_state.specs.Options.{rules_in}
-use Rattle.session_state.specs.Serving.{IsCounted, rules_by}
-use Rattle.session_state.specs.Sessions.{SessionState, env_of}
-use Rattle.session_state.specs.Standing.{Since}
 use Rattle.session_state.proofs.ending.TurnLemmas.{Ran}
-use Rattle.session_state.proofs.standing.CheckpointLemmas.{HasSameSide}
-use Rattle.follow.proofs.Terms.{Bool, List, None, Option, [], ap, append-nil, arith, cond, drop, inl, length, ltb, refl, subst, sym, take, ℕ, ◌++◌, ◌+◌, ◌∙◌, ◌∷◌, ◌≡◌, ◌≤◌, Image, Env, Plain, Heap, Limits, LinkEvent, Override, Path, Rules, env_at, items_in, plan_of, Send, Handed, heard_alone}
-use Rattle.session_following.specs.declared.unfollowed.Unfollowed.{Unfollowed}
+use Rattle.session_following.proofs.Terms.{Bool, List, None, Option, [], ap, append-nil, arith, cond, drop, inl, length, ltb, refl, subst, sym, take, ℕ, ◌++◌, ◌+◌, ◌∙◌, ◌∷◌, ◌≡◌, ◌≤◌, Result, ◌≢◌, Send, LinkEvent, Grew, Phases, Tells, Told, Seen, Choice, Heap, Env, Plain, IsOpened, Ledger, Image, Limits, Override, Path, env_at, Event, CpuState, live_of, with_live, standing_of, RunsWriting, Writes, Before, items_in, nothing_before, IsSendable, Rules, Noted, heard_alone, Handed, plan_of, HasSameSide, rules_in, IsCounted, rules_by, SessionState, env_of, Since, Unfollowed, plan_up_to, rules_after, HasJustBegun, held_count, with_held, before_moved, before_sent, IsFollowing, followed_before, rules_following, OtherAnswer, IsMissing, Agree, IsOther, IsUnfollowed, IsUnfollowedBy, Follows, HasRunOn, held_back, marked}
 use Rattle.session_following.specs.declared.unfollowed.Unfollowed.TheVariants as unfollowed
-use Rattle.session_following.specs.Following.{plan_up_to, rules_after}
-use Rattle.session_following.specs.Followed.{IsFollowing, followed_before, rules_following}
-use Rattle.session_following.specs.Standing.{HasJustBegun}
-use Rattle.session_following.specs.TakingOver.{IsUnfollowed, IsUnfollowedBy}
-use Rattle.session_following.specs.Answers.{OtherAnswer}
-use Rattle.session_following.specs.Judging.{Agree, IsOther}
-use Rattle.session_following.specs.Missing.{IsMissing}
-use Rattle.session_following.specs.Moving.{before_moved, before_sent}
-use Rattle.session_following.specs.Turning.{Follows, HasRunOn, held_back, marked}
-use Rattle.session_following.specs.Sending.{held_count, with_held}
 use Rattle.session_following.proofs.Following.{sent_following, went_following, whole_following}
 use Rattle.session_following.proofs.Holding.{following_holding}
 use Rattle.session_following.proofs.Moving.{moved_before, sent_before}

@@ -1,42 +1,14 @@
 -- What a session that follows does at its request: it is handled as by an ordinary session, the link is heard, and an item is taken.
 use Rattle.item_log.specs.Log as logs
-use Rattle.links.proofs.Growing.{tells_then}
 use Rattle.links.specs.declared.journal.Entry.TheVariants as entry
 use Rattle.links.specs.declared.journal.LinkEvent.TheVariants as event
-use Rattle.links.specs.Links.{Grew, Tells, Told}
-use Rattle.links.specs.Seen.{Seen}
 use Rattle.link_gate.specs.declared.heard.Heard as heard_type
-use Rattle.link_gate.specs.Calls.{ComesLast, HearsEvent, IsShown, MayHear}
 use Rattle.link_gate.specs.declared.heard.Heard.TheVariants as heard
-use Rattle.link_gate.specs.declared.heard.HearFault.{HearFault}
-use Rattle.guest_cpu.specs.Runs.{IsSilent}
 use Rattle.guest_cpu.proofs.TakeLemmas.{takes_write}
-use Rattle.reply_ledger.specs.Ledger.{closed_connection, with_change}
-use Rattle.session_history.specs.Heeding.{Before, Bounds, events_of, nothing_before}
-use Rattle.session_history.specs.Keeping.{KeepsItems, KeepsPhases, KeepsReplies}
-use Rattle.session_history.specs.Hearing.{closing_of}
-use Rattle.session_history.specs.Terms.{Entry, Ledger, Log, Send}
-use Rattle.session_notes.specs.Noting.{Noted}
-use Rattle.session_state.specs.Serving.{rules_by}
 use Rattle.session_state.specs.declared.options.Options.{Options}
-use Rattle.session_state.specs.Sessions.{SessionState}
-use Rattle.session_state.specs.Standing.{IsGoing, IsWaitingFor, Since, Story}
-use Rattle.session_state.proofs.events.HearingLemmas.{HeardEvent, with_heard}
-use Rattle.session_state.proofs.guest.GuestLemmas.{received_is}
-use Rattle.trials.specs.Episodes.{episode_of}
-use Rattle.trials.proofs.Asking.{asks_under_all}
-use Rattle.std.specs.Prelude.{Ok, Result}
-use Rattle.std.proofs.lemmas.List.{map-append}
-use Rattle.std.proofs.lemmas.Option.{slice_get-get_or}
 use Rattle.std.specs.Prelude.{get_or}
-use Rattle.follow.proofs.Terms.{Bool, List, None, [], ap, append-nil, arith, inl, inr, length, map, refl, subst, sym, true, ℕ, ◌++◌, ◌+◌, ◌<◌, ◌∙◌, ◌∷◌, ◌≡◌, ◌≤◌, ◌⊎◌, Image, AsksFor, AsksForMore, Choice, Heap, Item, Limits, LinkEvent, Override, Path, Rules, Served, env_at, items_in, received, plan_of, Handed, heard_alone}
-use Rattle.session_following.specs.Following.{plan_up_to}
-use Rattle.session_following.specs.Followed.{IsFollowing, rules_following}
-use Rattle.session_following.specs.Judging.{Agree}
-use Rattle.session_following.specs.Missing.{IsMissing}
-use Rattle.session_following.specs.Moving.{before_heard, before_took}
+use Rattle.session_following.proofs.Terms.{Bool, List, None, [], ap, append-nil, arith, inl, inr, length, map, refl, subst, sym, true, ℕ, ◌++◌, ◌+◌, ◌<◌, ◌∙◌, ◌∷◌, ◌≡◌, ◌≤◌, ◌⊎◌, map-append, slice_get-get_or, Ok, Result, Item, Send, Entry, LinkEvent, tells_then, Grew, Tells, Told, Seen, Choice, Heap, Log, Ledger, closed_connection, with_change, Image, AsksFor, Limits, Override, Path, Served, env_at, IsSilent, closing_of, Before, Bounds, events_of, items_in, nothing_before, received, KeepsItems, KeepsPhases, KeepsReplies, Rules, HearFault, ComesLast, HearsEvent, IsShown, MayHear, Noted, asks_under_all, episode_of, AsksForMore, heard_alone, Handed, plan_of, HeardEvent, with_heard, received_is, rules_by, SessionState, IsGoing, IsWaitingFor, Since, Story, plan_up_to, before_heard, before_took, IsFollowing, rules_following, IsMissing, Agree, AsksOn, Follows, WaitsOn, held_back, marked, nothing_told}
 use Rattle.session_following.specs.Waiting.{AnswersSame, EndedOn}
-use Rattle.session_following.specs.Turning.{AsksOn, Follows, WaitsOn, held_back, marked, nothing_told}
 use Rattle.session_following.proofs.Following.{items_following, kept_following, took_following, took_one, whole_following}
 use Rattle.session_following.proofs.Hearing.{close_following, event_following}
 use Rattle.session_following.proofs.Meets.{is_marked, marked_following}

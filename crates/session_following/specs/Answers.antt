@@ -1,11 +1,7 @@
 -- Why a session that follows isn't released: its run isn't that of the record and the report, or hasn't sent what clients have.
 use Rattle.std.specs.Prelude.{◌≡◌, ◌⊎◌, ℕ, ◌<◌, ◌≤◌, List, None, Some, IfSome, length}
-use Rattle.session_history.specs.Terms.{Item, Limits, Path, Prefix, output}
-use Rattle.follow.specs.Terms.{last_or}
-use Rattle.follow.specs.Plans.{AreWellPlaced, plan_of}
-use Rattle.follow.specs.Held.{count_of}
-use Rattle.follow.specs.Handed.{Finish, Handed, HasReached, IsPastFailure, IsStuck, Stand}
-use Rattle.follow.specs.Takeover.{IsFollowed, IsTakeover, Takeover, heard_first}
+use Rattle.run_history.specs.Run.{output}
+use Rattle.session_following.specs.Terms.{last_or, Item, Prefix, Limits, Path, Finish, Handed, HasReached, IsPastFailure, IsStuck, Stand, count_of, AreWellPlaced, plan_of, IsFollowed, IsTakeover, Takeover, heard_first}
 
 -- A run that stands there has reached all that record and report tell: it is past the last episode, had each answer of the record, and stands at or behind its
 -- last line.
@@ -18,9 +14,13 @@ pub record HasReachedFiles (limits : Limits) (handed : Handed) (path : Path) (st
 abbrev pub IsAtFinish : Handed → Path → Finish → Type 0
 IsAtFinish handed path finish = (handed.finish ≡ Some finish) × (path.steps ≡ finish.steps) × (path.state.machine.taken ≡ finish.taken)
 
+-- where it is at or behind the record's last line, it is where that says
+abbrev pub IsInPlace : Handed → Path → Type 0
+IsInPlace handed path = (finish : Finish) → handed.finish ≡ Some finish → finish.steps ≤ path.steps → IsAtFinish handed path finish
+
 -- Record and report aren't of this program and these items: the run had an answer of the allocator that isn't the record's; or it stands at or behind the record's
--- last line, and not where that says, and hasn't reached what was handed over; or it can't go on, and hasn't reached what they tell. Or the report is of no session: a trial that it adopts wasn't in force
--- at its failure.
+-- last line, and not where that says, and hasn't reached what was handed over; or it can't go on, and hasn't reached what they tell. Or the report is of no
+-- session: a trial that it adopts wasn't in force at its failure.
 pub data IsUnlike (limits : Limits) (items : List Item) (handed : Handed) (path : Path) : Type 0 where
   OtherAnswer : ¬ Prefix handed.choices path.choices → ¬ Prefix path.choices handed.choices → IsUnlike limits items handed path
   OtherPlace :

@@ -1,14 +1,6 @@
 -- A session that follows another host's run.
 use Rattle.std.specs.Prelude.{◌≡◌, ◌+◌, List}
-use Rattle.session_history.specs.Terms.{Image, LinkEvent, Path, Phases, env_at, events_in}
-use Rattle.session_history.specs.Heeding.{Before, items_in}
-use Rattle.session_history.specs.Lawful.{Rules}
-use Rattle.follow.specs.Plans.{plan_of}
-use Rattle.follow.specs.Held.{held}
-use Rattle.follow.specs.Handed.{Handed}
-use Rattle.follow.specs.Following.{heard_alone}
-use Rattle.session_state.specs.Sessions.{SessionState}
-use Rattle.session_state.specs.Standing.{Since}
+use Rattle.session_following.specs.Terms.{LinkEvent, Phases, events_in, Image, Path, env_at, Before, items_in, Rules, heard_alone, Handed, held, plan_of, SessionState, Since}
 use Rattle.session_following.specs.Following.{came_before, plan_up_to, rules_after}
 use Rattle.session_following.specs.Reaching.{HasAskedBefore, HasNotReached}
 use Rattle.session_following.specs.Standing.{HasJustBegun}

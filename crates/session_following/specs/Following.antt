@@ -1,8 +1,6 @@
 -- What came before a session that follows, where its run stands.
 use Rattle.std.specs.Prelude.{ℕ, ◌+◌, List, [], ◌∷◌, suc, zero, Some}
-use Rattle.session_history.specs.Terms.{LinkEvent, Send, Override, Path, env_at}
-use Rattle.session_history.specs.Lawful.{Rules}
-use Rattle.session_history.specs.Heeding.{Before}
+use Rattle.session_following.specs.Terms.{Send, LinkEvent, Override, Path, env_at, Before, Rules}
 
 -- the rules of a session before which this came
 abbrev pub rules_after : Rules → Before → Rules

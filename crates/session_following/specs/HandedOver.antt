@@ -1,8 +1,6 @@
 -- What a second host is handed, as the code has it at hand.
 use Rattle.std.specs.Prelude.{option_map}
-use Rattle.follow.specs.Handed.{Finish, Handed}
-use Rattle.session_following.specs.declared.handed_over.HandedOver.{HandedOver}
-use Rattle.session_following.specs.declared.handed_over.Place.{Place}
+use Rattle.session_following.specs.Terms.{Finish, Handed, HandedOver, Place}
 
 -- where the record's last line says that its run stood
 abbrev pub finish_of : Place → Finish

@@ -1,16 +1,11 @@
 -- What is said of a run that follows, where it stands.
 use Rattle.std.specs.Prelude.{◌≡◌, ◌≢◌, ◌⊎◌, ℕ, ◌<◌, ◌≤◌, Bool, true, false, List, length, Option, None, Some, IfSome}
-use Rattle.session_history.specs.Terms.{Item, Limits, Path, Prefix}
-use Rattle.follow.specs.Terms.{Choice, Episode, Override, last_or}
-use Rattle.follow.specs.Plans.{plan_of}
-use Rattle.follow.specs.Handed.{AtExit, AtFailure, AtRequest, Finish, Handed, HasReached, IsStuck, Stand}
-use Rattle.session_following.specs.declared.handed_over.HandedOver.{HandedOver}
-use Rattle.session_following.specs.declared.handed_over.Place.{Place}
+use Rattle.session_following.specs.Terms.{last_or, Item, Prefix, Choice, Limits, Override, Path, Episode, AtExit, AtFailure, AtRequest, Handed, HasReached, IsStuck, Stand, plan_of, HandedOver, Place}
 use Rattle.session_following.specs.declared.judging.Judged.{Judged}
 use Rattle.session_following.specs.declared.judging.Judged.TheVariants.{GoesOn, Reached, Short, Unlike}
 use Rattle.session_following.specs.declared.judging.StandKind.{StandKind}
 use Rattle.session_following.specs.declared.judging.StandKind.TheVariants.{Exit, Failure, Request}
-use Rattle.session_following.specs.Answers.{IsAtFinish, IsShort, IsUnlike}
+use Rattle.session_following.specs.Answers.{IsInPlace, IsShort, IsUnlike}
 use Rattle.session_following.specs.Missing.{IsMissing}
 
 -- the answers of a run and those of the record are the same, as far as both go
@@ -27,8 +22,8 @@ kind_of (AtRequest asks) = Request
 kind_of (AtExit ended) = Exit
 kind_of (AtFailure cause fails) = Failure
 
--- What is known where a run is judged: how it stands there, how many items it took, how many instructions and answers of the allocator it has; what clients lack of what it
--- sent; that its answers are the record's so far; and, where it is said to be stuck, as it is at an exit and at a failure, that it can't go on.
+-- What is known where a run is judged: how it stands there, how many items it took, how many instructions and answers of the allocator it has; what clients lack
+-- of what it sent; that its answers are the record's so far; and, where it is said to be stuck, as it is at an exit and at a failure, that it can't go on.
 pub record IsJudgedAt (limits : Limits) (items : List Item) (handed : Handed) (path : Path) (stand : Stand limits (plan_of handed.episodes) path) (missing : List ℕ) (kind : StandKind) (taken steps chosen : ℕ) (stuck : Bool) : Type 0 where
   pub kind_is : kind_of stand ≡ kind
   pub taken_are : path.state.machine.taken ≡ taken
@@ -43,14 +38,14 @@ pub record IsJudgedAt (limits : Limits) (items : List Item) (handed : Handed) (p
 pub record MayReach (limits : Limits) (handed : Handed) (path : Path) (stuck : Bool) : Type 0 where
   pub not_yet : (stand : Stand limits (plan_of handed.episodes) path) → ¬ HasReached limits handed path stand
   pub goes_on : stuck ≡ false
-  pub place : (finish : Finish) → handed.finish ≡ Some finish → finish.steps ≤ path.steps → IsAtFinish handed path finish
+  pub place : IsInPlace handed path
 
--- what each answer says
+-- What each answer says. A client is said to have more only where the run isn't elsewhere than the record's last line says.
 abbrev pub IsJudged : (limits : Limits) (items : List Item) (handed : Handed) (path : Path) → Stand limits (plan_of handed.episodes) path → Bool → Judged → Type 0
 IsJudged limits items handed path stand stuck GoesOn = MayReach limits handed path stuck
 IsJudged limits items handed path stand stuck Reached = HasReached limits handed path stand
 IsJudged limits items handed path stand stuck Unlike = IsUnlike limits items handed path
-IsJudged limits items handed path stand stuck (Short conn) = IsShort limits items handed path conn
+IsJudged limits items handed path stand stuck (Short conn) = IsShort limits items handed path conn × IsInPlace handed path
 
 -- Below: what the parts of the code answer. Nothing of it is promised to callers of the crate.
 

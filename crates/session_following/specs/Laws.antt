@@ -1,14 +1,6 @@
 -- What holds of a session that follows, whatever its steps are.
 use Rattle.std.specs.Prelude.{◌≡◌, ℕ, ◌-◌, ◌<◌, ◌≤◌, List, [], ◌∷◌, ◌++◌, None, length, take}
-use Rattle.alloc_env.specs.declared.env.Env.TheVariants.{Plain}
-use Rattle.reply_ledger.specs.Ledger.{IsOpened}
-use Rattle.session_history.specs.Terms.{Image, Item, Ledger, Override, Path, Send, Served, env_at, origin, sent_to}
-use Rattle.session_history.specs.Heeding.{Before, events_of}
-use Rattle.session_history.specs.Keeping.{IsSendable, KeepsReplies}
-use Rattle.session_history.specs.Lawful.{Rules}
-use Rattle.follow.specs.Plans.{plan_of}
-use Rattle.follow.specs.Held.{count_of, held}
-use Rattle.follow.specs.Handed.{Handed}
+use Rattle.session_following.specs.Terms.{Item, Send, sent_to, Plain, IsOpened, Ledger, Image, Override, Path, Served, env_at, origin, Before, events_of, IsSendable, KeepsReplies, Rules, Handed, count_of, held, plan_of}
 use Rattle.session_following.specs.Following.{plan_up_to, rules_after}
 use Rattle.session_following.specs.Reaching.{HasNotReached}
 use Rattle.session_following.specs.Sending.{held_count, with_held}

@@ -1,3 +1,4 @@
+pub mod Terms
 pub mod Following
 pub mod Reaching
 pub mod Standing

@@ -1,7 +1,6 @@
 -- How many bytes clients lack: those that they have, and that weren't sent yet.
 use Rattle.std.specs.Prelude.{◌≡◌, ℕ, ◌-◌, ◌<◌, ◌≤◌, List, length, Option, Some, None, slice_index}
-use Rattle.follow.specs.Terms.{Send, sent_to}
-use Rattle.follow.specs.Held.{count_of}
+use Rattle.session_following.specs.Terms.{Send, sent_to, count_of}
 use Rattle.session_following.specs.declared.missing.TheConstants.{NUMBERS}
 
 -- the number at each connection is how many bytes its client has beyond those that were sent to it; so a connection without a number lacks none

@@ -1,10 +1,7 @@
 -- What came before a session that follows, behind each of its steps: what its code has at hand tells it.
 use Rattle.std.specs.Prelude.{ℕ, ◌+◌, List, [], ◌∷◌, ◌++◌, option_map, take}
 use Rattle.links.specs.declared.journal.Entry.TheVariants as entry
-use Rattle.alloc_env.specs.declared.env.Env.{Env}
-use Rattle.guest_cpu.specs.Standing.{Standing}
-use Rattle.session_history.specs.Terms.{Choice, Image, LinkEvent, Override, Path, Send, events_in, origin}
-use Rattle.session_history.specs.Heeding.{Before}
+use Rattle.session_following.specs.Terms.{Send, LinkEvent, events_in, Choice, Env, Image, Override, Path, origin, Standing, Before}
 use Rattle.session_following.specs.Following.{came_before}
 
 -- a run by where its guest stands, its sends and the answers of the allocator that it used

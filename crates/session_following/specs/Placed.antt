@@ -1,7 +1,6 @@
 -- The environment that is in force behind the last failure of a report.
 use Rattle.std.specs.Prelude.{◌≡◌, ℕ, ◌+◌, ◌≤◌, Option, None, Some, IsSome}
-use Rattle.follow.specs.Terms.{Episode}
-use Rattle.follow.specs.Plans.{adopted_try}
+use Rattle.session_following.specs.Terms.{Episode, adopted_try}
 
 -- a last episode, if there is one, has a trial that survived, and so many items were taken since or more
 abbrev pub IsFollowedBy : ℕ → Option Episode → Type 0

@@ -1,10 +1,6 @@
 -- That a run that follows hasn't reached yet what was handed over.
 use Rattle.std.specs.Prelude.{◌≡◌, ◌<◌, List, ◌∷◌, ◌++◌}
-use Rattle.session_history.specs.Terms.{Image, Item, Limits, LinkEvent, Path, Served, origin}
-use Rattle.session_history.specs.Lawful.{Rules}
-use Rattle.follow.specs.Plans.{plan_of}
-use Rattle.follow.specs.Handed.{Handed, HasReached, Stand}
-use Rattle.follow.specs.Following.{AsksForMore}
+use Rattle.session_following.specs.Terms.{Item, LinkEvent, Image, Limits, Path, Served, origin, Rules, AsksForMore, Handed, HasReached, Stand, plan_of}
 
 -- where it stands now it hasn't reached it
 abbrev pub IsNotReached : Limits → Handed → Path → Type 0

@@ -1,8 +1,6 @@
 -- What a session that follows notes of a send: it is a send of its run, and what clients have of it is passed.
 use Rattle.std.specs.Prelude.{ℕ, ◌-◌, ◌==◌, List, length, take, if◌then◌else◌}
-use Rattle.reply_ledger.specs.Ledger.{with_passed, with_send}
-use Rattle.session_history.specs.Terms.{Ledger, Send, sent_to}
-use Rattle.follow.specs.Held.{count_of}
+use Rattle.session_following.specs.Terms.{Send, sent_to, Ledger, with_passed, with_send, count_of}
 
 -- how many bytes of a send clients have, behind other sends
 abbrev pub held_count : List (ℕ × ℕ) → List Send → Send → ℕ

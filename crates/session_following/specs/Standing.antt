@@ -1,11 +1,6 @@
 -- Where a session stands that has just begun where the run of another one stands.
 use Rattle.std.specs.Prelude.{◌≡◌, List, [], None}
-use Rattle.session_history.specs.Serving.{IsSoundBefore, first_survivor}
-use Rattle.session_history.specs.Lawful.{Rules, Survivor}
-use Rattle.session_history.specs.Keeping.{KeepsReplies}
-use Rattle.session_history.specs.Terms.{Entry, Image, Phases}
-use Rattle.session_state.specs.Sessions.{SessionState}
-use Rattle.session_state.specs.Standing.{AnswersFor, GoesWith, KeepsCheckpoints, Since, Story, sends}
+use Rattle.session_following.specs.Terms.{Entry, Phases, Image, KeepsReplies, Rules, Survivor, IsSoundBefore, first_survivor, SessionState, AnswersFor, GoesWith, KeepsCheckpoints, Since, Story, sends}
 
 -- a story without a recovery
 abbrev pub story_alone : Survivor → List Entry → Story

@@ -2,35 +2,14 @@
 -- before that.
 use Rattle.std.specs.Prelude.{◌≡◌, ◌≢◌, ◌⊎◌, ℕ, ◌+◌, ◌<◌, ◌≤◌, List, [], ◌∷◌, ◌++◌, length, take, drop, All, AllPairs, Option, None, Some, IfSome, IsSome, Result, Ok, Err, true, false}
 use Rattle.links.specs.declared.journal.LinkEvent.TheVariants.{Ends as EndOfLink}
-use Rattle.links.specs.Links.{Coming, Grew, IsNext, Refuses, Tells, Told}
-use Rattle.links.specs.Seen.{Seen}
-use Rattle.item_log.specs.Log.{IsPieceOf}
-use Rattle.run_history.specs.declared.answer.Answer.{Answer}
 use Rattle.counts_file.specs.Counts.{AreCounts}
 use Rattle.session_history.specs.declared.ends.SessionBreak.TheVariants as session_break
 use Rattle.session_history.specs.declared.ends.SessionEnd.TheVariants as session_end
-use Rattle.session_history.specs.declared.ends.Stop.{Stop}
 use Rattle.session_history.specs.declared.ends.Stop.TheVariants as stop
-use Rattle.session_history.specs.Ends.{StaysKnown, answer_of}
 use Rattle.session_history.specs.Heeding as unheeded
-use Rattle.session_history.specs.Heeding.{Bounds, Unheeded, events_of, items_in, refusal}
-use Rattle.session_history.specs.Lawful.{Rules}
-use Rattle.session_history.specs.Terms.{Image, Item, LinkEvent, Path, Served, origin}
-use Rattle.session_notes.specs.declared.episode.Episode.{Episode}
-use Rattle.session_notes.specs.declared.episode.Try.{Try}
-use Rattle.session_notes.specs.Noting.{Noted, Shown}
-use Rattle.recovery.specs.Handling.{Keeping}
-use Rattle.session_state.specs.Leaving.{LeavesBy, keeping_of}
-use Rattle.session_state.specs.Options.{keeping_for}
-use Rattle.session_state.specs.Recovered.{HasWatched}
-use Rattle.session_state.specs.Serving.{LinkAnswers, NotesAnswer, outcome_of}
-use Rattle.session_state.specs.Sessions.{IsBegun, SessionState}
-use Rattle.follow.specs.Plans.{adopted_try, plan_of}
-use Rattle.follow.specs.Handed.{AtExit, AtFailure, AtRequest, Finish, Handed, Stand}
-use Rattle.follow.specs.Following.{AsksForMore, HasFollowed, heard_alone, rules_behind}
-use Rattle.session_following.specs.declared.unfollowed.Unfollowed.{Unfollowed}
+use Rattle.session_following.specs.Terms.{Item, LinkEvent, Coming, Grew, IsNext, Refuses, Tells, Told, Seen, Choice, IsPieceOf, Image, Answer, Path, Served, origin, Stop, StaysKnown, answer_of, Bounds, Unheeded, events_of, items_in, refusal, Rules, Episode, Try, Noted, Shown, Unnoted, AsksForMore, HasFollowed, heard_alone, rules_behind, AtExit, AtFailure, AtRequest, Finish, Handed, Stand, adopted_try, plan_of, Keeping, LeavesBy, keeping_of, keeping_for, FailsAtChoices, HasWatched, LinkAnswers, NotesAnswer, outcome_of, IsBegun, SessionState, Unfollowed}
 use Rattle.session_following.specs.declared.unfollowed.Unfollowed.TheVariants as unfollowed
-use Rattle.session_following.specs.Answers.{EndsEarly, IsAtFinish, IsShort, IsUnlike, NoPlan, OtherAnswer, OtherPlace}
+use Rattle.session_following.specs.Answers.{EndsEarly, IsAtFinish, IsInPlace, IsShort, IsUnlike, NoPlan, OtherAnswer, OtherPlace}
 use Rattle.session_following.specs.Reaching.{HasAskedBefore, HasNotReached}
 
 -- What may be handed over: counts of clients that are in range and rise; and episodes whose points rise, of each of which a trial survived.
@@ -70,10 +49,10 @@ MismatchesAt rules image handed coming events last now step (OtherAnswer one oth
 MismatchesAt rules image handed coming events last now step (OtherPlace finish stand is late apart never) = ((last ≡ []) ⊎ HasEndedBehind rules image handed coming events last) × (now.steps ≡ step)
 MismatchesAt rules image handed coming events last now step (EndsEarly stand stuck less) = HasEndedThere rules image handed coming events last stand × (now.steps ≡ step)
 
--- A client has more than was sent to it: the run can't go on, or stands where the record's last line says.
+-- A client has more than was sent to it: the run can't go on, or stands where the record's last line says. It isn't elsewhere than that says.
 abbrev pub IsShortBy : (rules : Rules) (image : Image) (handed : Handed) (coming : Option Coming) (events last : List LinkEvent) {items : List Item} {now : Path} {conn : ℕ} → IsShort rules.limits items handed now conn → Type 0
 IsShortBy rules image handed coming events last {now = now} short =
-    ((last ≡ []) ⊎ HasEndedBehind rules image handed coming events last) × (HasEndedThere rules image handed coming events last short.stand ⊎ ((finish : Finish) × IsAtFinish handed now finish))
+    ((last ≡ []) ⊎ HasEndedBehind rules image handed coming events last) × (HasEndedThere rules image handed coming events last short.stand ⊎ ((finish : Finish) × IsAtFinish handed now finish)) × IsInPlace handed now
 
 -- an event was asked for behind those, and this one was refused for this cause
 pub record IsRefusedBehind (rules : Rules) (image : Image) (handed : Handed) (events last : List LinkEvent) (cause : Unheeded) : Type 0 where
@@ -116,6 +95,13 @@ stop_as (unfollowed.Mismatch step) = stop.Ends session_end.Finished
 stop_as (unfollowed.Short conn) = stop.Ends session_end.Finished
 stop_as (unfollowed.Stops why) = why
 
+-- What calls of notes have failed where a session that follows comes to this: none; where noting failed, one that was handed some of these answers of the
+-- allocator, the first ones; and where memory ran out, perhaps such a one.
+abbrev pub UnnotedBy : Option Unnoted → Option Unnoted → List Choice → Result (Unit {0}) Stop → Type 0
+UnnotedBy old new choices (Err (stop.Breaks session_break.FileFault)) = FailsAtChoices old new choices
+UnnotedBy old new choices (Err (stop.Breaks session_break.Memory)) = (new ≡ old) ⊎ FailsAtChoices old new choices
+UnnotedBy old new choices _ = new ≡ old
+
 -- A session that followed wasn't released, as data: the events that it followed, and where its run stands, under the plan of the report. It stood nowhere before
 -- where it had reached what was handed over, and each event came where it asked for more. It heard those events alone, and perhaps one more, and gave nothing; that
 -- is why. Its notes have the first of the run's answers of the allocator, and no episode, and the session has the others. So many instructions were counted as the
@@ -157,6 +143,7 @@ module _ {R : Type 0} where
     pub unfollowed : (image : Image) → IsBegun image old.options old.cpu.rule old → IsUnfollowed rules image handed before.told seen shown.told now.told counted new why
     pub failed : (image : Image) (begun : IsBegun image old.options old.cpu.rule old) → seen.takes ≡ false → AsksForMore rules image handed (unfollowed image begun).events
     pub gives : seen.gives ≡ true
+    pub unnoted : UnnotedBy shown.told.unnoted now.told.unnoted new.choices (Err (stop_as why))
     pub tables_same : tables ≡ tables_before
     pub link : LinkAnswers before seen (stop_as why)
     pub notes : NotesAnswer shown now (stop_as why)

@@ -1,32 +1,10 @@
 -- Where a session stands that follows, between two events of its guest.
 use Rattle.std.specs.Prelude.{◌≡◌, ◌≢◌, ◌<◌, ◌^◌, ℕ, List, [], All, Bool, true, false, Option, None, Some, IsSome, Result, Ok, Err, IfOk}
-use Rattle.links.specs.Links.{Grew, Tells, Told}
-use Rattle.links.specs.Seen.{Seen}
-use Rattle.run_history.specs.declared.answer.Answer.{Answer}
-use Rattle.run_history.specs.declared.answer.Cause.{Cause}
-use Rattle.guest_cpu.specs.declared.event.Event.{Event}
-use Rattle.guest_cpu.specs.Cpus.{live_of, with_live}
-use Rattle.guest_cpu.specs.Writing.{RunsWriting}
 use Rattle.session_history.specs.declared.ends.SessionEnd.TheVariants as session_end
-use Rattle.session_history.specs.declared.ends.Stop.{Stop}
 use Rattle.session_history.specs.declared.ends.Stop.TheVariants as stop
-use Rattle.session_history.specs.Ends.{answer_of}
-use Rattle.session_history.specs.Heeding.{items_in, nothing_before}
-use Rattle.session_history.specs.Lawful.{Rules}
-use Rattle.session_history.specs.Terms.{AsksFor, FailsBy, Image, LinkEvent, Path}
-use Rattle.session_notes.specs.declared.episode.Try.{Try}
-use Rattle.session_notes.specs.declared.episode.Episode.{Episode}
-use Rattle.session_notes.specs.Noting.{Noted, Shown}
-use Rattle.follow.specs.Handed.{Handed, HasReached, Stand}
-use Rattle.follow.specs.Following.{HasFollowed, heard_alone, rules_behind}
-use Rattle.follow.specs.Plans.{AreWellPlaced, adopted_try, plan_of}
-use Rattle.session_state.specs.Leaving.{IsTrimmed, keeping_of}
-use Rattle.session_state.specs.Serving.{IsCounted, LinkAnswers, LinkServes, MayServe, NotesAnswer, NotesServe}
-use Rattle.session_state.specs.Sessions.{SessionState}
-use Rattle.session_state.specs.Standing.{IsEnding, Since, told_since}
+use Rattle.session_following.specs.Terms.{LinkEvent, Grew, Tells, Told, Seen, Image, Answer, Cause, AsksFor, FailsBy, Path, Event, live_of, with_live, RunsWriting, Stop, answer_of, items_in, nothing_before, Rules, Episode, Try, Noted, Shown, HasFollowed, heard_alone, rules_behind, Handed, HasReached, Stand, AreWellPlaced, adopted_try, plan_of, IsTrimmed, keeping_of, IsCounted, LinkAnswers, LinkServes, MayServe, NotesAnswer, NotesServe, SessionState, IsEnding, Since, told_since, Unfollowed}
 use Rattle.session_following.specs.declared.turned.Turned.{Turned}
 use Rattle.session_following.specs.declared.turned.Turned.TheVariants as turned
-use Rattle.session_following.specs.declared.unfollowed.Unfollowed.{Unfollowed}
 use Rattle.session_following.specs.Followed.{IsFollowing, rules_following}
 use Rattle.session_following.specs.Following.{plan_up_to}
 use Rattle.session_following.specs.declared.judging.StandKind.TheVariants as kind
@@ -34,7 +12,7 @@ use Rattle.session_following.specs.Judging.{Agree, kind_of}
 use Rattle.session_following.specs.Missing.{IsMissing}
 use Rattle.session_following.specs.Reaching.{IsNotReached}
 use Rattle.session_following.specs.Standing.{HasJustBegun}
-use Rattle.session_following.specs.TakingOver.{IsUnfollowed, TookOver, stop_as}
+use Rattle.session_following.specs.TakingOver.{IsUnfollowed, TookOver, UnnotedBy, stop_as}
 
 -- what a release asks for: of each episode of a report a trial survived, in force no later than at its failure
 pub record CanRelease (handed : Handed) : Type 0 where
@@ -164,6 +142,7 @@ module _ {R : Type 0} where
   pub record KeepsTurning (before seen : Seen) (shown now : Shown) (old new : SessionState R) (result : Result Turned Unfollowed) : Type 0 where
     pub link : LinkServes before seen new.replies (turn_as result)
     pub notes : NotesServe shown now (turn_as result)
+    pub unnoted : UnnotedBy shown.told.unnoted now.told.unnoted new.choices (turn_as result)
     pub options : new.options ≡ old.options
     pub rule : new.cpu.rule ≡ old.cpu.rule
     pub keeping : keeping_of new ≡ keeping_of old

@@ -2,20 +2,9 @@
 use Rattle.std.specs.Prelude.{◌≡◌, ◌<◌, ◌≤◌, ℕ, List, [], ◌∷◌, ◌++◌, Bool, true, false, Result, Ok, Err, IfOk, OnErr}
 use Rattle.item_log.specs.Log as logs
 use Rattle.links.specs.declared.journal.LinkEvent.TheVariants.{Ends as EndOfLink}
-use Rattle.links.specs.Links.{Tells, Told}
-use Rattle.links.specs.Seen.{Seen}
-use Rattle.session_history.specs.declared.ends.Stop.{Stop}
-use Rattle.session_history.specs.Lawful.{Rules}
-use Rattle.session_history.specs.Terms.{Image, LinkEvent}
-use Rattle.session_notes.specs.Noting.{Noted, Shown}
-use Rattle.follow.specs.Handed.{Handed}
-use Rattle.follow.specs.Following.{heard_alone}
-use Rattle.session_state.specs.Leaving.{IsHandled, IsTrimmed, keeping_of}
-use Rattle.session_state.specs.Options.{AreInRange}
-use Rattle.session_state.specs.Serving.{BreaksNoting, HasSameOpen, MayServe, NotesServe, StandsWaiting}
-use Rattle.session_state.specs.Sessions.{SessionState}
+use Rattle.session_following.specs.Terms.{LinkEvent, Tells, Told, Seen, Image, Stop, Rules, Noted, Shown, heard_alone, Handed, IsHandled, IsTrimmed, keeping_of, AreInRange, BreaksNoting, HasSameOpen, MayServe, NotesServe, StandsWaiting, SessionState}
 use Rattle.session_following.specs.declared.unfollowed.Unfollowed.TheVariants as unfollowed
-use Rattle.session_following.specs.TakingOver.{HasEndedBehind, IsUnfollowedBy}
+use Rattle.session_following.specs.TakingOver.{HasEndedBehind, IsUnfollowedBy, UnnotedBy}
 use Rattle.session_following.specs.Turning.{WaitsOn}
 
 module _ {R : Type 0} where
@@ -102,6 +91,7 @@ module _ {R : Type 0} where
     pub keeping : keeping_of new ≡ keeping_of old
     pub opened : HasSameOpen old.replies new.replies
     pub notes : NotesServe shown now result
+    pub unnoted : UnnotedBy shown.told.unnoted now.told.unnoted new.choices result
     pub handled : IfOk result (λ _. IsHandled new)
     pub trimmed : IfOk result (λ _. IsTrimmed new)
     pub broken : BreaksNoting result

@@ -4,7 +4,7 @@ pub use Rattle.std.proofs.lemmas.Bool.{both_ways, cases_lt, eq-eqb, eqb-false, e
 pub use Rattle.std.proofs.lemmas.List.{drop_all, drop_min, get_or-set_other, get_or-set_same, get_or_past, length-drop, length-replicate, nil_from_length, take-append-drop, take-append-le, take_min}
 pub use Rattle.std.proofs.lemmas.Option.{option_and_then_some, same_Some, slice_get_within}
 pub use Rattle.std.proofs.lemmas.Result.{IfOk-weaker}
-pub use Rattle.std.specs.Prelude.{All, Err, IsErrOf, Ok, Result, if◌then◌else◌, is_some, nat_lt, slice_get, slice_set, unwrap_or, ◌&&◌, ◌==◌, ◌||◌}
+pub use Rattle.std.specs.Prelude.{All, Err, IsErrOf, Ok, Result, if◌then◌else◌, is_some, nat_lt, slice_get, slice_set, unwrap_or, ◌&&◌, ◌==◌, ◌||◌, ◌⊎◌}
 pub use Rattle.links.proofs.Growing.{tells_nothing, tells_then}
 pub use Rattle.links.proofs.Journaled.{pieces_in-append}
 pub use Rattle.run_history.proofs.Outputs.{prefix_sent, prefix_trans, sent_to-append, sent_to-more}

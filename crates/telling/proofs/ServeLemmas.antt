@@ -15,3 +15,7 @@ module _ {R : Type 0} where
   served_at {rules = rules} {before = before} {seen = seen} {shown_now = shown_now} {other = other} {counted = counted} {tables_before = tables_before} {tables = tables} {old = old} {new = new} {answered = answered} same same_now served =
       subst (λ (s : Shown). HasServedLink rules before seen other s counted tables_before tables old new answered) same_now
       (subst (λ (s : Shown). HasServedLink rules before seen s shown_now counted tables_before tables old new answered) same served)
+
+-- what holds of what notes showed before and show now, by other names
+pub shown_at : (P : Shown → Shown → Type 0) {shown shown_now other other_now : Shown} → shown ≡ other → shown_now ≡ other_now → P shown shown_now → P other other_now
+shown_at P {shown_now = shown_now} {other = other} same same_now holds = subst (λ (s : Shown). P other s) same_now (subst (λ (s : Shown). P s shown_now) same holds)

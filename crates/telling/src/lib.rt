@@ -17,7 +17,7 @@ mod watching;
 pub use lines::{Counts, end_line, is_recovered, recovery_line, sighting_lines};
 pub use noting::TellingNotes;
 pub use place::{Near, Place};
-pub use serving::{serve_told, serve_watched_told};
+pub use serving::{serve_told, serve_watched_told, take_over_told};
 pub use sighting::{Access, SeenItem, Sighting, Touch, sight};
 pub use teller::{NoTeller, Teller};
 pub use watching::TellingWatch;

@@ -3,11 +3,11 @@ use std::alloc::{AllocError, Global};
 use std::test::Fail;
 
 // The names that cells may have.
-const NAMES: [&str; 37] = [
+const NAMES: [&str; 38] = [
     "words", "options", "before", "in", "files", "source", "sink", "takes", "gives", "clients",
     "bind", "accept", "take", "give", "moves", "end", "answer", "out", "left", "record", "report",
     "written", "o", "calls", "replies", "ready", "wait", "crowd", "given", "edit", "cut", "each",
-    "wrote", "kept", "spoilt", "differs", "counts",
+    "wrote", "kept", "spoilt", "differs", "counts", "reported",
 ];
 
 fn expect_known(name: &str) -> Result<(), Fail> {

@@ -10,12 +10,12 @@
 //! which blanks may stand; `78*39` is a pair so many times.
 //!
 //! What is played: `words` of the command, or `options` behind the usual ones; `before`, what `r` and `t` have, which else aren't there, with `kept`, how
-//! many bytes there are of it, and `spoilt`, bytes of it that are others, each behind its place; `counts`, what `c` has, which else isn't there; `in`, the
-//! input, with `cut`, how many bytes there are of it; `edit`, bytes of `p` that are others; `files`, `source` and `sink`, the numbers of the calls on them
-//! that fail; `takes` and `gives`, how many bytes a call on the source and on the sink moves at most. `clients`, what each client of a port sends, texts
-//! between `|`; `bind`, `wait`, `accept`, `take` and `give`, the numbers of the calls on the listener and on the crowd that fail; `moves`, how many bytes
-//! such a call takes or gives at most. `ready`, what the waits on the crowd answer one after another: `client`, or a connection's number. `each`, a first and
-//! a last number: the row is played for each from the one to the other, which stands in it for `@`.
+//! many bytes there are of it, and `spoilt`, bytes of it that are others, each behind its place; `counts` and `reported`, what `c` and `q` have, which else
+//! aren't there; `in`, the input, with `cut`, how many bytes there are of it; `edit`, bytes of `p` that are others; `files`, `source` and `sink`, the numbers
+//! of the calls on them that fail; `takes` and `gives`, how many bytes a call on the source and on the sink moves at most. `clients`, what each client of a
+//! port sends, texts between `|`; `bind`, `wait`, `accept`, `take` and `give`, the numbers of the calls on the listener and on the crowd that fail; `moves`,
+//! how many bytes such a call takes or gives at most. `ready`, what the waits on the crowd answer one after another: `client`, or a connection's number.
+//! `each`, a first and a last number: the row is played for each from the one to the other, which stands in it for `@`.
 //!
 //! What is expected, where it stands: `end`, the answer, the status, how many choices are recorded, those behind them, the instructions and the items
 //! taken, or `answer` alone; `differs`, what differs from a record; `out`, all that stands in the sink, or `wrote`, of which a byte stands there for each

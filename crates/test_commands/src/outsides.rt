@@ -18,6 +18,9 @@ pub(crate) struct Outside {
 // A call on a listener, and the name of its cell.
 type CallRow = (ListenCall, &'static str);
 
+// A file, and the name of the cell with its text.
+type FileCell = (&'static str, &'static str);
+
 // A call on a crowd, and the name of its cell.
 type CrowdRow = (CrowdCall, &'static str);
 
@@ -29,7 +32,21 @@ fn before_in(alloc: Global, before: &str, row: &str) -> Result<Vec<u8>, Fail> {
     Ok(bytes)
 }
 
-// Files in memory with the file `p`, and with `r`, `t` and `c` where a row says what they have.
+// Adds a file with the text of a cell, if it stands there.
+fn push_text(
+    alloc: Global,
+    held: &mut Vec<(String, Vec<u8>)>,
+    row: &str,
+    cell: FileCell,
+) -> Result<(), Fail> {
+    if let Some(text) = cell_of(row, cell.1) {
+        let bytes = text_of(alloc, text)?.into_bytes();
+        held.push((String::from_str(alloc, cell.0)?, bytes))?;
+    }
+    Ok(())
+}
+
+// Files in memory with the file `p`, and with `r`, `t`, `c` and `q` where a row says what they have.
 fn files_of(alloc: Global, program: &[u8], row: &str) -> Result<MemoryFiles, Fail> {
     let mut held = Vec::new(alloc);
     held.push((String::from_str(alloc, "p")?, program.to_vec(alloc)?))?;
@@ -39,10 +56,8 @@ fn files_of(alloc: Global, program: &[u8], row: &str) -> Result<MemoryFiles, Fai
             held.push((String::from_str(alloc, name)?, bytes))?;
         }
     }
-    if let Some(counts) = cell_of(row, "counts") {
-        let bytes = text_of(alloc, counts)?.into_bytes();
-        held.push((String::from_str(alloc, "c")?, bytes))?;
-    }
+    push_text(alloc, &mut held, row, ("c", "counts"))?;
+    push_text(alloc, &mut held, row, ("q", "reported"))?;
     let fails = number_of(row, "files", 0)? as u64;
     Ok(MemoryFiles::make(alloc, held, [fails].to_vec(alloc)?))
 }

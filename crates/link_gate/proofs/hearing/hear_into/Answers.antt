@@ -1,9 +1,10 @@
-use Rattle.link_gate.proofs.Terms.{rules, sym, ◌∙◌, events_of}
+use Rattle.link_gate.proofs.Terms.{rules, subst, sym, ◌∙◌, LinkEvent, events_of, HearsEvent}
 use Rattle.link_gate.proofs.Ordering.{in_order_shown}
-use Rattle.link_gate.proofs.Answering.{stood_of, event_is_new, hears_taken}
+use Rattle.link_gate.proofs.Answering.{stood_of, event_is_new, hears_none, hears_taken}
 use Rattle.link_gate.proofs.Connecting.{stays_of, fault_stays, stood_below, counted_most, same_replies, open_phase, connected_behind}
 use Rattle.link_gate.proofs.ComingLemmas.{comes_on, comes_last, fault_comes_on, fault_comes_last, takes_behind, fault_takes}
 use Rattle.link_gate.proofs.hearing.hear_into.Goals as goal
+use Rattle.link_gate.proofs.hearing.hear_into.Goals.{else-is_ok, then-is_ok}
 
 pub take_or_end-heard-requires-clause-in_order : goal.take_or_end-heard-requires-clause-in_order
 take_or_end-heard-requires-clause-in_order g c =
@@ -15,15 +16,24 @@ take_or_end-heard-requires-clause-unknown g c =
     let k = c.requires in
     event_is_new k.bounds k.entries k.sends c.in-Ok.next c.args.replies.now (g.K.Link.seen c.args.link.now).phases k.items.all_heeded k.is_at c.in-Ok.ensures.shows.order.0 k.replies
 
-pub returns-in-Ok-clause-hears : goal.returns-in-Ok-clause-hears
-returns-in-Ok-clause-hears g c = λ bounds entries sends limit counted items replies is_at.
+pub returns-after-is_ok-clause-hears : goal.returns-after-is_ok-clause-hears
+returns-after-is_ok-clause-hears g c = λ bounds entries sends limit counted items replies is_at.
+    let result = c.take_or_end-heard.result in
+    let took : HearsEvent bounds entries sends c.take_or_end-heard.new.log c.take_or_end-heard.new.replies c.take_or_end-heard.new.events (g.K.Link.seen c.args.link.now) (g.K.Link.seen c.next.new.self) c.in-Ok.next result =
     hears_taken bounds entries sends c.in-Ok.next c.args.log.now c.take_or_end-heard.new.log c.args.replies.now c.take_or_end-heard.new.replies (g.K.Link.seen c.args.link.now) (g.K.Link.seen c.next.new.self)
-    c.args.events.now c.take_or_end-heard.new.events c.args.max_events c.take_or_end-heard.result
+    c.args.events.now c.take_or_end-heard.new.events c.args.max_events result
     (record { limit = sym limit; counted = counted; items = items; replies = replies; is_at = is_at })
-    c.in-Ok.ensures.shows.order.0 c.in-Ok.ensures.shows.order.1 c.in-Ok.ensures.shows.told c.take_or_end-heard.ensures
+    c.in-Ok.ensures.shows.order.0 c.in-Ok.ensures.shows.order.1 c.in-Ok.ensures.shows.told c.take_or_end-heard.ensures in
+    elim c.if-is_ok.branch [
+      | then-is_ok w ↦
+          subst (λ (event : LinkEvent). HearsEvent bounds entries sends c.take_or_end-heard.new.log c.take_or_end-heard.new.replies c.take_or_end-heard.new.events (g.K.Link.seen c.args.link.now) (g.K.Link.seen c.next.new.self) event result) (sym w.event-is) took
+      | else-is_ok w ↦
+          hears_none bounds entries sends c.take_or_end-heard.new.log c.take_or_end-heard.new.replies (g.K.Link.seen c.args.link.now) (g.K.Link.seen c.next.new.self) c.take_or_end-heard.new.events c.in-Ok.next c.if-is_ok.event result
+          (sym c.is_ok.ensures.value ∙ w.if-is_ok.false) took
+    ]
 
-pub returns-in-Ok-clause-shows : goal.returns-in-Ok-clause-shows
-returns-in-Ok-clause-shows g c =
+pub returns-after-is_ok-clause-shows : goal.returns-after-is_ok-clause-shows
+returns-after-is_ok-clause-shows g c =
     let k = c.requires in
     let event = c.in-Ok.next in
     let new = event_is_new k.bounds k.entries k.sends event c.args.replies.now (g.K.Link.seen c.args.link.now).phases k.items.all_heeded k.is_at c.in-Ok.ensures.shows.order.0 k.replies in
@@ -40,8 +50,8 @@ returns-in-Ok-clause-shows g c =
           (g.met.K.Link.sound c.next.new.self).gives_open c.in-Ok.ensures.shows.closing c.in-Ok.ensures.shows.order.1 c.take_or_end-heard.ensures;
     }
 
-pub returns-in-Ok-clause-keeps : goal.returns-in-Ok-clause-keeps
-returns-in-Ok-clause-keeps g c =
+pub returns-after-is_ok-clause-keeps : goal.returns-after-is_ok-clause-keeps
+returns-after-is_ok-clause-keeps g c =
     let k = c.requires in
     let event = c.in-Ok.next in
     let new = event_is_new k.bounds k.entries k.sends event c.args.replies.now (g.K.Link.seen c.args.link.now).phases k.items.all_heeded k.is_at c.in-Ok.ensures.shows.order.0 k.replies in

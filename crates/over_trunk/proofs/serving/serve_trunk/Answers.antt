@@ -1,6 +1,5 @@
-use Rattle.session_history.specs.Answering.{HasAnswerCause}
-use Rattle.over_trunk.proofs.Terms.{refl, rules, subst, sym, ◌+◌, ◌-◌, ◌∙◌, told_nothing, intake_of, output_of, seen_of, Image, Answer, keeping_for, outcome_of, rules_by, IsBegun, WatchesTrunk, trunk_counts}
-use Rattle.over_trunk.proofs.ServeLemmas.{watches, watches_at, left_recorded}
+use Rattle.over_trunk.proofs.Terms.{rules, subst, sym, ◌+◌, ◌-◌, ◌∙◌, told_nothing, intake_of, output_of, seen_of, Image, Answer, HasAnswerCause, keeping_for, outcome_of, rules_by, IsBegun, WatchesTrunk, trunk_counts}
+use Rattle.over_trunk.proofs.ServeLemmas.{heard_nothing, watches, watches_at, left_recorded}
 use Rattle.over_trunk.proofs.serving.serve_trunk.Goals as goal
 
 pub returns-clause-served : goal.returns-clause-served
@@ -14,8 +13,9 @@ returns-clause-served g c =
     λ image begun.
     watches (rules_by g.R.AccessRule.rule c.args.session.now) (keeping_for c.args.session.now.options) image {old = intake_of (λ s. g.S.Source.told s.now) c.make-link.result} {new = intake_of (λ s. g.S.Source.told s.now) c.serve_watched_told.new.link}
     {out = output_of (λ s. g.K.Sink.told s.now) c.make-link.result} {later = output_of (λ s. g.K.Sink.told s.now) c.serve_watched_told.new.link}
-    (seen_of (λ s. g.S.Source.told s.now) (λ s. g.S.Source.faults s.now) (λ s. g.K.Sink.told s.now) (λ s. g.K.Sink.faults s.now) c.make-link.result) (seen_of (λ s. g.S.Source.told s.now) (λ s. g.S.Source.faults s.now) (λ s. g.K.Sink.told s.now) (λ s. g.K.Sink.faults s.now) c.serve_watched_told.new.link)
-    begun.nothing_came
+    (seen_of (λ s. g.S.Source.told s.now) (λ s. g.S.Source.faults s.now) (λ s. g.K.Sink.told s.now) (λ s. g.K.Sink.faults s.now) c.make-link.result) (seen_of (λ s. g.S.Source.told s.now) (λ s. g.S.Source.faults s.now) (λ s. g.K.Sink.told s.now) (λ s. g.K.Sink.faults s.now) c.make-link.result)
+    (seen_of (λ s. g.S.Source.told s.now) (λ s. g.S.Source.faults s.now) (λ s. g.K.Sink.told s.now) (λ s. g.K.Sink.faults s.now) c.serve_watched_told.new.link)
+    (heard_nothing (seen_of (λ s. g.S.Source.told s.now) (λ s. g.S.Source.faults s.now) (λ s. g.K.Sink.told s.now) (λ s. g.K.Sink.faults s.now) c.make-link.result) begun.nothing_came)
     (record {
       phases = made.shows.phases;
       took = made.fresh.took;

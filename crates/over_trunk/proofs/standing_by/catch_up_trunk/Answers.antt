@@ -1,4 +1,3 @@
-use Rattle.over_trunk.proofs.Terms.{arith, ◌≡◌, ◌≤◌, Err, Ok, Result, seen_of, Follower, Unfollowed, CatchesUp, LinkCatches}
 use Rattle.over_trunk.proofs.StandbyTrunk.{caught_up, counts_more}
 use Rattle.over_trunk.proofs.standing_by.catch_up_trunk.Goals as goal
 

@@ -1,9 +1,8 @@
-use Rattle.command_line.proofs.Ranges.{session_in_range}
 use Rattle.rx_serve.proofs.Lemmas.{at_once_few, budget_few, conns_few, port_few}
-use Rattle.rx_serve.proofs.Terms.{Some, refl, rules, ◌≡◌, command_of, convert, convert_shown, diagnose, diagnose_shown, drill, drill_shown, replay, replay_shown, run, run_shown, serve, serve_shown, standby, standby_shown, texts_of}
+use Rattle.rx_serve.proofs.Terms.{Some, refl, rules, ◌≡◌, session_in_range, command_of, convert, convert_shown, diagnose, diagnose_shown, drill, drill_shown, replay, replay_shown, resume, resume_shown, run, run_shown, serve, serve_shown, standby, standby_shown, texts_of}
 use Rattle.rx_serve.proofs.ComparingLemmas.{convert_ends, convert_replays, replay_ends, replay_replays, standby_replays}
 use Rattle.rx_serve.proofs.MemoryLemmas.{memory_ends}
-use Rattle.rx_serve.proofs.NamesLemmas.{names_differ, port_names_differ, diagnose_names_differ, diagnosis_differs}
+use Rattle.rx_serve.proofs.NamesLemmas.{names_differ, new_names_differ, port_names_differ, diagnose_names_differ, diagnosis_differs}
 
 pub run_program-requires-clause-two : Rattle.rx_serve.proofs.run.run_rx.Goals.run_program-requires-clause-two
 run_program-requires-clause-two g c =
@@ -78,3 +77,13 @@ returns-in-Ok-Some-Drill-clause-ends g c =
 pub returns-in-Err-clause-ends : Rattle.rx_serve.proofs.run.run_rx.Goals.returns-in-Err-clause-ends
 returns-in-Err-clause-ends g c =
     memory_ends (command_of (texts_of c.args.words.now)) _ _ c.without_session-in-Err.result (λ none. let same = c.in-Err.ensures.refused none in search (rules, same, c.in-Err.is)) c.without_session-in-Err.ensures.answer c.without_session-in-Err.ensures.nothing c.without_session-in-Err.ensures.differs
+
+pub resume_program-requires-clause-two : Rattle.rx_serve.proofs.run.run_rx.Goals.resume_program-requires-clause-two
+resume_program-requires-clause-two g c =
+    let asked : command_of (texts_of c.args.words.now) ≡ Some (resume (resume_shown c.in-Ok-Some-Resume.resume)) = search (rules, c.in-Ok-Some-Resume.ensures.read) in
+    new_names_differ (texts_of c.args.words.now) (resume_shown c.in-Ok-Some-Resume.resume) asked
+
+pub returns-in-Ok-Some-Resume-clause-ends : Rattle.rx_serve.proofs.run.run_rx.Goals.returns-in-Ok-Some-Resume-clause-ends
+returns-in-Ok-Some-Resume-clause-ends g c =
+    let asked : command_of (texts_of c.args.words.now) ≡ Some (resume (resume_shown c.in-Ok-Some-Resume.resume)) = search (rules, c.in-Ok-Some-Resume.ensures.read) in
+    rw asked c.resume_program.ensures.ends

@@ -1,5 +1,4 @@
-use Rattle.std.proofs.Common.{arith, get_or, subst, sym, ℕ, ◌≡◌}
-use Rattle.std.specs.Prelude.{IsTrue, ◌↔◌}
+use Rattle.session_following.proofs.Terms.{arith, get_or, subst, sym, ℕ, ◌≡◌, IsTrue, ◌↔◌}
 use Rattle.session_following.proofs.Agreement.{agree_past, told_or}
 use Rattle.session_following.proofs.judging.agrees.Goals as goal
 

@@ -1,4 +1,4 @@
-use Rattle.std.proofs.Common.{◌≡◌, ℕ, ◌-◌, ◌<◌, ◌≤◌, length, get_or}
+use Rattle.session_following.proofs.Terms.{get_or, length, ℕ, ◌-◌, ◌<◌, ◌≡◌, ◌≤◌}
 use Rattle.session_following.proofs.missing.first_from.Given as goal
 
 abbrev pub invariant-numbers : goal.invariant-numbers

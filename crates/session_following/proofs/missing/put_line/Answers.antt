@@ -1,4 +1,4 @@
-use Rattle.std.proofs.Common.{arith, length, ◌<◌}
+use Rattle.session_following.proofs.Terms.{arith, length, ◌<◌}
 use Rattle.session_following.proofs.Lacking.{line_put}
 use Rattle.session_following.proofs.missing.put_line.Goals as goal
 

@@ -1,6 +1,5 @@
-use Rattle.std.proofs.Common.{List, [], append-nil, get_or, length, subst, ℕ, ◌-◌, ◌∙◌, ◌∷◌}
+use Rattle.session_following.proofs.Terms.{List, [], append-nil, get_or, length, subst, ℕ, ◌-◌, ◌∙◌, ◌∷◌, HasCounts}
 use Rattle.session_following.proofs.Lacking.{last_line, none_before}
-use Rattle.session_following.specs.Missing.{HasCounts}
 use Rattle.session_following.proofs.missing.put_lines.Goals as goal
 
 pub lines-init : goal.lines-init

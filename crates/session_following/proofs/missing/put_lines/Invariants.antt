@@ -1,6 +1,4 @@
-use Rattle.std.proofs.Common.{◌≡◌, ℕ, ◌++◌, List, length}
-use Rattle.session_following.specs.declared.missing.TheConstants.{NUMBERS}
-use Rattle.session_following.specs.Missing.{HasCounts}
+use Rattle.session_following.proofs.Terms.{List, length, ℕ, ◌++◌, ◌≡◌, NUMBERS, HasCounts}
 use Rattle.session_following.proofs.missing.put_lines.Given as goal
 
 -- the lines behind are those that were gone over

@@ -1,5 +1,4 @@
-use Rattle.std.proofs.Common.{◌≡◌, length}
-use Rattle.follow.specs.Plans.{adopted_try}
+use Rattle.session_following.proofs.Terms.{length, ◌≡◌, adopted_try}
 use Rattle.session_following.proofs.planned.adopted.Given as goal
 
 abbrev pub invariant-tries : goal.invariant-tries

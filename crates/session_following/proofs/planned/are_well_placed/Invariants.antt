@@ -1,5 +1,5 @@
-use Rattle.std.proofs.Common.{◌↔◌, length}
-use Rattle.follow.specs.Plans.{AreWellPlaced}
+use Rattle.std.proofs.Common.{◌↔◌}
+use Rattle.session_following.proofs.Terms.{length, AreWellPlaced}
 use Rattle.session_following.proofs.planned.are_well_placed.Given as goal
 
 abbrev pub invariant-episodes : goal.invariant-episodes

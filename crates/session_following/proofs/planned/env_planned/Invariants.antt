@@ -1,6 +1,4 @@
-use Rattle.std.proofs.Common.{◌≡◌, List, length}
-use Rattle.follow.specs.Terms.{Override, env_at}
-use Rattle.follow.specs.Plans.{plan_from, plan_of}
+use Rattle.session_following.proofs.Terms.{List, length, ◌≡◌, Override, env_at, plan_from, plan_of}
 use Rattle.session_following.proofs.planned.env_planned.Given as goal
 
 -- the plan of the episodes so far

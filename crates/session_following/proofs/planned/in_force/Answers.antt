@@ -1,5 +1,4 @@
-use Rattle.std.proofs.Common.{arith, sym, ap, ◌∙◌}
-use Rattle.follow.specs.Plans.{adopted_try}
+use Rattle.session_following.proofs.Terms.{ap, arith, sym, ◌∙◌, adopted_try}
 use Rattle.session_following.proofs.Placing.{ends_last, followed_last, last_in_force, none_left, placed_last}
 use Rattle.session_following.proofs.planned.in_force.Goals as goal
 

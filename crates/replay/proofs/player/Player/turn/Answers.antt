@@ -32,27 +32,13 @@ send-requires g c =
       };
     }
 
-pub choose-requires-clause-wants : goal.choose-requires-clause-wants
-choose-requires-clause-wants g c =
-    let until = c.args.recorded.now.steps in
-    let comes : ComesTo until c.args.self.now.cpu.slots.live (question.Wants c.in-Ok-Wants.ask) c.run_recorded.new.self.slots.live =
-    comes_to until c.requires.stands.is.lives c.in-Ok-Wants.field-0-is c.in-Ok-Wants.ensures.question in
-    comes.3
-
-pub choose-requires-clause-bare : goal.choose-requires-clause-bare
-choose-requires-clause-bare g c =
+pub choose-requires : goal.choose-requires
+choose-requires g c =
     let k = c.requires.stands in
     let until = c.args.recorded.now.steps in
     let comes : ComesTo until c.args.self.now.cpu.slots.live (question.Wants c.in-Ok-Wants.ask) c.run_recorded.new.self.slots.live =
     comes_to until k.is.lives c.in-Ok-Wants.field-0-is c.in-Ok-Wants.ensures.question in
-    comes.0.bare k.is.playing.base.bare
-
-pub choose-requires-clause-room : goal.choose-requires-clause-room
-choose-requires-clause-room g c =
-    let until = c.args.recorded.now.steps in
-    let comes : ComesTo until c.args.self.now.cpu.slots.live (question.Wants c.in-Ok-Wants.ask) c.run_recorded.new.self.slots.live =
-    comes_to until c.requires.stands.is.lives c.in-Ok-Wants.field-0-is c.in-Ok-Wants.ensures.question in
-    omega (arith, comes.1, c.requires.short)
+    record { wants = comes.3; bare = comes.0.bare k.is.playing.base.bare; shorter = comes.1; lives = comes.2; room = omega (arith, comes.1, c.requires.short) }
 
 pub returns-in-Ok-Reached-clause-turns : goal.returns-in-Ok-Reached-clause-turns
 returns-in-Ok-Reached-clause-turns g c image began between =
@@ -147,18 +133,6 @@ returns-in-Err-clause-turns g c image began between =
     (comes_by c.args.recorded.now.steps c.args.self.now.cpu.base (live_of c.args.self.now.cpu) (live_of c.run_recorded.new.self) (Err _) between.lives c.in-Err.ensures.question).0)
 
 -- ---- what is found to differ
-
-pub choose-requires-clause-shorter : goal.choose-requires-clause-shorter
-choose-requires-clause-shorter g c =
-    let comes : ComesTo c.args.recorded.now.steps c.args.self.now.cpu.slots.live (question.Wants c.in-Ok-Wants.ask) c.run_recorded.new.self.slots.live =
-    comes_to c.args.recorded.now.steps c.requires.stands.is.lives c.in-Ok-Wants.field-0-is c.in-Ok-Wants.ensures.question in
-    comes.1
-
-pub choose-requires-clause-lives : goal.choose-requires-clause-lives
-choose-requires-clause-lives g c =
-    let comes : ComesTo c.args.recorded.now.steps c.args.self.now.cpu.slots.live (question.Wants c.in-Ok-Wants.ask) c.run_recorded.new.self.slots.live =
-    comes_to c.args.recorded.now.steps c.requires.stands.is.lives c.in-Ok-Wants.field-0-is c.in-Ok-Wants.ensures.question in
-    comes.2
 
 pub returns-in-Ok-Reached-clause-differs : goal.returns-in-Ok-Reached-clause-differs
 returns-in-Ok-Reached-clause-differs g c =

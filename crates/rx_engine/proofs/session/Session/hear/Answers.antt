@@ -1,8 +1,6 @@
 use Rattle.links.specs.declared.journal.Entry.TheVariants as entry
 use Rattle.links.specs.declared.journal.LinkEvent.TheVariants as event
-use Rattle.link_gate.specs.Calls.{ComesLast}
-use Rattle.session_state.proofs.guest.GuestLemmas.{received_is}
-use Rattle.rx_engine.proofs.Terms.{Err, Ok, [], ap, arith, refl, rules, subst, sym, ◌∙◌, ◌∷◌, ◌≤◌, Seen, received, Rules, unnoted_passing, unnoted_stopped, ended_serves, heard_serves, stopped_serves, all_taken, close_heard, end_heard, ends_by, heard_can, heard_closing, heard_last, heard_opened, heard_saved, heard_settled, if_ok, items_heard, items_hearing, moved, one_counted, quiet_event, settle_heard, stops_by, story_heard, waits_closed, waits_due, waits_settled, held_of, still_takes, IsHandled, rules_by, SessionState, Story, entries, sends, then_story}
+use Rattle.rx_engine.proofs.Terms.{Err, Ok, [], ap, arith, refl, rules, subst, sym, ◌∙◌, ◌∷◌, ◌≤◌, Seen, received, Rules, ComesLast, unnoted_passing, unnoted_stopped, ended_serves, heard_serves, stopped_serves, all_taken, close_heard, end_heard, ends_by, heard_can, heard_closing, heard_last, heard_opened, heard_saved, heard_settled, if_ok, items_heard, items_hearing, moved, one_counted, quiet_event, settle_heard, stops_by, story_heard, waits_closed, waits_due, waits_settled, received_is, held_of, still_takes, IsHandled, rules_by, SessionState, Story, entries, sends, then_story}
 use Rattle.rx_engine.proofs.session.Session.hear.Goals as goal
 
 pub pass_due-requires : goal.pass_due-requires

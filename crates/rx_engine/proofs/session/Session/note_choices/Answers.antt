@@ -1,7 +1,8 @@
 use Rattle.recovery.proofs.ForgetLemmas.{behind_marks}
 use Rattle.session_history.specs.declared.ends.Stop.TheVariants as stop
 use Rattle.session_state.proofs.guest.RecordingLemmas.{up_to_safe, waits_up_to, waits_same}
-use Rattle.rx_engine.proofs.Terms.{Err, rules, subst, sym, ◌≡◌, IfSome, slice_get, note_answered, cut_as, cut_short, noted_low, noted_up, notes_noted, notes_stopped, moved, waits_left, waits_unnoted, rules_by, SessionState, Since, entries}
+use Rattle.rx_engine.proofs.Terms.{Err, List, rules, subst, sym, ◌≡◌, IfSome, slice_get, note_answered, cut_as, cut_short, noted_low, noted_up, notes_noted, notes_stopped, moved, waits_left, waits_unnoted, FailsAtChoices, rules_by, SessionState, Since, entries}
+use Rattle.rx_engine.proofs.UnnotedLemmas.{failed_unnoted}
 use Rattle.rx_engine.proofs.session.Session.note_choices.Goals as goal
 
 pub note_up_to-requires : goal.note_up_to-requires
@@ -50,3 +51,11 @@ returns-in-Err-clause-keeps g c =
       recorded = record { items = cut.items; recorded = cut.recorded; sends = cut.sends };
       broken = note_answered c.in-Err.fault c.note_answer.result c.note_answer.ensures;
     }
+
+pub returns-in-Err-clause-unnoted : goal.returns-in-Err-clause-unnoted
+returns-in-Err-clause-unnoted g c =
+    failed_unnoted c.note_answer.result (note_answered c.in-Err.fault c.note_answer.result c.note_answer.ensures)
+    (subst (λ (choices : List _). FailsAtChoices (g.N.Notes.shown c.args.notes.now).told.unnoted (g.N.Notes.shown c.note_up_to.new.notes).told.unnoted choices) (sym c.in-Err.ensures.noted.2) c.in-Err.ensures.noted.3)
+
+pub returns-clause-unnoted : goal.returns-clause-unnoted
+returns-clause-unnoted g c = c.in_default.ensures.keeps.unnoted

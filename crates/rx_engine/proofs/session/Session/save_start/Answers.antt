@@ -1,7 +1,6 @@
 use Rattle.ckpt_ring.specs.Slots.{Slots}
-use Rattle.guest_cpu.specs.Standing.{Standing}
 use Rattle.recovery.specs.Sessions.{taken_in}
-use Rattle.rx_engine.proofs.Terms.{[], ap, rules, subst, sym, ◌∙◌, ◌∷◌, ◌≡◌, Log, Ledger, origin, alone, keeping_by, KeepsRing, starts_at, starts_none, keeping_of, SessionState}
+use Rattle.rx_engine.proofs.Terms.{[], ap, rules, subst, sym, ◌∙◌, ◌∷◌, ◌≡◌, Log, Ledger, origin, Standing, alone, keeping_by, KeepsRing, starts_at, starts_none, keeping_of, SessionState}
 use Rattle.rx_engine.proofs.HeldLemmas.{ring_as}
 use Rattle.rx_engine.proofs.session.Session.save_start.Goals as goal
 

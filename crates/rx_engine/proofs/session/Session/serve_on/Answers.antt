@@ -1,7 +1,5 @@
 use Rattle.session_history.specs.declared.ends.Stop.TheVariants.{Breaks, Ends}
-use Rattle.session_history.specs.declared.ends.Stop.{Stop}
-use Rattle.session_history.specs.Ends.{StaysKnown}
-use Rattle.rx_engine.proofs.Terms.{Err, ap, arith, refl, subst, sym, ◌+◌, ◌-◌, ◌∙◌, ◌≡◌, Seen, Rules, CanGive, served_off, known_same, known_then, left_by, answers_broken, answers_finished, notes_broken, notes_finished, between_counted, between_fits, between_lost, between_under, frame_then, lost_all, lost_beside, lost_last, lost_then, turned_smaller, cause_then, stops_under, watched_kept, same_rules, LeavesBy, keeping_of, HasWatched, IsCounted, IsFinishing, StopsBy, TakesBy, TrimsAt, TrimsBy, UnlessBroken, outcome_of, rules_by, SessionState, IsBetween, Since}
+use Rattle.rx_engine.proofs.Terms.{Err, ap, arith, refl, subst, sym, ◌+◌, ◌-◌, ◌∙◌, ◌≡◌, Seen, Stop, StaysKnown, Rules, CanGive, served_off, known_same, known_then, left_by, answers_broken, answers_finished, notes_broken, notes_finished, between_counted, between_fits, between_lost, between_under, frame_then, lost_all, lost_beside, lost_last, lost_then, turned_smaller, cause_then, stops_under, watched_kept, same_rules, LeavesBy, keeping_of, HasWatched, IsCounted, IsFinishing, StopsBy, TakesBy, TrimsAt, TrimsBy, UnlessBroken, outcome_of, rules_by, SessionState, IsBetween, Since}
 use Rattle.rx_engine.proofs.session.Session.serve_on.Goals as goal
 
 pub turns-init : goal.turns-init

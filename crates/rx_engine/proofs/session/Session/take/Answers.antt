@@ -1,7 +1,6 @@
-use Rattle.run_history.specs.Machine.{Wants}
 use Rattle.run_history.specs.Run.{does}
 use Rattle.session_state.proofs.guest.TakeLemmas.{waits_wants, waits_short, taken_going}
-use Rattle.rx_engine.proofs.Terms.{None, subst, sym, ◌≡◌, ◌≤◌, IsItemOf, waits_whole, SessionState}
+use Rattle.rx_engine.proofs.Terms.{None, subst, sym, ◌≡◌, ◌≤◌, IsItemOf, Wants, waits_whole, SessionState}
 use Rattle.rx_engine.proofs.session.Session.take.Goals as goal
 
 pub item-requires-clause-kept : goal.item-requires-clause-kept

@@ -1,8 +1,7 @@
-use Rattle.guest_cpu.specs.Cpus.{CpuState}
 use Rattle.session_history.specs.declared.ends.SessionBreak.TheVariants as session_break
 use Rattle.session_history.specs.declared.ends.SessionEnd.TheVariants as session_end
 use Rattle.session_history.specs.declared.ends.Stop.TheVariants as stop
-use Rattle.rx_engine.proofs.Terms.{Err, ap, arith, inl, refl, rules, subst, sym, ◌+◌, ◌<◌, ◌∙◌, ◌≡◌, ◌≤◌, Ledger, Rules, CanGive, unnoted_passing, chosen_serves, exited_serves, memory_serves, passing_serves, trims_on, unnoted_chosen, unnoted_serves, asks_now, breaks_now, chooses_later, comes_under, emits_later, exits_now, fails_now, fails_under, further_adopted, further_ok, has_run, later_ok, lost_cut, lost_failed, lost_none, ran_frame, ran_keeping, ran_later, ran_low, ran_oldest, ran_saved, run_under, if_ok, waits_under, comes_lost, same_rules, trimmed_still, still_takes, rules_in, MayServe, rules_by, SessionState, Since}
+use Rattle.rx_engine.proofs.Terms.{Err, ap, arith, inl, refl, rules, subst, sym, ◌+◌, ◌<◌, ◌∙◌, ◌≡◌, ◌≤◌, Ledger, CpuState, Rules, CanGive, unnoted_passing, chosen_serves, exited_serves, memory_serves, passing_serves, trims_on, unnoted_chosen, unnoted_serves, asks_now, breaks_now, chooses_later, comes_under, emits_later, exits_now, fails_now, fails_under, further_adopted, further_ok, has_run, later_ok, lost_cut, lost_failed, lost_none, ran_frame, ran_keeping, ran_later, ran_low, ran_oldest, ran_saved, run_under, if_ok, waits_under, comes_lost, same_rules, trimmed_still, still_takes, rules_in, MayServe, rules_by, SessionState, Since}
 use Rattle.rx_engine.proofs.session.Session.turn.Goals as goal
 
 pub ask-requires : goal.ask-requires

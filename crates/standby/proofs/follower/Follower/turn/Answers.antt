@@ -11,35 +11,13 @@ ask-requires-clause-stands g c =
     let k = c.requires.stands in
     record { image = k.image; began = k.began; is = asks_asking k.is (record c.args.self.now { player = record c.args.self.now.player { cpu = c.run_recorded.new.self } }) (record { stage = refl; kept = refl }) refl comes; takes = k.takes; gives = k.gives }
 
-pub choose-requires-clause-wants : goal.choose-requires-clause-wants
-choose-requires-clause-wants g c =
-    let comes : ComesTo c.args.recorded.now.steps c.args.self.now.player.cpu.slots.live (question.Wants c.in-Ok-Wants.ask) c.run_recorded.new.self.slots.live =
-    comes_to c.args.recorded.now.steps c.requires.stands.is.lives c.in-Ok-Wants.field-0-is c.in-Ok-Wants.ensures.question in
-    comes.3
-
-pub choose-requires-clause-bare : goal.choose-requires-clause-bare
-choose-requires-clause-bare g c =
-    let comes : ComesTo c.args.recorded.now.steps c.args.self.now.player.cpu.slots.live (question.Wants c.in-Ok-Wants.ask) c.run_recorded.new.self.slots.live =
-    comes_to c.args.recorded.now.steps c.requires.stands.is.lives c.in-Ok-Wants.field-0-is c.in-Ok-Wants.ensures.question in
-    comes.0.bare c.requires.stands.is.follows.bare
-
-pub choose-requires-clause-shorter : goal.choose-requires-clause-shorter
-choose-requires-clause-shorter g c =
-    let comes : ComesTo c.args.recorded.now.steps c.args.self.now.player.cpu.slots.live (question.Wants c.in-Ok-Wants.ask) c.run_recorded.new.self.slots.live =
-    comes_to c.args.recorded.now.steps c.requires.stands.is.lives c.in-Ok-Wants.field-0-is c.in-Ok-Wants.ensures.question in
-    comes.1
-
-pub choose-requires-clause-lives : goal.choose-requires-clause-lives
-choose-requires-clause-lives g c =
-    let comes : ComesTo c.args.recorded.now.steps c.args.self.now.player.cpu.slots.live (question.Wants c.in-Ok-Wants.ask) c.run_recorded.new.self.slots.live =
-    comes_to c.args.recorded.now.steps c.requires.stands.is.lives c.in-Ok-Wants.field-0-is c.in-Ok-Wants.ensures.question in
-    comes.2
-
-pub choose-requires-clause-room : goal.choose-requires-clause-room
-choose-requires-clause-room g c =
-    let comes : ComesTo c.args.recorded.now.steps c.args.self.now.player.cpu.slots.live (question.Wants c.in-Ok-Wants.ask) c.run_recorded.new.self.slots.live =
-    comes_to c.args.recorded.now.steps c.requires.stands.is.lives c.in-Ok-Wants.field-0-is c.in-Ok-Wants.ensures.question in
-    omega (arith, comes.1, c.requires.short)
+pub choose-requires : goal.choose-requires
+choose-requires g c =
+    let k = c.requires.stands in
+    let until = c.args.recorded.now.steps in
+    let comes : ComesTo until c.args.self.now.player.cpu.slots.live (question.Wants c.in-Ok-Wants.ask) c.run_recorded.new.self.slots.live =
+    comes_to until k.is.lives c.in-Ok-Wants.field-0-is c.in-Ok-Wants.ensures.question in
+    record { wants = comes.3; bare = comes.0.bare k.is.follows.bare; shorter = comes.1; lives = comes.2; room = omega (arith, comes.1, c.requires.short) }
 
 pub returns-in-Ok-Reached-clause-turns : goal.returns-in-Ok-Reached-clause-turns
 returns-in-Ok-Reached-clause-turns g c image began under =
