@@ -1,8 +1,8 @@
 #!/usr/bin/env python3
-"""Sets the second engine beside the rows that the tests of hostile use and of a standby play.
+"""Sets the second engine beside the rows that the tests of hostile use and of second hosts play.
 
-Each row of crates/hostile_tests/src/fault_tests.rt and of crates/program_tests/src/standby_tests.rt is run by the second engine: the same program, input,
-record, counts and failing calls. Answer, counts, output and files have to be those of the row; of a port, what each client was given. An edited program is
+Each row of crates/hostile_tests/src/fault_tests.rt and of standby_tests.rt and resume_tests.rt in crates/program_tests/src is run by the second engine:
+the same program, input, record, report, counts and failing calls. Answer, counts, output and files have to be those of the row; of a port, what each client was given. An edited program is
 read by the second reader. The second engine knows no crowd and no words: rows of several clients at once, and of refused words, are passed over.
 
 usage: compare_rows.py
@@ -23,13 +23,14 @@ from second.command import Done, convert, replay, run, serve  # noqa: E402
 from second.machine import Image, MIB, executable  # noqa: E402
 from second.outside import MemoryFiles, MemoryListener, MemorySink, MemorySource  # noqa: E402
 from second.session import Options  # noqa: E402
-from second.takeover import standby  # noqa: E402
+from second.takeover import resume, standby  # noqa: E402
 
-ROWS = [os.path.join(HERE, "..", "crates", *path) for path in (("hostile_tests", "src", "fault_tests.rt"), ("program_tests", "src", "standby_tests.rt"))]
+ROWS = [os.path.join(HERE, "..", "crates", crate, "src", name)
+        for crate, name in (("hostile_tests", "fault_tests.rt"), ("program_tests", "standby_tests.rt"), ("program_tests", "resume_tests.rt"))]
 KINDS = {"GaveUp": "GaveUp { point: %d, cause: %s }", "InputRefused": "InputRefused { kind: %d, offset: %d }",
-         "RecordRefused": "RecordRefused { line: %d }", "CountsRefused": "CountsRefused { line: %d }", "Short": "Short { conn: %d }",
+         "RecordRefused": "RecordRefused { line: %d }", "ReportRefused": "ReportRefused { line: %d }", "CountsRefused": "CountsRefused { line: %d }", "Short": "Short { conn: %d }",
          "Mismatch": "Mismatch { step: %d }", "MessageTooLong": "MessageTooLong { conn: %d }", "Exited": "Exited(%d)"}
-LOADED, USUAL_BUDGET = 3, 1000000  # the files of a standby that are loaded, and its budget
+LOADED, USUAL_BUDGET = {"standby": 3, "resume": 4}, 1000000  # how many files of a second host are loaded, and its budget
 
 
 def bytes_of(text):
@@ -128,20 +129,53 @@ def program_of(program):
     return assemble(program.replace("/", "\n")) if "/" in program else guests.program(program)
 
 
+def files_behind(cells, command):
+    """The files of a second host, and whether those that it loads were loaded."""
+    fails = number(cells, "files", 0)
+    return MemoryFiles({}, [fails - LOADED[command]]), not 0 < fails <= LOADED[command]
+
+
+def texts_in(cells, *names):
+    """The texts of cells, each None where it isn't there."""
+    return [cells[name].replace("/", "\n").encode() if name in cells else None for name in names]
+
+
+def is_written(sink, cells):
+    """Whether the sink has the bytes that were written before the call that fails, where a row says them."""
+    return "wrote" not in cells or sink.content == bytes_of(cells["wrote"])[:number(cells, "sink", 0) - 1]
+
+
 def stood_by(program, cells):
     """What comes of a row of a second host; or None, where its words are refused. The record, the counts or the program may not be there."""
     if cells["end"].startswith("BadWords"):
         return None
     source, sink = source_of(cells), MemorySink([number(cells, "sink", 0)], number(cells, "gives", 10000))
-    files = MemoryFiles({}, [number(cells, "files", 0) - LOADED])
-    texts = [cells[name].replace("/", "\n").encode() if name in cells else None for name in ("before", "counts")]
-    if None in texts or 0 < number(cells, "files", 0) <= LOADED:
+    files, loaded = files_behind(cells, "standby")
+    texts = texts_in(cells, "before", "counts")
+    if None in texts or not loaded:
         done = Done(("FileFault",))
     else:
         budget = number(dict(re.findall(r"--(budget) (\d+)", cells["words"])), "budget", USUAL_BUDGET)
         done = standby(lambda window: Image(*program_of(program), window), *texts, source, sink, budget, files)
-    wrote = bytes_of(cells["wrote"])[:number(cells, "sink", 0) - 1] if "wrote" in cells else None
-    return {"end": shown(done), "out": sink.content, "wrote": wrote is None or sink.content == wrote, "left": left_in(source), "o": text_of(files, "r")}
+    return {"end": shown(done), "out": sink.content, "wrote": is_written(sink, cells), "left": left_in(source), "o": text_of(files, "r")}
+
+
+def resumed(program, cells):
+    """What comes of a row of a host that goes on for one that was killed; or None, where its words are refused. A file may not be there."""
+    if cells["end"].startswith("BadWords"):
+        return None
+    source, sink = source_of(cells), MemorySink([number(cells, "sink", 0)], number(cells, "gives", 10000))
+    files, loaded = files_behind(cells, "resume")
+    texts = texts_in(cells, "before", "reported", "counts")
+    if "before" in cells:
+        files.files["t"] = texts[0]  # what stands there before
+    if None in texts or not loaded:
+        done = Done(("FileFault",))
+    else:
+        form = "json" if "--form json" in cells["words"] else "text"
+        done = resume(lambda window: Image(*program_of(program), window), texts, source, sink, options_in(cells["words"]), files, form)
+    return {"end": shown(done), "out": sink.content, "wrote": is_written(sink, cells), "left": left_in(source), "o": text_of(files, "r"),
+            "report": text_of(files, "t")}
 
 
 def served(program, cells):
@@ -157,8 +191,9 @@ def served(program, cells):
 
 def how_of(cells):
     """How a row is played."""
-    if cells.get("words", "").startswith("standby"):
-        return stood_by
+    for command, how in (("standby", stood_by), ("resume", resumed)):
+        if cells.get("words", "").startswith(command):
+            return how
     return served if "clients" in cells else replayed if "kept" in cells or "spoilt" in cells else played
 
 

@@ -2,7 +2,7 @@
 _rx() {
     local word=${COMP_WORDS[COMP_CWORD]} before=${COMP_WORDS[COMP_CWORD-1]}
     if [ "$COMP_CWORD" -eq 1 ]; then
-        COMPREPLY=($(compgen -W 'run asm replay convert standby serve diagnose drill frame unframe help --help --version' -- "$word"))
+        COMPREPLY=($(compgen -W 'run asm replay convert standby resume serve diagnose drill frame unframe help --help --version' -- "$word"))
         return
     fi
     case "${COMP_WORDS[1]} $before" in
@@ -19,6 +19,18 @@ _rx() {
         COMPREPLY=($(compgen -W 'auto on off' -- "$word"))
         return ;;
     'run --durable')
+        COMPREPLY=($(compgen -W 'on off' -- "$word"))
+        return ;;
+    'resume --form')
+        COMPREPLY=($(compgen -W 'text json' -- "$word"))
+        return ;;
+    'resume --guard')
+        COMPREPLY=($(compgen -W 'off extent block' -- "$word"))
+        return ;;
+    'resume --tell')
+        COMPREPLY=($(compgen -W 'auto on off' -- "$word"))
+        return ;;
+    'resume --durable')
         COMPREPLY=($(compgen -W 'on off' -- "$word"))
         return ;;
     'serve --form')
@@ -57,12 +69,14 @@ _rx() {
         [[ $word == -* ]] && COMPREPLY=($(compgen -W '--record --report --form --frame --window --hold --ring --every --frames --budget --guard --tell --durable' -- "$word")) && return ;;
     standby)
         [[ $word == -* ]] && COMPREPLY=($(compgen -W '--record --budget' -- "$word")) && return ;;
+    resume)
+        [[ $word == -* ]] && COMPREPLY=($(compgen -W '--record --report --form --hold --ring --every --frames --budget --guard --tell --durable' -- "$word")) && return ;;
     serve)
         [[ $word == -* ]] && COMPREPLY=($(compgen -W '--record --report --form --frame --window --ring --every --frames --budget --guard --patience --at-once --tell --durable' -- "$word")) && return ;;
     diagnose)
         [[ $word == -* ]] && COMPREPLY=($(compgen -W '--record --report --diagnosis --form --frame --window --hold --ring --every --frames --budget --guard --tell --durable' -- "$word")) && return ;;
     help)
-        COMPREPLY=($(compgen -W 'run asm replay convert standby serve diagnose drill frame unframe' -- "$word"))
+        COMPREPLY=($(compgen -W 'run asm replay convert standby resume serve diagnose drill frame unframe' -- "$word"))
         return ;;
     esac
     COMPREPLY=($(compgen -f -- "$word"))

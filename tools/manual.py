@@ -24,7 +24,7 @@ STATUSES = [
     (0, "All was done; or the program ended itself with code 0."),
     (1, "The program ended itself with another code."),
     (2, "The words are those of no command, or two names are of one file."),
-    (3, "A program file, a text, a record or counts are refused or too large, or a run isn't as recorded."),
+    (3, "A program file, a text, a record, a report or counts are refused or too large, or a run isn't as recorded."),
     (4, "The input is refused, or a message is too long."),
     (5, "The program failed, and no trial survived."),
     (6, "A limit of a session was reached."),

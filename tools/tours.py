@@ -22,7 +22,7 @@ import tempfile
 TOP = os.path.abspath(os.path.join(os.path.dirname(os.path.abspath(__file__)), ".."))
 PAGES = ["README.md", "docs/USING.md", "docs/OPERATING.md", "docs/ASSEMBLER.md", "guests/README.md"]
 BLOCK = re.compile(r"^```(\w*)\n(.*?)^```$", re.MULTILINE | re.DOTALL)
-RUNS = re.compile(r"crates/rx/out/rx (run|serve|diagnose|asm|replay|convert|standby|drill|frame|unframe)|guests/run_second.py run")
+RUNS = re.compile(r"crates/rx/out/rx (run|serve|diagnose|asm|replay|convert|standby|resume|drill|frame|unframe)|guests/run_second.py run")
 SERVES = re.compile(r"crates/rx/out/rx serve \S+ (\d+) .*&$", re.MULTILINE)
 ASKS = re.compile(r"https?://([^/:\s]+)")
 SECONDS = 60

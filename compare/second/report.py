@@ -23,7 +23,9 @@ CAUSE = r"BadAccess|BadJump|BadInstruction|AssertFailed (?:0|[1-9][0-9]{0,9})|Ha
 NUMBER = "(0|[1-9][0-9]*)"
 FAILURE = re.compile("failure %s point %s cause (%s) at ([0-9a-f]{8})\n" % (NUMBER, NUMBER, CAUSE))
 TRY = re.compile("try %s checkpoint %s env (%s) result (survived|Contradicts|Behind|%s)\n" % (NUMBER, NUMBER, "|".join(ENVIRONMENTS), CAUSE))
-END = re.compile("end ([0-9]+) taken %s steps %s\n" % (NUMBER, NUMBER))
+END = re.compile("end %s taken %s steps %s\n" % (NUMBER, NUMBER, NUMBER))
+PC = re.compile("[0-9a-f]{8}")
+ASSERTS, MOST_NUMBER, MOST_CODE, MOST_STATUS = "AssertFailed ", 1 << 64, 1 << 32, 1 << 8
 
 
 def compact(value):
@@ -63,6 +65,39 @@ class ReportRefused(Exception):
     """The report has no reading; the argument is the first line that isn't in its place."""
 
 
+def is_number(value, most=MOST_NUMBER):
+    return isinstance(value, int) and not isinstance(value, bool) and 0 <= value < most
+
+
+def is_cause(cause):
+    if not isinstance(cause, str) or not re.fullmatch(CAUSE, cause):
+        return False
+    return not cause.startswith(ASSERTS) or int(cause[len(ASSERTS):]) < MOST_CODE
+
+
+def is_try(tried):
+    return is_number(tried.checkpoint) and tried.environment in ENVIRONMENTS and (
+        tried.result in (SURVIVED, "Contradicts", "Behind") or is_cause(tried.result))
+
+
+def try_in(value):
+    """The try that a value of JSON is, or None."""
+    if not isinstance(value, dict) or set(value) != {"checkpoint", "env", "result"}:
+        return None
+    tried = Try(value["checkpoint"], value["env"], value["result"])
+    return tried if is_try(tried) else None
+
+
+def episode_in(value):
+    """The episode that an object of JSON is, or None."""
+    if set(value) != {"failure", "point", "cause", "pc", "tries"} or not isinstance(value["tries"], list):
+        return None
+    tries = [try_in(tried) for tried in value["tries"]]
+    if not is_number(value["point"]) or not is_cause(value["cause"]) or not PC.fullmatch(str(value["pc"])) or None in tries:
+        return None
+    return Episode(value["point"], value["cause"], int(str(value["pc"]), 16), tries)
+
+
 class Reader:
     """What was read so far of a report."""
 
@@ -83,9 +118,11 @@ class Reader:
     def is_end(self, line):
         if self.form == TEXT:
             found = END.fullmatch(line)
-            return bool(found) and int(found.group(1)) < 256 and found.group(1) == str(int(found.group(1)))
-        value = object_of(line)
-        return set(value) == {"end", "steps", "taken"} and compact(value) == line.encode() and value["end"] < 256
+            value = dict(zip(("end", "taken", "steps"), map(int, found.groups()))) if found else {}
+        else:
+            value = object_of(line)
+            value = value if compact(value) == line.encode() else {}
+        return set(value) == {"end", "steps", "taken"} and all(map(is_number, value.values())) and value["end"] < MOST_STATUS
 
     def rises(self, point):
         return not self.adopted or self.adopted[-1].point < point
@@ -94,6 +131,8 @@ class Reader:
         found = FAILURE.fullmatch(line)
         if not found or int(found.group(1)) != len(self.adopted) or not self.rises(int(found.group(2))):
             return False
+        if not is_number(int(found.group(2))) or not is_cause(found.group(3)):
+            return False
         self.failed = Episode(int(found.group(2)), found.group(3), int(found.group(4), 16), [])
         return True
 
@@ -101,7 +140,10 @@ class Reader:
         found = TRY.fullmatch(line)
         if not found or int(found.group(1)) != len(self.failed.tries):
             return False
-        self.failed.tries.append(Try(int(found.group(2)), found.group(3), found.group(4)))
+        tried = Try(int(found.group(2)), found.group(3), found.group(4))
+        if not is_try(tried):
+            return False
+        self.failed.tries.append(tried)
         if found.group(4) == SURVIVED:
             self.adopted.append(self.failed)
             self.failed = None
@@ -109,12 +151,10 @@ class Reader:
 
     def whole(self, line):
         """An episode that stands in one line, of which the last trial survived, or none."""
-        value = object_of(line)
-        if set(value) != {"failure", "point", "cause", "pc", "tries"}:
+        episode = episode_in(object_of(line))
+        if episode is None:
             return False
-        tries = [Try(t["checkpoint"], t["env"], t["result"]) for t in value["tries"]]
-        episode = Episode(value["point"], value["cause"], int(value["pc"], 16), tries)
-        survived = [t.result == SURVIVED for t in tries]
+        survived = [t.result == SURVIVED for t in episode.tries]
         if episode_text(len(self.adopted), episode, JSON) != line.encode() or not self.rises(episode.point) or any(survived[:-1]):
             return False
         if any(survived):

@@ -60,11 +60,13 @@ def cause_of(sentence, budget):
 
 # The status, what the sentence has, and the answer that its match and the budget give.
 ENDS = [
-    (3, r"the record \S+ isn't [a-z ]+: line (\d+) isn't of its form", lambda match, _: ("RecordRefused", int(match[1]))),
-    (3, r"the record \S+ isn't [a-z ]+: it ends before line (\d+)", lambda match, _: ("RecordRefused", int(match[1]))),
+    (3, r"the record \S+ isn't [a-z ]+: line (\d+) (?:isn't of its form|says)", lambda match, _: ("RecordRefused", int(match[1]))),
+    (3, r"the record \S+ isn't [a-z ]+: it ends before (?:the end of )?line (\d+)", lambda match, _: ("RecordRefused", int(match[1]))),
+    (3, r"the report \S+ isn't [a-z ]+: line (\d+) isn't of its form", lambda match, _: ("ReportRefused", int(match[1]))),
+    (3, r"the report \S+ isn't [a-z ]+: it ends before the end of line (\d+)", lambda match, _: ("ReportRefused", int(match[1]))),
     (3, r"the counts \S+ aren't [a-z ]+: line (\d+) isn't of its form", lambda match, _: ("CountsRefused", int(match[1]))),
     (3, r"the counts \S+ say that connection (\d+) has more bytes", lambda match, _: ("Short", int(match[1]))),
-    (3, r"it went as recorded for (\d+) instructions", lambda match, _: ("Mismatch", int(match[1]))),
+    (3, r"it went as (?:recorded|they tell) for (\d+) instructions", lambda match, _: ("Mismatch", int(match[1]))),
     (1, r"ended itself with the code (\d+)", lambda match, _: ("Exited", int(match[1]))),
     (4, r"frame at byte (\d+) is refused: (.*)", lambda match, _: ("InputRefused", the_one(FLAWS, match[2])[0], int(match[1]))),
     (4, r"a message of more than 4096 bytes.* on connection (\d+)", lambda match, _: ("MessageTooLong", int(match[1]))),

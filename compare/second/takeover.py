@@ -82,6 +82,10 @@ class Followed(Session):
             if answer:
                 return answer
 
+    def left(self):
+        """Until it is released nothing is told of its run."""
+        return super().left() if self.is_released else (0, [], 0, 0)
+
     def to_a_stand(self):
         """Goes on to a request, an exit or a failure. Answers of the allocator have to be the record's."""
         machine, lines = self.survivor, self.recorded_before.lines
@@ -182,9 +186,9 @@ class TakenNotes(FileNotes):
     def start(self, options):
         self.files.start(self.record_name)
         self.files.start(self.report_name)
-        self.files.add(self.report_name, report.head_text(self.form))
-        for episode in self.before:
-            self.episode(episode)
+        told = [report.episode_text(number, episode, self.form) for number, episode in enumerate(self.before)]
+        self.files.add(self.report_name, report.head_text(self.form) + b"".join(told))
+        self.episodes += self.before
         self.files.add(self.record_name, record.head_line(options.window // MIB, options.frame))
 
 
