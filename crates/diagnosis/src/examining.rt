@@ -3,12 +3,13 @@ ghost use Rattle.std.specs.Prelude.{◌≡◌, ◌<◌, ◌≤◌, length, Some,
 ghost use Rattle.run_history.specs.Served.{Path};
 ghost use Rattle.trials.specs.Tables.{chances_at, environments};
 ghost use Rattle.recovery.specs.Sessions.{Failure, IsUnder};
-ghost use Rattle.recovery.specs.Recoverables.{CanBeTried, HasFailedAt, HasSameRing, KeepsUntried};
+ghost use Rattle.recovery.specs.Recoverables.{CanBeTried, HasFailedAt, KeepsUntried};
 ghost use Rattle.recovery.specs.Trying.{KeepsLedger};
 ghost use Rattle.recovery.specs.Walking.{LeavesNoTrial};
 ghost use Rattle.diagnosis.specs.Examined.{NotesBy, TableBy};
 
 use alloc_env::Env;
+use ckpt_ring::Snapshot;
 use guest_space::AccessRule;
 use recovery::{Chance, Recoverable, TrialLimits};
 use rx_io::Steps;
@@ -46,8 +47,7 @@ fn examine_one<R: AccessRule, L: Ledger>(
     tries: &mut Vec<Try>,
 ) -> Result<(), AllocError>
     requires failed { CanBeTried limits.budget (R.rule held.old.cpu.rule) limits.point held.old }
-    requires within { chance.index < length held.old.ring.standing }
-    requires same { HasSameRing held.old }
+    requires within { chance.index < length held.old.cpu.slots.saved }
     ensures notes { (failure : Failure) (checkpoint : Path) → IsUnder failure limits.budget (R.rule held.old.cpu.rule) → HasFailedAt limits.point failure held.old → slice_get failure.ring chance.index ≡ Some checkpoint
         → NotesBy failure limits.point (record { checkpoint = checkpoint; env = chance.env } ∷ []) tries.old.items tries.new.items result }
     ensures kept { KeepsUntried held.old held.new }
@@ -57,7 +57,7 @@ fn examine_one<R: AccessRule, L: Ledger>(
     let mut own = Vec::new(held.alloc);
     match held.attempt(chance, limits, &mut own, steps) {
         Ok(tried) => {
-            let checkpoint = held.ring.taken_at(chance.index);
+            let checkpoint = held.cpu.taken_at(chance.index);
             note(
                 tries,
                 Try {
@@ -80,8 +80,7 @@ fn examine_all<R: AccessRule, L: Ledger>(
     tries: &mut Vec<Try>,
 ) -> Result<(), AllocError>
     requires failed { CanBeTried limits.budget (R.rule held.old.cpu.rule) limits.point held.old }
-    requires within { index < length held.old.ring.standing }
-    requires same { HasSameRing held.old }
+    requires within { index < length held.old.cpu.slots.saved }
     ensures notes { (failure : Failure) (checkpoint : Path) → IsUnder failure limits.budget (R.rule held.old.cpu.rule) → HasFailedAt limits.point failure held.old → slice_get failure.ring index ≡ Some checkpoint
         → NotesBy failure limits.point (chances_at checkpoint environments) tries.old.items tries.new.items result }
     ensures kept { KeepsUntried held.old held.new }
@@ -106,7 +105,6 @@ pub(crate) fn examine<R: AccessRule, L: Ledger>(
     tries: &mut Vec<Try>,
 ) -> Result<(), AllocError>
     requires failed { CanBeTried limits.budget (R.rule held.old.cpu.rule) limits.point held.old }
-    requires same { HasSameRing held.old }
     requires none { tries.old.items ≡ [] }
     ensures table { (failure : Failure) → IsUnder failure limits.budget (R.rule held.old.cpu.rule) → HasFailedAt limits.point failure held.old
         → TableBy failure limits.point tries.new.items result }
@@ -114,7 +112,7 @@ pub(crate) fn examine<R: AccessRule, L: Ledger>(
     ensures ledger { LeavesNoTrial held.old.replies held.new.replies result }
     ensures least { steps.old ≤ steps.new }
 {
-    let count = held.ring.len();
+    let count = held.cpu.checkpoints();
     'checkpoints: for index in 0..count {
         match examine_all(held, index, limits, steps, tries) {
             Ok(()) => {}

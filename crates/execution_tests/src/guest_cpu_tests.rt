@@ -2,14 +2,12 @@
 // does the same again. The words are by the formats of the manual; the places and the counts are worked out from the texts and from the
 // heaps. The first one's is from 0x11000 up to 0x3ff000, with its middle at 0x208000, and the other's begins at 0x12000.
 ghost use Rattle.std.specs.Prelude.{◌≡◌, ◌<◌, ◌≤◌, length, true, None, IfOk};
-ghost use Rattle.std.specs.Bool.{OnTrue};
-ghost use Rattle.ckpt_ring.specs.Slots.{newest_slot};
 ghost use Rattle.run_history.specs.Machine.{Wants};
 ghost use Rattle.run_history.specs.Run.{does};
-ghost use Rattle.execution_tests.specs.Checkpoints.{HasRing, KeepsSaved};
+ghost use Rattle.execution_tests.specs.Checkpoints.{GoesOn};
 
 use alloc_env::Env;
-use ckpt_ring::Ring;
+use ckpt_ring::{Snapshot, drop_newer, save};
 use elf_image::{Image, read_image};
 use guest_cpu::{Cpu, Event};
 use guest_space::AllMapped;
@@ -226,14 +224,14 @@ fn run_to_stop<L: Ledger>(
     rt: &impl Abort,
     alloc: Global,
     cpu: &mut Cpu<AllMapped>,
-    ring: &Ring,
     env: Env,
     seen: &mut String,
     steps: &mut Steps<L>,
 ) -> Result<bool, Fail>
-    requires { HasRing cpu.old ring.now }
-    ensures ring { HasRing cpu.new ring.now }
-    ensures kept { KeepsSaved cpu.old cpu.new }
+    requires { GoesOn cpu.old.slots }
+    ensures goes { GoesOn cpu.new.slots }
+    ensures saved { cpu.new.slots.saved ≡ cpu.old.slots.saved }
+    ensures newer { cpu.new.slots.newer ≡ cpu.old.slots.newer }
     ensures asks { IfOk result (λ asks. asks ≡ true → does None None cpu.new.slots.live.guest.machine ≡ Wants) }
 {
     for _ in 0..4 {
@@ -260,56 +258,50 @@ fn run_on<L: Ledger>(
     rt: &impl Abort,
     alloc: Global,
     cpu: &mut Cpu<AllMapped>,
-    ring: &Ring,
     env: Env,
     words: &[u32],
     steps: &mut Steps<L>,
 ) -> Result<String, Fail>
-    requires { HasRing cpu.old ring.now }
-    ensures ring { HasRing cpu.new ring.now }
-    ensures kept { KeepsSaved cpu.old cpu.new }
+    requires { GoesOn cpu.old.slots }
+    ensures goes { GoesOn cpu.new.slots }
+    ensures saved { cpu.new.slots.saved ≡ cpu.old.slots.saved }
+    ensures newer { cpu.new.slots.newer ≡ cpu.old.slots.newer }
 {
     let mut seen = String::new(alloc);
     for word in words {
         let item = item_of(alloc, *word)?;
-        let asks = run_to_stop(rt, alloc, cpu, ring, env, &mut seen, steps)?;
+        let asks = run_to_stop(rt, alloc, cpu, env, &mut seen, steps)?;
         assert!(rt; asks && cpu.marks().steps < 1000);
         cpu.take_item(&item, steps);
     }
-    run_to_stop(rt, alloc, cpu, ring, env, &mut seen, steps)?;
+    run_to_stop(rt, alloc, cpu, env, &mut seen, steps)?;
     Ok(seen)
 }
 
-// Does a turn where it may be that the guest stands on its newest checkpoint, and tells whether it does then.
-fn do_turn(
-    rt: &impl Abort,
-    cpu: &mut Cpu<AllMapped>,
-    ring: &mut Ring,
-    turn: Turn,
-    is_newest: bool,
-) -> bool
-    requires ring { HasRing cpu.old ring.old }
-    requires base { OnTrue is_newest (cpu.old.slots.base ≡ newest_slot cpu.old.slots.saved) }
-    ensures ring { HasRing cpu.new ring.new }
-    ensures base { OnTrue result (cpu.new.slots.base ≡ newest_slot cpu.new.slots.saved) }
+// Does a turn where so many checkpoints are newer than the one on which the guest stands, and tells how many are then.
+fn do_turn(rt: &impl Abort, cpu: &mut Cpu<AllMapped>, turn: Turn, newer: u32) -> u32
+    requires goes { GoesOn cpu.old.slots }
+    requires newer { cpu.old.slots.newer ≡ newer }
+    ensures goes { GoesOn cpu.new.slots }
+    ensures newer { cpu.new.slots.newer ≡ result }
 {
     match turn {
-        Turn::On => is_newest,
+        Turn::On => newer,
         Turn::Save => {
-            assert!(rt; is_newest);
-            ring.save(cpu);
-            true
+            assert!(rt; newer == 0);
+            save(cpu);
+            0
         }
         Turn::To(index) => {
-            assert!(rt; index < ring.len());
-            ring.restore(cpu, index);
-            false
+            assert!(rt; index < cpu.checkpoints());
+            cpu.restore(index);
+            index
         }
         Turn::Back(index) => {
-            assert!(rt; index < ring.len());
-            ring.restore(cpu, index);
-            ring.drop_newer(cpu, index);
-            true
+            assert!(rt; index < cpu.checkpoints());
+            cpu.restore(index);
+            drop_newer(cpu, index);
+            0
         }
     }
 }
@@ -319,22 +311,21 @@ fn play_row<L: Ledger>(
     rt: &impl Abort,
     alloc: Global,
     cpu: &mut Cpu<AllMapped>,
-    ring: &mut Ring,
     env: Env,
     row: Row<'_>,
-    is_newest: bool,
+    newer: u32,
     steps: &mut Steps<L>,
-) -> Result<bool, Fail>
-    requires ring { HasRing cpu.old ring.old }
-    requires base { OnTrue is_newest (cpu.old.slots.base ≡ newest_slot cpu.old.slots.saved) }
-    ensures ring { HasRing cpu.new ring.new }
-    ensures base { IfOk result (λ newest. OnTrue newest (cpu.new.slots.base ≡ newest_slot cpu.new.slots.saved)) }
+) -> Result<u32, Fail>
+    requires goes { GoesOn cpu.old.slots }
+    requires newer { cpu.old.slots.newer ≡ newer }
+    ensures goes { GoesOn cpu.new.slots }
+    ensures newer { IfOk result (λ newer. cpu.new.slots.newer ≡ newer) }
 {
     let (turn, words, wanted) = row;
-    let is_newest = do_turn(rt, cpu, ring, turn, is_newest);
-    let seen = run_on(rt, alloc, cpu, ring, env, words, steps)?;
+    let newer = do_turn(rt, cpu, turn, newer);
+    let seen = run_on(rt, alloc, cpu, env, words, steps)?;
     assert_eq!(rt; seen.as_str(), wanted);
-    Ok(is_newest)
+    Ok(newer)
 }
 
 // Plays rows one after the other.
@@ -342,17 +333,16 @@ fn play_rows<L: Ledger>(
     rt: &impl Abort,
     alloc: Global,
     cpu: &mut Cpu<AllMapped>,
-    ring: &mut Ring,
     env: Env,
     rows: &[Row<'_>],
     steps: &mut Steps<L>,
 ) -> Result<(), Fail>
-    requires ring { HasRing cpu.old ring.old }
-    requires base { cpu.old.slots.base ≡ newest_slot cpu.old.slots.saved }
+    requires goes { GoesOn cpu.old.slots }
+    requires newer { cpu.old.slots.newer ≡ 0 }
 {
-    let mut is_newest = true;
+    let mut newer = 0;
     for row in rows {
-        is_newest = play_row(rt, alloc, cpu, ring, env, *row, is_newest, steps)?;
+        newer = play_row(rt, alloc, cpu, env, *row, newer, steps)?;
     }
     Ok(())
 }
@@ -372,9 +362,8 @@ fn play<L: Ledger>(
 {
     let pages = image.window / 4096;
     let mut steps = Steps::<L>::start(blank);
-    let mut ring = Ring::make(alloc, 2)?;
     let mut cpu = Cpu::make(alloc, image, 2, 3 * pages, AllMapped)?;
-    play_rows(rt, alloc, &mut cpu, &mut ring, env, rows, &mut steps)
+    play_rows(rt, alloc, &mut cpu, env, rows, &mut steps)
 }
 
 #[test]

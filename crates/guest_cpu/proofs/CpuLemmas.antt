@@ -1,8 +1,8 @@
 -- One guest with its checkpoints, after its memory was written.
 use Rattle.std.proofs.Common.{Ok}
 use Rattle.cow_pages.specs.Writes.{Writes}
-use Rattle.page_line.proofs.Written.{line_writes}
-use Rattle.guest_cpu.proofs.Terms.{All, List, None, Option, Some, ap, length, refl, subst, sym, ℕ, ◌+◌, ◌-◌, ◌∙◌, ◌≡◌, same_Some, SameEnds, IsLawful, Pages, IsLine, Line, saved_behind, with_reached, written_pages, repeated_one, repeated, Range, GuestPages, IsLawfulSpace, flat, Event, Question, Core, AreCounted, Live, Standing, Turn, live_after, quiet_next, standing, turn_to, with_range, IsSend, Keeps, Lasts, RecordedLasts, Turned, Wrote, IsCpu, cpu_state, live_of, state_in, with_live, Breaks, Lives, Reaches, RecordedLives}
+use Rattle.ckpt_ring.proofs.Written.{line_writes}
+use Rattle.guest_cpu.proofs.Terms.{All, List, None, Option, Some, ap, length, refl, subst, sym, ℕ, ◌+◌, ◌-◌, ◌∙◌, ◌≡◌, same_Some, SameEnds, IsLawful, Pages, IsLine, Line, checkpoints_in, with_reached, written_pages, repeated_one, repeated, Range, GuestPages, IsLawfulSpace, flat, Event, Question, Core, AreCounted, Live, Standing, Turn, live_after, quiet_next, standing, turn_to, with_range, IsSend, Keeps, Lasts, RecordedLasts, Turned, Wrote, IsCpu, cpu_state, live_of, state_in, with_live, Breaks, Lives, Reaches, RecordedLives}
 use Rattle.guest_cpu.specs.declared.event.Event.TheVariants as event
 use Rattle.guest_cpu.specs.declared.event.Question.TheVariants as question
 
@@ -10,15 +10,15 @@ use Rattle.guest_cpu.specs.declared.event.Question.TheVariants as question
 pub record WroteStore (old new : Pages) (line : Line) (at count : ℕ) : Type 1 where
   pub line_is : IsLine new line
   pub flags : written_pages new line ≡ with_reached at count (written_pages old line)
-  pub saved : {State : Type 0} (f : ℕ → State) → saved_behind f new None line.order ≡ saved_behind f old None line.order
+  pub saved : {State : Type 0} (f : ℕ → State) → checkpoints_in f new line.order ≡ checkpoints_in f old line.order
 
 line_written : (old new : Pages) (line : Line) (at : ℕ) (bytes : List ℕ) → IsLawful old → IsLawful new → IsLine old line → Writes old new at bytes → WroteStore old new line at (length bytes)
 line_written old new line at bytes lawful after is writes =
-    let first = line_writes (λ slot. slot) old new line at bytes lawful after is writes in
+    let first = line_writes old new line at bytes lawful after is writes (λ slot. slot) in
     record {
       line_is = first.0;
       flags = first.1;
-      saved = λ f. (line_writes f old new line at bytes lawful after is writes).2;
+      saved = λ f. (line_writes old new line at bytes lawful after is writes f).2;
     }
 
 -- what a write leaves of a memory and the line of its saved slots
@@ -31,7 +31,7 @@ pub record WroteLine (old new : GuestPages) (line : Line) (written : Option Rang
   pub lawful : IsLawfulSpace new
   pub line_is : IsLine new.store line
   pub flags : written_pages new.store line ≡ with_range old.base written (written_pages old.store line)
-  pub saved : {State : Type 0} (f : ℕ → State) → saved_behind f new.store None line.order ≡ saved_behind f old.store None line.order
+  pub saved : {State : Type 0} (f : ℕ → State) → checkpoints_in f new.store line.order ≡ checkpoints_in f old.store line.order
 
 pub wrote_line : (old new : GuestPages) (line : Line) (written : Option Range) → IsLawfulSpace old → IsLine old.store line → Wrote written old new → WroteLine old new line written
 wrote_line old new line None lawful is same = subst (λ space. WroteLine old space line None) (sym same) (record {
@@ -61,7 +61,7 @@ wrote_line old new line (Some range) lawful is (bytes, count, puts) =
 
 -- what is saved stays
 saved_stays : (old new : GuestPages) (saved : List Core) (line : Line) (written : Option Range) → WroteLine old new line written
-    → saved_behind (state_in new saved) new.store None line.order ≡ saved_behind (state_in old saved) old.store None line.order
+    → checkpoints_in (state_in new saved) new.store line.order ≡ checkpoints_in (state_in old saved) old.store line.order
 saved_stays old new saved line written wrote =
     wrote.saved (state_in new saved) ∙ rw (wrote.base_stays, wrote.spans_stay, wrote.slots_stay) refl
 

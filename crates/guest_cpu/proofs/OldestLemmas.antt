@@ -1,26 +1,16 @@
--- How far a guest had come at its oldest checkpoint.
-use Rattle.guest_cpu.proofs.Terms.{All, IfSome, IsSome, List, None, Option, Some, [], ap, length, refl, subst, sym, ℕ, ◌<◌, ◌∙◌, ◌∷◌, ◌≡◌, All-head, none-some, same_Some, slice_get, Space, slot_at, saved_behind, Area, GuestPages, saved_flat, Core, marks_of, saved_standing, state_in}
+-- How far a guest had come at a checkpoint.
+use Rattle.guest_cpu.proofs.Terms.{IsSome, List, None, Option, Some, refl, subst, sym, ℕ, ◌≡◌, slice_get, Space, slot_at, checkpoint_at, saved_slot, IsLine, Line, checkpoints_in, Checkpoint, GuestPages, Core, Standing, marks_of, state_in}
 
-marks_in : (core : Core) (found : Option Core) (memory : Option (List Area)) → found ≡ Some core → IsSome memory → core.marks ≡ marks_of (saved_standing found memory)
-marks_in core None memory is some = absurd (none-some core is)
-marks_in core (Some other) None is some = absurd (cc)
-marks_in core (Some other) (Some memory) is some = ap (λ (c : Core). c.marks) (sym (same_Some other core is))
+-- where a slot is saved, what is saved has the marks of the core that is kept for it
+core_in : (space : GuestPages) (saved : List Core) (slot : ℕ) (core : Core) → slice_get saved slot ≡ Some core → IsSome (slot_at space.store slot) → core.marks ≡ marks_of (state_in space saved slot)
+core_in space saved slot core there some = of (slot_at space.store slot) refl some where
+  of : (found : Option Space) → slot_at space.store slot ≡ found → IsSome found → core.marks ≡ marks_of (state_in space saved slot)
+  of None is none = cc
+  of (Some one) is some = rw (there, is) refl
 
-has_memory : (space : GuestPages) (slot : ℕ) → IsSome (slot_at space.store slot) → IsSome (saved_flat space slot)
-has_memory space slot some = of (slot_at space.store slot) refl some
-  where
-    of : (found : Option Space) → slot_at space.store slot ≡ found → IsSome found → IsSome (saved_flat space slot)
-    of None is some = absurd (cc)
-    of (Some saved) is some = rw is refl
-
-pub oldest_is : (space : GuestPages) (saved : List Core) (order : List ℕ) (slot : ℕ) (core : Core) → slice_get order 0 ≡ Some slot → slice_get saved slot ≡ Some core
-    → All (λ slot. (slot < length space.store.slots) × IsSome (slot_at space.store slot)) order → IfSome (slice_get (saved_behind (state_in space saved) space.store None order) 0) (λ one. core.marks ≡ marks_of one.state)
-oldest_is space saved [] slot core first there each = tt
-oldest_is space saved (oldest ∷ later) slot core first there each =
-    let same : oldest ≡ slot = same_Some oldest slot first in
-    marks_in core (slice_get saved oldest) (saved_flat space oldest) (ap (slice_get saved) same ∙ there) (has_memory space oldest (All-head (λ (slot : ℕ). (slot < length space.store.slots) × IsSome (slot_at space.store slot)) oldest later each).1)
-
-pub oldest_near : (space : GuestPages) (order : List ℕ) (slot : ℕ) → slice_get order 0 ≡ Some slot → All (λ slot. (slot < length space.store.slots) × IsSome (slot_at space.store slot)) order → slot < length space.store.slots
-oldest_near space [] slot first each = absurd (cc)
-oldest_near space (oldest ∷ later) slot first each =
-    subst (λ n. n < length space.store.slots) (same_Some oldest slot first) (All-head (λ (slot : ℕ). (slot < length space.store.slots) × IsSome (slot_at space.store slot)) oldest later each).0
+-- so has the checkpoint at its place
+pub marks_at : (space : GuestPages) (saved : List Core) (line : Line) (index slot : ℕ) (core : Core) → IsLine space.store line → slice_get line.order index ≡ Some slot → slice_get saved slot ≡ Some core
+    → (P : Option (Checkpoint Standing) → Type 0) → ((one : Checkpoint Standing) → core.marks ≡ marks_of one.state → P (Some one)) → P (slice_get (checkpoints_in (state_in space saved) space.store line.order) index)
+marks_at space saved line index slot core so is there P holds =
+    let one = checkpoint_at (state_in space saved) space.store line.order index slot is in
+    subst P (sym one.1) (holds (record { state = state_in space saved slot; pages = one.0 }) (core_in space saved slot core there (saved_slot space.store line index slot so is).1))

@@ -1,11 +1,11 @@
 -- A guest at the start of its program.
+use Rattle.ckpt_ring.proofs.Flags.{count_true-all}
 use Rattle.elf_image.specs.declared.segment.Segment.{Segment}
 use Rattle.std.specs.Prelude.{◌-◌}
-use Rattle.page_line.proofs.Starts.{line_starts}
 use Rattle.elf_image.specs.Layout.{executable}
 use Rattle.elf_image.proofs.Valid.{segments_below, entry_executable, heap_has_page}
 use Rattle.elf_image.specs.declared.layout.TheConstants.{STACK}
-use Rattle.guest_cpu.proofs.Terms.{All, Contains, List, None, Option, [], ap, arith, eqb, inl, inr, leb, length, ltb, refl, replicate, sym, true, ℕ, ◌%◌, ◌&&◌, ◌*◌, ◌++◌, ◌+◌, ◌/◌, ◌<◌, ◌∙◌, ◌∷◌, ◌≡◌, ◌≤◌, cases_Bool, nat_tests, length-replicate, All-head, All-tail, All-weaker, Contains-append_right, map, SameEnds, PAGE, MAX_SLOTS, IsMade, Pages, Space, count_true-all, IsLine, Line, line_of, Image, heap_end, heap_start, stack_top, IsStart, GuestPages, blank_span, segment_span, Core, AreCounted, standing, IsCpu, IsFreshCpu, IsStartCore, cpu_state}
+use Rattle.guest_cpu.proofs.Terms.{All, Contains, List, None, Option, [], ap, arith, eqb, inl, inr, leb, length, ltb, refl, replicate, sym, true, ℕ, ◌%◌, ◌&&◌, ◌*◌, ◌++◌, ◌+◌, ◌/◌, ◌<◌, ◌∙◌, ◌∷◌, ◌≡◌, ◌≤◌, cases_Bool, nat_tests, length-replicate, All-head, All-tail, All-weaker, Contains-append_right, map, SameEnds, PAGE, MAX_SLOTS, IsMade, Pages, Space, line_starts, IsLine, Line, line_of, Image, heap_end, heap_start, stack_top, IsStart, GuestPages, blank_span, segment_span, Core, AreCounted, standing, IsCpu, IsFreshCpu, IsStartCore, cpu_state}
 
 -- an address of a segment lies below what is at or above each segment's end
 within : (segments : List Segment) (at limit : ℕ) → All (λ (segment : Segment). segment.vaddr + segment.memsz ≤ limit) segments → executable segments at ≡ true → at < limit
@@ -34,7 +34,7 @@ contains_mid : {X : Type 0} (xs zs : List X) (y : X) → Contains (xs ++ y ∷ z
 contains_mid xs zs y = Contains-append_right xs (y ∷ zs) y (0, omega arith, refl)
 
 -- nothing is saved in the memory of a start
-line_at_start : (image : Image) (slots frames : ℕ) (space : GuestPages) → IsStart image (image.window / PAGE) slots frames space → 2 * (image.window / PAGE) ≤ frames → IsLine space.store (line_of [] None)
+line_at_start : (image : Image) (slots frames : ℕ) (space : GuestPages) → IsStart image (image.window / PAGE) slots frames space → 2 * (image.window / PAGE) ≤ frames → IsLine space.store (line_of [] 0)
 line_at_start image slots frames space start enough =
     let blank : Pages = record space.store { live = record space.store.live { bytes = replicate (PAGE * (image.window / PAGE)) 0 } } in
     let made : IsMade (image.window / PAGE) slots frames blank = record { pages_are = start.pages_are; frames_are = start.frames_are; zeros = refl; empty = start.empty; used = start.used } in
@@ -51,7 +51,7 @@ line_at_start image slots frames space start enough =
 
 -- a guest that was just made
 pub fresh_cpu : {R : Type 0} (rule : R) (image : Image) (slots frames : ℕ) (core : Core) (space : GuestPages) (cores : List Core) (line : Line)
-    → IsStartCore image core → IsStart image (image.window / PAGE) slots frames space → All (IsStartCore image) cores → length cores ≡ slots → line ≡ line_of [] None
+    → IsStartCore image core → IsStart image (image.window / PAGE) slots frames space → All (IsStartCore image) cores → length cores ≡ slots → line ≡ line_of [] 0
     → 2 * (image.window / PAGE) ≤ frames → slots ≤ MAX_SLOTS → IsCpu core space cores line × IsFreshCpu image slots frames rule (cpu_state rule core space cores line)
 fresh_cpu rule image slots frames core space cores line begins start each many line_is enough few =
     let count : length space.store.slots ≡ slots = ap length start.empty ∙ length-replicate {A = Option Space} slots None in
@@ -70,7 +70,7 @@ fresh_cpu rule image slots frames core space cores line begins start each many l
         base_is = start.base_is;
         live_is = ap (standing core) start.memory ∙ begins.standing_is;
         none_saved = refl;
-        no_base = refl;
+        stands = refl;
         all_written = ap (λ n. replicate n true) start.pages_are;
         written_is = count_true-all space.store.pages ∙ start.pages_are;
         count_is = count;

@@ -1,6 +1,6 @@
 -- What a contract sees of one guest with its checkpoints.
 use Rattle.std.specs.Prelude.{◌≡◌, ℕ, ◌/◌, ◌≤◌, Bool, true, List, [], length, replicate, Option, Some, None, slice_get, All}
-use Rattle.guest_cpu.specs.Terms.{SameEnds, empty_heap, PAGE, MAX_SLOTS, Slots, IsLine, Line, count_true, slots_of, written_pages, Image, base, heap_end, heap_start, memory_of, Area, start_machine, GuestPages, flat, saved_flat}
+use Rattle.guest_cpu.specs.Terms.{SameEnds, empty_heap, PAGE, MAX_SLOTS, IsLine, Line, count_true, slots_of, written_pages, Slots, Image, base, heap_end, heap_start, memory_of, Area, start_machine, GuestPages, flat, saved_flat}
 use Rattle.guest_cpu.specs.declared.guest_core.Core.{Core}
 use Rattle.guest_cpu.specs.Standing.{Standing, standing, AreCounted, Live}
 use Rattle.guest_cpu.specs.Turns.{HasHeap}
@@ -74,7 +74,7 @@ module _ {R : Type 0} where
     pub base_is : cpu.base ≡ base image
     pub live_is : cpu.slots.live ≡ start_standing image
     pub none_saved : cpu.slots.saved ≡ []
-    pub no_base : cpu.slots.base ≡ None
+    pub stands : cpu.slots.newer ≡ 0
     pub all_written : cpu.written ≡ replicate (image.window / PAGE) true
     pub written_is : cpu.slots.written ≡ image.window / PAGE
     pub count_is : cpu.slots.count ≡ slots

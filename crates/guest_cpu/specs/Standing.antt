@@ -1,8 +1,7 @@
 -- A guest with the counts of its run, and what it does next.
 use Rattle.std.specs.Prelude.{ℕ, ◌+◌, ◌-◌, ◌%◌, ◌^◌, ◌<◌, ◌≤◌, Bool, List, Option, Some, None, option_map, option_and_then}
-use Rattle.guest_cpu.specs.Terms.{Choice, live_blocks, Heap, Env, with_reached, Instr, Store, displaced, store_size, Area, set_count, Effect, Emits, Ends, Fails, Goes, Machine, Wants, register, with_register, Grant, Guest, Limits, grant, serves, Range, buffer, instruction_at, Event}
+use Rattle.guest_cpu.specs.Terms.{Choice, live_blocks, Heap, Env, with_reached, Instr, Store, displaced, store_size, Area, set_count, Effect, Emits, Ends, Fails, Goes, Machine, Wants, register, with_register, Grant, Guest, Limits, grant, serves, Range, buffer, instruction_at, Event, Marks}
 use Rattle.guest_cpu.specs.declared.guest_core.Core.{Core}
-use Rattle.guest_cpu.specs.declared.marks.Marks.{Marks}
 use Rattle.guest_cpu.specs.declared.event.Event.TheVariants as event
 
 -- a guest, how many sends it made, how many instructions it did, and the code with which it ended itself, if it did

@@ -12,9 +12,9 @@ pub use Rattle.alloc_env.specs.Serving.{Served, in_place_of, served_over}
 unfoldable pub use Rattle.alloc_env.specs.Serving.{served_ask, served_block, served_free}
 pub use Rattle.cow_pages.specs.declared.frame_copy.TheConstants.{PAGE}
 pub use Rattle.cow_pages.specs.declared.store.TheConstants.{MAX_SLOTS}
-pub use Rattle.cow_pages.specs.Pages.{IsLawful, IsMade, Pages, Space, slot_at}
-pub use Rattle.ckpt_ring.specs.Slots.{AreSound, IsOldest, IsUnusedNewest, Slots, newest_slot, restored, saved_to, slot_numbers, used_pages, without_newest, without_oldest}
-pub use Rattle.page_line.specs.Line.{IsLine, Line, base_without_oldest, count_true, differ, frames_of, line_of, newest_of, saved_behind, slots_of, with_reached, written_pages, written_since}
+pub use Rattle.cow_pages.specs.Pages.{IsLawful, IsMade, Pages, Space, slot_at, used_of}
+pub use Rattle.ckpt_ring.specs.Line.{IsLine, Line, checkpoints_in, count_true, line_of, slots_of, with_reached, written_pages}
+pub use Rattle.ckpt_ring.specs.Slots.{AreSound, Checkpoint, Slots, oldest_of, restored, used_pages, with_newest, without_newer, without_oldest}
 pub use Rattle.rv_isa.specs.declared.instr.Instr.{Instr}
 pub use Rattle.rv_isa.specs.declared.instr.Instr.TheVariants.{Ecall, Store}
 pub use Rattle.rv_isa.specs.Meaning.{store_size}
@@ -48,3 +48,4 @@ pub use Rattle.rv_exec.specs.Stepping.{Leaves, StepsTo, limits_of, under}
 pub use Rattle.guest_cpu.specs.declared.event.Event.{Event}
 pub use Rattle.guest_cpu.specs.declared.event.Met.{Met}
 pub use Rattle.guest_cpu.specs.declared.event.Question.{Question}
+pub use Rattle.guest_cpu.specs.declared.marks.Marks.{Marks}

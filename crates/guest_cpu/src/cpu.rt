@@ -1,8 +1,8 @@
 // One guest, with its checkpoints.
-ghost use Rattle.std.specs.Prelude.{◌≡◌, ◌+◌, ◌-◌, ◌^◌, ◌<◌, length, slice_get, true, None, IfSome, MatchBool};
+ghost use Rattle.std.specs.Prelude.{◌≡◌, ◌+◌, ◌-◌, ◌^◌, ◌<◌, length, true, None, IfSome, MatchBool};
 ghost use Rattle.block_book.specs.Heap.{is_bare};
-ghost use Rattle.ckpt_ring.specs.Slots.{AreSound};
-ghost use Rattle.page_line.specs.Line.{count_true};
+ghost use Rattle.ckpt_ring.specs.Slots.{AreSound, oldest_of};
+ghost use Rattle.ckpt_ring.specs.Line.{count_true};
 ghost use Rattle.guest_space.specs.Space.{flat};
 ghost use Rattle.run_history.specs.Machine.{Wants, Chooses};
 ghost use Rattle.run_history.specs.Run.{does};
@@ -23,22 +23,22 @@ use crate::turning::advance;
 use crate::{Event, Marks, Question};
 use alloc_env::Env;
 use block_book::{Ask, Book, Choice};
+use ckpt_ring::Ring;
 use guest_space::{AccessRule, AllMapped, GuestSpace, Windows};
-use page_line::SlotLine;
 use run_history::Regs;
 use rx_io::{Item, Steps};
 use std::alloc::{AllocError, Global};
 use std::marker::Model;
 use std::sync::ledger::Ledger;
 
-/// One guest, with its checkpoints in numbered slots. Each access that its program makes has to keep the rule.
+/// One guest, with its checkpoints. Each is saved in a numbered slot, and a ring has their order. Each access that its program makes has to keep the rule.
 #[derive(Drop)]
 pub struct Cpu<R: AccessRule> {
     pub(crate) rule: R,
     pub(crate) core: Core,
     pub(crate) space: GuestSpace,
     pub(crate) saved: Vec<Core>,
-    pub(crate) line: SlotLine,
+    pub(crate) ring: Ring,
     /// Where the memory's bytes were found of late.
     pub(crate) windows: Windows,
 }
@@ -49,9 +49,9 @@ impl<R: AccessRule> Model for Cpu<R> {
 
     ghost Value = { CpuState R };
 
-    ghost view = { λ c. cpu_state c.rule c.core c.space c.saved.items c.line };
+    ghost view = { λ c. cpu_state c.rule c.core c.space c.saved.items c.ring };
 
-    ghost invariant = { λ c. IsCpu c.core c.space c.saved.items c.line × AreWindows c.space c.windows };
+    ghost invariant = { λ c. IsCpu c.core c.space c.saved.items c.ring × AreWindows c.space c.windows };
 }
 
 impl<R: AccessRule> Cpu<R> {
@@ -77,9 +77,9 @@ impl<R: AccessRule> Cpu<R> {
     /// How far the guest had come at the oldest checkpoint.
     pub fn oldest_marks(&self) -> Marks
         requires { 0 < length self.now.slots.saved }
-        ensures { IfSome (slice_get self.now.slots.saved 0) (λ one. result ≡ marks_of one.state) }
+        ensures { IfSome (oldest_of self.now.slots.saved) (λ one. result ≡ marks_of one.state) }
     {
-        self.saved[self.line.oldest() as usize].marks
+        self.saved[self.ring.oldest() as usize].marks
     }
 
     /// The program counter.

@@ -6,15 +6,15 @@ use crate::guest_core::Core;
 use crate::{Cpu, Marks};
 use block_book::Book;
 use call_gate::ConnSet;
+use ckpt_ring::Ring;
 use cow_pages::{MAX_FRAMES_PER_PAGE, MAX_SLOTS, PAGE};
 use elf_image::Image;
 use guest_space::{AccessRule, GuestSpace, Windows};
-use page_line::SlotLine;
 use run_history::Regs;
 use std::alloc::{AllocError, Global};
 
 impl<R: AccessRule + Drop> Cpu<R> {
-    /// A guest at the start of a program, with 1 to `MAX_SLOTS` slots for checkpoints, and 2 to `MAX_FRAMES_PER_PAGE` frames for
+    /// A guest at the start of a program, of which 1 to `MAX_SLOTS` checkpoints can stand, and 2 to `MAX_FRAMES_PER_PAGE` frames for
     /// each page of its window. Memory for all of them is taken here.
     pub fn make(
         alloc: Global,
@@ -32,7 +32,7 @@ impl<R: AccessRule + Drop> Cpu<R> {
             core: Core::at_start(alloc, image)?,
             space: GuestSpace::make(alloc, image, slots, frames)?,
             saved: cores(alloc, image, slots)?,
-            line: SlotLine::make(alloc)?,
+            ring: Ring::make(alloc)?,
             windows: Windows::none(),
         })
     }

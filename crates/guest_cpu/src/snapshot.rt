@@ -37,42 +37,54 @@ impl<R: AccessRule> Snapshot for Cpu<R> {
 
     ghost written = { λ cpu. cpu.written };
 
-    fn save_to(&mut self, slot: u32) {
+    fn save_newest(&mut self) {
         self.space.sound();
+        let slot = self.ring.free_slot();
         self.space.save_by(&mut self.windows, slot);
         self.saved[slot as usize].copy_from(&self.core);
-        self.line.push(slot);
+        self.ring.push(slot);
     }
 
-    fn restore_from(&mut self, slot: u32) {
+    fn replace_oldest(&mut self) {
         self.space.sound();
+        let slot = self.ring.oldest();
+        self.space.save_over_by(&mut self.windows, slot);
+        self.saved[slot as usize].copy_from(&self.core);
+        self.ring.drop_oldest();
+        self.ring.push(slot);
+    }
+
+    fn restore(&mut self, index: u32) {
+        self.space.sound();
+        let slot = self.ring.slot_at(index);
         self.windows.forget();
         self.space.restore(slot);
         self.core.copy_from(&self.saved[slot as usize]);
-        self.line.stand_on(slot);
+        self.ring.stand_on(index);
     }
 
-    fn drop_slot(&mut self, slot: u32) {
+    fn drop_oldest(&mut self) {
         self.space.sound();
-        if self.line.stands_on_newest() {
-            self.space.release(slot);
-            self.line.drop_oldest();
-            return;
-        }
-        self.space.release(slot);
-        self.line.drop_newest();
+        self.space.release(self.ring.oldest());
+        self.ring.drop_oldest();
     }
 
-    fn save_over(&mut self, slot: u32) {
+    fn drop_newest(&mut self) {
         self.space.sound();
-        self.space.save_over_by(&mut self.windows, slot);
-        self.saved[slot as usize].copy_from(&self.core);
-        self.line.drop_oldest();
-        self.line.push(slot);
+        self.space.release(self.ring.slot_at(0));
+        self.ring.drop_newest();
     }
 
-    fn taken(&self) -> u64 {
-        self.core.marks.taken
+    fn checkpoints(&self) -> u32 {
+        self.ring.len()
+    }
+
+    fn most_checkpoints(&self) -> u32 {
+        self.saved.len() as u32
+    }
+
+    fn taken_at(&self, index: u32) -> u64 {
+        self.saved[self.ring.slot_at(index) as usize].marks.taken
     }
 
     fn used(&self) -> u32 {

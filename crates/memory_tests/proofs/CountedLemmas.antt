@@ -1,179 +1,96 @@
--- What the calls of the counted snapshot do to what a contract sees of it.
-use Rattle.std.specs.List.{list_any}
-use Rattle.std.proofs.lemmas.Bool.{eqb-true}
-use Rattle.std.proofs.lemmas.List.{map-append, take-map, take_all}
-use Rattle.std.proofs.lemmas.List.Sums.{sum_by_push, sum_by_more, sum_by-take-le, sum-map, sum_by-cons}
-use Rattle.std.proofs.lemmas.Map.Steps.{length-le_from_distinct_below}
-use Rattle.std.proofs.lemmas.Map.Views.{Contains-from_any}
-use Rattle.circular_buffer.specs.Buffer.{keep_last}
-use Rattle.memory_tests.proofs.Terms.{List, None, Option, Some, [], ap, arith, drop, eqb, get_or, length, map, refl, subst, suc, sym, take, true, ℕ, ◌*◌, ◌++◌, ◌+◌, ◌-◌, ◌<◌, ◌^◌, ◌∙◌, ◌∷◌, ◌≡◌, ◌≤◌, get_or_from_slice_get, slice_get-get_or, slice_get-map, slice_get_within, option_map, All, Contains, IsSomeAnd, slice_get, sum, sum_by, all_at, keep_last-fitting, length-slot_numbers, distinct-none, restored_each, sound-saved_to, sound-without_newest, sound-without_oldest, used_pages-saved_to, used_pages-without_newest, used_pages-without_oldest, AreSound, IsOldest, Saved, Slots, StandsEarlier, newest_slot, page_numbers, restored, saved_to, slot_numbers, used_pages, without_first, without_newest, without_oldest, AreCounted, counted_slots, fresh_slots, saved_of}
+-- What is left of the counted snapshot without its oldest checkpoint.
+use Rattle.std.proofs.Common.{List, None, Some, [], ap, arith, drop, length, length-append, refl, subst, sym, take, ℕ, ◌++◌, ◌+◌, ◌-◌, ◌<◌, ◌∙◌, ◌∷◌, ◌≡◌, ◌≤◌, inl, inr}
+use Rattle.std.proofs.lemmas.List.{map-append}
+use Rattle.std.proofs.lemmas.List.Sums.{sum_by_push, sum_by-cons}
+use Rattle.std.specs.Prelude.{IfSome, sum}
+use Rattle.std.specs.Map.Iter.{TakesLast}
+use Rattle.circular_buffer.specs.Buffer.{Buffer, buffer, keep_last, last_item}
+use Rattle.circular_buffer.proofs.Items.{pops_last}
+use Rattle.circular_buffer.proofs.Places.{slice_get-last, slice_get-some}
+use Rattle.ckpt_ring.specs.Slots.{Checkpoint, Slots, page_numbers, used_pages, with_saved, with_whole_oldest, without_oldest}
+use Rattle.memory_tests.specs.CountedSlots.{AreCounted}
 
--- no more are saved than there are slots
-pub few_saved : (slots : Slots ℕ) → AreSound slots → length slots.saved ≤ slots.count
-few_saved slots sound =
-    let numbers : List ℕ = slot_numbers slots.saved in
-    let below : (q : ℕ) → list_any (eqb q) numbers ≡ true → q < slots.count = λ q found.
-    let has : Contains numbers q = Contains-from_any eqb-true q numbers found in
-    subst (λ n. n < slots.count) has.2 (sound.counted has.0 q has.1) in
-    omega (arith, length-le_from_distinct_below numbers slots.count sound.distinct below, length-slot_numbers slots.saved)
+-- the last one is the oldest
+whole-last : (pages : ℕ) (front : List (Checkpoint ℕ)) (one : Checkpoint ℕ) → with_whole_oldest pages (front ++ one ∷ []) ≡ front ++ record one { pages = pages } ∷ []
+whole-last pages [] one = refl
+whole-last pages (x ∷ []) one = refl
+whole-last pages (x ∷ y ∷ front) one = ap (λ list. x ∷ list) (whole-last pages (y ∷ front) one)
 
-pub counted-saved_to : (capacity slot : ℕ) (slots : Slots ℕ) → AreCounted capacity slots → slot < slots.count → ¬ Contains (slot_numbers slots.saved) slot
-    → slots.base ≡ newest_slot slots.saved → AreCounted capacity (saved_to slot slots)
-counted-saved_to capacity slot slots counted below absent stands =
-    record { sound = sound-saved_to slot slots counted.sound below absent stands; fits = omega (arith, used_pages-saved_to slot slots, counted.fits); few = counted.few }
+with-last : (slots : Slots ℕ) (front : List (Checkpoint ℕ)) (one : Checkpoint ℕ) → with_saved (front ++ one ∷ []) slots ≡ record slots { saved = front ++ one ∷ [] }
+with-last slots [] one = refl
+with-last slots (x ∷ front) one = refl
 
--- the same, where what is required is known of an equal value
-pub counted_after : (capacity slot : ℕ) (slots now : Slots ℕ) → slots ≡ now → AreCounted capacity slots → slot < now.count → ¬ Contains (slot_numbers now.saved) slot
-    → now.base ≡ newest_slot now.saved → AreCounted capacity (saved_to slot slots)
-counted_after capacity slot slots now same counted below absent stands =
-    subst (λ (all : Slots ℕ). AreCounted capacity (saved_to slot all)) (sym same)
-    (counted-saved_to capacity slot now (subst (AreCounted capacity) same counted) below absent stands)
+-- so many pages are in use with one more at the end
+sum-last : (written : ℕ) (front : List (Checkpoint ℕ)) (one : Checkpoint ℕ) → sum (written ∷ page_numbers (front ++ one ∷ [])) ≡ sum (written ∷ page_numbers front) + one.pages
+sum-last written front one =
+    ap (λ list. sum (written ∷ list)) (map-append (λ (each : Checkpoint ℕ). each.pages) front (one ∷ [])) ∙ sum_by_push (λ n. n) (written ∷ page_numbers front) one.pages
 
-pub counted-without_newest : (capacity : ℕ) (slots : Slots ℕ) → AreCounted capacity slots → StandsEarlier slots → AreCounted capacity (without_newest slots)
-counted-without_newest capacity slots counted stands =
-    record { sound = sound-without_newest slots counted.sound stands; fits = omega (arith, used_pages-without_newest slots, counted.fits); few = counted.few }
+-- without the oldest, where one stands before it
+pub record IsShorter (used : ℕ) (slots now : Slots ℕ) (left : Buffer (Checkpoint ℕ)) (next : Checkpoint ℕ) : Type 0 where
+  pub within : next.pages ≤ used
+  pub counted : AreCounted left.capacity (used - next.pages) (record slots { saved = left.items })
+  pub is : record slots { saved = left.items } ≡ without_oldest now
 
-few_by : (capacity live : ℕ) (saved : List (Saved ℕ)) (base : Option ℕ) (written count pages frames : ℕ) → count ≤ capacity
-    → (without_first saved (record { live = live; saved = saved; base = base; written = written; count = count; pages = pages; frames = frames })).count ≤ capacity
-few_by capacity live [] base written count pages frames few = few
-few_by capacity live (one ∷ []) base written count pages frames few = few
-few_by capacity live (one ∷ two ∷ saved) base written count pages frames few = few
-
-count_by : (saved : List (Saved ℕ)) (slots : Slots ℕ) → (without_first saved slots).count ≡ slots.count
-count_by [] slots = refl
-count_by (one ∷ []) slots = refl
-count_by (one ∷ two ∷ saved) slots = refl
-
--- the oldest slot is one of as many without it
-pub below-without_oldest : (slot : ℕ) (slots : Slots ℕ) → AreSound slots → IsOldest slot slots → slot < (without_oldest slots).count
-below-without_oldest slot slots sound oldest =
-    subst (λ n. slot < n) (sym (count_by slots.saved slots)) (all_at (λ n. n < slots.count) (slot_numbers slots.saved) 0 slot sound.counted oldest.0)
-
-pub counted-without_oldest : (capacity : ℕ) (slots : Slots ℕ) → AreCounted capacity slots → slots.base ≡ newest_slot slots.saved → AreCounted capacity (without_oldest slots)
-counted-without_oldest capacity slots counted stands =
+pub shorter : {capacity used : ℕ} {slots now : Slots ℕ} {rest front left : Buffer (Checkpoint ℕ)} {next : Checkpoint ℕ} → AreCounted capacity used slots → slots ≡ now → now.newer ≡ 0 → 0 < length now.saved
+    → rest ≡ buffer (take (length slots.saved - 1) slots.saved) capacity → front ≡ buffer (take (length rest.items - 1) rest.items) rest.capacity → Some next ≡ last_item rest.items
+    → left ≡ buffer (keep_last front.capacity (front.items ++ record next { pages = slots.pages } ∷ [])) front.capacity → IsShorter used slots now left next
+shorter {capacity = capacity} {used = used} {slots = slots} {rest = rest} {front = front} {left = left} {next = next} counted is newest some rest_is front_is last left_is =
+    let one : Checkpoint ℕ = record next { pages = slots.pages } in
+    let whole : List (Checkpoint ℕ) = front.items ++ one ∷ [] in
+    let oldest = slice_get-some slots.saved (length slots.saved - 1) (let same = ap (λ (s : Slots ℕ). length s.saved) is in omega (arith, some, same)) in
+    let behind : rest.items ≡ take (length slots.saved - 1) slots.saved = ap (λ (b : Buffer (Checkpoint ℕ)). b.items) rest_is in
+    let saved : slots.saved ≡ rest.items ++ oldest.0 ∷ [] =
+    subst (λ list. slots.saved ≡ list ++ oldest.0 ∷ []) (sym behind) (subst (λ o. TakesLast (λ (one : Checkpoint ℕ). one) slots.saved o (take (length slots.saved - 1) slots.saved)) oldest.1 (pops_last slots.saved)) in
+    let before : rest.items ≡ front.items ++ next ∷ [] =
+    subst (λ (b : Buffer (Checkpoint ℕ)). rest.items ≡ b.items ++ next ∷ []) (sym front_is)
+    (subst (λ o. TakesLast (λ (one : Checkpoint ℕ). one) rest.items o (take (length rest.items - 1) rest.items)) (sym last) (pops_last rest.items)) in
+    let all_pages : oldest.0.pages ≡ slots.pages = subst (λ o. IfSome o (λ (one : Checkpoint ℕ). one.pages ≡ slots.pages)) oldest.1 counted.sound.oldest in
+    let ends : length whole - 1 ≡ length front.items = omega (arith, length-append front.items (one ∷ [])) in
+    let long : length slots.saved ≡ length whole + 1 =
+    omega (arith, ap length saved, ap length before, length-append rest.items (oldest.0 ∷ []), length-append front.items (next ∷ []), length-append front.items (one ∷ [])) in
+    let room : front.capacity ≡ capacity = ap (λ (b : Buffer (Checkpoint ℕ)). b.capacity) front_is ∙ ap (λ (b : Buffer (Checkpoint ℕ)). b.capacity) rest_is in
+    let none : length whole - front.capacity ≡ 0 = omega (arith, long, room, counted.sound.few, counted.few) in
+    let all : left ≡ buffer whole front.capacity = left_is ∙ ap (λ n. buffer (drop n whole) front.capacity) none in
+    let pages : used_pages slots ≡ sum (slots.written ∷ page_numbers front.items) + next.pages + slots.pages =
+    ap (λ list. sum (slots.written ∷ page_numbers list)) saved
+    ∙ omega (arith, sum-last slots.written rest.items oldest.0, ap (λ list. sum (slots.written ∷ page_numbers list)) before, sum-last slots.written front.items next, all_pages) in
     record {
-      sound = sound-without_oldest slots counted.sound stands;
-      fits = omega (arith, used_pages-without_oldest slots counted.sound, counted.fits);
-      few = few_by capacity slots.live slots.saved slots.base slots.written slots.count slots.pages slots.frames counted.few;
+      within = omega (arith, pages, counted.used_is);
+      counted =
+          subst (λ (b : Buffer (Checkpoint ℕ)). AreCounted b.capacity (used - next.pages) (record slots { saved = b.items })) (sym all)
+          (record {
+            sound = record {
+              few = omega (arith, long, counted.sound.few);
+              oldest = subst (λ o. IfSome o (λ (one : Checkpoint ℕ). one.pages ≡ slots.pages)) (sym (slice_get-last front.items one (length whole - 1) ends)) refl;
+              stands = inl (let same = ap (λ (s : Slots ℕ). s.newer) is in omega (arith, long, newest, same, length-append front.items (one ∷ [])));
+              frames = counted.sound.frames;
+            };
+            used_is = omega (arith, pages, counted.used_is, sum-last slots.written front.items one);
+            few = omega (arith, room, counted.few);
+            fits = counted.fits;
+          });
+      is =
+          ap (λ (b : Buffer (Checkpoint ℕ)). record slots { saved = b.items }) all
+          ∙ sym (ap (λ list. with_saved (with_whole_oldest slots.pages list) slots) (sym behind ∙ before) ∙ ap (λ list. with_saved list slots) (whole-last slots.pages front.items next) ∙ with-last slots front.items one)
+          ∙ ap without_oldest is;
     }
 
-pub length-saved_of : (saved : List (ℕ × ℕ × ℕ)) → length (map saved_of saved) ≡ length saved
-length-saved_of [] = refl
-length-saved_of (one ∷ saved) = ap suc (length-saved_of saved)
-
-module _ (live written count pages frames : ℕ) (base : Option ℕ) where
-  pub slots_push : (saved : List (ℕ × ℕ × ℕ)) (slot : ℕ)
-      → counted_slots live (saved ++ (slot, live, written) ∷ []) (Some slot) 0 count pages frames
-      ≡ saved_to slot (counted_slots live saved base written count pages frames)
-  slots_push saved slot =
-      ap (λ (list : List (Saved ℕ)). let all : Slots ℕ = record { live = live; saved = list; base = Some slot; written = 0; count = count; pages = pages; frames = frames } in all)
-      (map-append saved_of saved ((slot, live, written) ∷ []))
-
-  pub slots_pop : (saved : List (ℕ × ℕ × ℕ))
-      → counted_slots live (take (length saved - 1) saved) base written count pages frames
-      ≡ without_newest (counted_slots live saved base written count pages frames)
-  slots_pop saved =
-      ap (λ (list : List (Saved ℕ)). let all : Slots ℕ = record { live = live; saved = list; base = base; written = written; count = count; pages = pages; frames = frames } in all)
-      (rw (length-saved_of saved) (sym (take-map saved_of (length saved - 1) saved)))
-
-  pub slots_shift : (capacity : ℕ) (saved : List (ℕ × ℕ × ℕ)) (next : ℕ × ℕ × ℕ) → slice_get (drop 1 saved) 0 ≡ Some next → length saved ≤ capacity
-      → counted_slots live (take capacity ((next.0, next.1, pages) ∷ drop 1 (drop 1 saved))) base written count pages frames
-      ≡ without_oldest (counted_slots live saved base written count pages frames)
-  slots_shift capacity [] next e fits = cc
-  slots_shift capacity (one ∷ []) next e fits = cc
-  slots_shift capacity (one ∷ two ∷ saved) next e fits =
-      let same : two ≡ next = cc in
-      let whole : take capacity ((next.0, next.1, pages) ∷ saved) ≡ (next.0, next.1, pages) ∷ saved = take_all capacity ((next.0, next.1, pages) ∷ saved) (omega arith) in
-      rw whole (ap (λ (each : ℕ × ℕ × ℕ). counted_slots live ((each.0, each.1, pages) ∷ saved) base written count pages frames) (sym same))
-
-  pub slots_last : (saved : List (ℕ × ℕ × ℕ)) → slice_get (drop 1 saved) 0 ≡ None → 0 < length saved
-      → counted_slots live (drop 1 (drop 1 saved)) None pages count pages frames
-      ≡ without_oldest (counted_slots live saved base written count pages frames)
-  slots_last [] e some = absurd (omega arith)
-  slots_last (one ∷ []) e some = refl
-  slots_last (one ∷ two ∷ saved) e some = cc
-
--- the number of the slot that was saved last
-pub newest_slot-saved_of : (saved : List (ℕ × ℕ × ℕ)) → newest_slot (map saved_of saved) ≡ option_map (λ one. one.0) (slice_get saved (length saved - 1))
-newest_slot-saved_of saved =
-    ap (λ n. slice_get (slot_numbers (map saved_of saved)) (n - 1)) (length-saved_of saved)
-    ∙ slice_get-map (λ (one : Saved ℕ). one.slot) (map saved_of saved) (length saved - 1)
-    ∙ ap (option_map (λ (one : Saved ℕ). one.slot)) (slice_get-map saved_of saved (length saved - 1))
-    ∙ joined (slice_get saved (length saved - 1)) where
-      joined : (o : Option (ℕ × ℕ × ℕ)) → option_map (λ (one : Saved ℕ). one.slot) (option_map saved_of o) ≡ option_map (λ one. one.0) o
-      joined None = refl
-      joined (Some one) = refl
-
--- a sum that grows by the next one's pages
-pub pages_more : (saved : List (ℕ × ℕ × ℕ)) (i : ℕ) (one : ℕ × ℕ × ℕ) → slice_get saved i ≡ Some one
-    → sum_by (λ each. each.2) (take (i + 1) saved) ≡ sum_by (λ each. each.2) (take i saved) + one.2
-pages_more saved i one e =
-    let read : get_or saved i one ≡ one = get_or_from_slice_get saved i one one e in
-    sum_by_more (λ (each : ℕ × ℕ × ℕ). each.2) saved i one (slice_get_within saved i one e) ∙ ap (λ (each : ℕ × ℕ × ℕ). sum_by (λ each. each.2) (take i saved) + each.2) read
-
--- all pages in use are those that are summed up
-pub used_pages-saved_of : (live : ℕ) (saved : List (ℕ × ℕ × ℕ)) (base : Option ℕ) (written count pages frames : ℕ)
-    → used_pages (counted_slots live saved base written count pages frames) ≡ written + sum_by (λ each. each.2) saved
-used_pages-saved_of live saved base written count pages frames =
-    let numbers : page_numbers (map saved_of saved) ≡ map (λ each. each.2) saved = pages_of saved in
-    omega (arith, sum_by_push (λ x. x) (page_numbers (map saved_of saved)) written, ap sum numbers, sum-map (λ (each : ℕ × ℕ × ℕ). each.2) saved) where
-      pages_of : (list : List (ℕ × ℕ × ℕ)) → page_numbers (map saved_of list) ≡ map (λ each. each.2) list
-      pages_of [] = refl
-      pages_of (one ∷ list) = ap (λ rest. one.2 ∷ rest) (pages_of list)
-
-pub pages_within : (saved : List (ℕ × ℕ × ℕ)) (i : ℕ) → sum_by (λ each. each.2) (take i saved) ≤ sum_by (λ each. each.2) saved
-pages_within saved i = sum_by-take-le (λ (each : ℕ × ℕ × ℕ). each.2) saved i
-
--- where one more may be saved, the buffer keeps all
-pub push_fits : (capacity slot : ℕ) (live : ℕ) (saved : List (ℕ × ℕ × ℕ)) (base : Option ℕ) (written count pages frames : ℕ)
-    → AreCounted capacity (saved_to slot (counted_slots live saved base written count pages frames))
-    → keep_last capacity (saved ++ (slot, live, written) ∷ []) ≡ saved ++ (slot, live, written) ∷ []
-push_fits capacity slot live saved base written count pages frames counted =
-    let slots : Slots ℕ = saved_to slot (counted_slots live saved base written count pages frames) in
-    let few : length slots.saved ≤ slots.count = few_saved slots counted.sound in
-    let long : length slots.saved ≡ length (saved ++ (slot, live, written) ∷ []) =
-    ap length (sym (map-append saved_of saved ((slot, live, written) ∷ []))) ∙ length-saved_of (saved ++ (slot, live, written) ∷ []) in
-    keep_last-fitting capacity (saved ++ (slot, live, written) ∷ []) (omega (arith, counted.few))
-
--- what is found by its number is restored
-pub restored_by : (slots : Slots ℕ) (slot taken : ℕ) → AreSound slots
-    → (at : ℕ) × IsSomeAnd (slice_get slots.saved at) (λ one. (one.slot ≡ slot) × (one.state ≡ taken))
-    → All (λ one. one.slot ≡ slot → restored (record { slot = slot; state = taken; pages = 0 }) slots ≡ restored one slots) slots.saved
-restored_by slots slot taken sound found = go (slice_get slots.saved found.0) refl found.1 where
-  go : (o : Option (Saved ℕ)) → slice_get slots.saved found.0 ≡ o → IsSomeAnd o (λ one. (one.slot ≡ slot) × (one.state ≡ taken))
-      → All (λ one. one.slot ≡ slot → restored (record { slot = slot; state = taken; pages = 0 }) slots ≡ restored one slots) slots.saved
-  go None e none = absurd none
-  go (Some one) e is =
-      λ k d within same.
-      ap (λ (n : ℕ). restored (record { slot = n; state = taken; pages = 0 }) slots) (sym is.0)
-      ∙ ap (λ (n : ℕ). restored (record { slot = one.slot; state = n; pages = 0 }) slots) (sym is.1)
-      ∙ restored_each slots found.0 one sound e k d within (same ∙ sym is.0)
-
--- a slot that is saved is found among all
-pub found_by : (saved : List (ℕ × ℕ × ℕ)) (slot : ℕ) → ((k : ℕ) (one : ℕ × ℕ × ℕ) → slice_get saved k ≡ Some one → one.0 ≡ slot → ⊥)
-    → Contains (slot_numbers (map saved_of saved)) slot → ⊥
-found_by saved slot none has =
-    let place = has.0 in
-    let numbers : List ℕ = slot_numbers (map saved_of saved) in
-    let number : slice_get numbers place ≡ Some (get_or numbers place slot) = slice_get-get_or numbers place slot has.1 in
-    let within : place < length saved = omega (arith, has.1, length-slot_numbers (map saved_of saved), length-saved_of saved) in
-    let one : slice_get saved place ≡ Some (get_or saved place (slot, 0, 0)) = slice_get-get_or saved place (slot, 0, 0) within in
-    let same : slice_get numbers place ≡ Some (get_or saved place (slot, 0, 0)).0 =
-    slice_get-map (λ (each : Saved ℕ). each.slot) (map saved_of saved) place
-    ∙ ap (option_map (λ (each : Saved ℕ). each.slot)) (slice_get-map saved_of saved place ∙ ap (option_map saved_of) one) in
-    none place (get_or saved place (slot, 0, 0)) one (number_is _ _ (sym same ∙ number) ∙ has.2) where
-      number_is : (m n : ℕ) → Some m ≡ Some n → m ≡ n
-      number_is m n e = cc
-
-pub few_items : (capacity live : ℕ) (saved : List (ℕ × ℕ × ℕ)) (base : Option ℕ) (written count pages frames : ℕ)
-    → AreCounted capacity (counted_slots live saved base written count pages frames) → length saved ≤ capacity
-few_items capacity live saved base written count pages frames counted =
-    omega (arith, few_saved (counted_slots live saved base written count pages frames) counted.sound, counted.few, length-saved_of saved)
-
-pub counted-fresh : (count pages frames : ℕ) → 2 * pages ≤ frames → pages < 2 ^ 32 → AreCounted count (fresh_slots count pages frames)
-counted-fresh count pages frames large fits =
-    record {
-      sound = record { distinct = distinct-none; counted = λ k d within. absurd (omega arith); oldest = tt; base = (refl, refl); frames = large };
-      fits = omega (arith, sum_by-cons (λ x. x) pages []);
-      few = omega arith;
-    }
+-- without the oldest, where it was the last
+pub none-left : {capacity used : ℕ} {slots now : Slots ℕ} {rest left : Buffer (Checkpoint ℕ)} → AreCounted capacity used slots → slots ≡ now → now.newer ≡ 0 → rest ≡ buffer (take (length slots.saved - 1) slots.saved) capacity
+    → None ≡ last_item rest.items → left ≡ buffer (take (length rest.items - 1) rest.items) rest.capacity
+    → let after : Slots ℕ = record slots { saved = left.items; written = slots.pages } in AreCounted left.capacity slots.pages after × (after ≡ without_oldest now)
+none-left {capacity = capacity} {slots = slots} {rest = rest} {left = left} counted is newest rest_is last left_is =
+    let none : (rest.items ≡ []) × (take (length rest.items - 1) rest.items ≡ []) =
+    subst (λ o. TakesLast (λ (one : Checkpoint ℕ). one) rest.items o (take (length rest.items - 1) rest.items)) (sym last) (pops_last rest.items) in
+    let all : left ≡ buffer [] capacity = left_is ∙ ap (λ list. buffer list rest.capacity) none.1 ∙ ap (λ (b : Buffer (Checkpoint ℕ)). buffer [] b.capacity) rest_is in (
+      subst (λ (b : Buffer (Checkpoint ℕ)). AreCounted b.capacity slots.pages (record slots { saved = b.items; written = slots.pages })) (sym all)
+          (record {
+            sound = record { few = omega arith; oldest = tt; stands = inr (refl, ap (λ (s : Slots ℕ). s.newer) is ∙ newest, refl); frames = counted.sound.frames };
+            used_is = omega (arith, sum_by-cons (λ n. n) slots.pages []);
+            few = counted.few;
+            fits = counted.fits;
+          }),
+      ap (λ (b : Buffer (Checkpoint ℕ)). record slots { saved = b.items; written = slots.pages }) all
+          ∙ ap (λ list. with_saved (with_whole_oldest slots.pages list) slots) (sym none.0 ∙ ap (λ (b : Buffer (Checkpoint ℕ)). b.items) rest_is)
+          ∙ ap without_oldest is,
+    )

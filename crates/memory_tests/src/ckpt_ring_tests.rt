@@ -1,22 +1,46 @@
 // Checkpoints of a snapshot whose state is a number of items taken, and whose written pages are counted by hand.
-ghost use Rattle.std.specs.Prelude.{◌≡◌, ◌⊎◌, ◌+◌, ◌*◌, ◌^◌, ◌<◌, ◌≤◌, ℕ, length, slice_get, Contains, IfOk, IsSomeAnd, IsTrue, ◌↔◌};
-ghost use Rattle.ckpt_ring.specs.Slots.{Slots, AreSound, StandsEarlier, slot_numbers, newest_slot, without_newest, without_oldest};
-ghost use Rattle.ckpt_ring.specs.Rings.{checkpoints_of};
+ghost use Rattle.std.specs.Prelude.{◌≡◌, ◌*◌, ◌<◌, ◌≤◌, ℕ, length, IfOk};
+ghost use Rattle.ckpt_ring.specs.Slots.{AreSound, with_newest};
 ghost use Rattle.memory_tests.specs.CountedSlots.{fresh_slots};
 
 use circular_buffer::HeapCircularBuffer;
-use ckpt_ring::{Ring, Snapshot};
+use ckpt_ring::{Snapshot, drop_newer, save};
 use std::alloc::{AllocError, Global};
 use std::marker::Model;
 use std::test::Fail;
 
-/// A number of items taken, in slots. Each is a number, its items taken and the pages written before it.
+/// A checkpoint: the items taken, and the pages written before it.
+#[derive(Drop)]
+struct Mark {
+    taken: u64,
+    pages: u32,
+}
+
+impl Model for Mark {
+    ghost use Rattle.std.specs.Prelude.{ℕ};
+    ghost use Rattle.ckpt_ring.specs.Slots.{Checkpoint};
+
+    ghost Value = { Checkpoint ℕ };
+
+    ghost view = { λ m. record { state = m.taken; pages = m.pages } };
+}
+
+impl Mark {
+    fn taken(&self) -> u64
+        ensures { result ≡ self.now.state }
+    {
+        self.taken
+    }
+}
+
+/// A number of items taken, and its checkpoints, the newest first.
 #[derive(Drop)]
 struct CountedSnapshot {
     live: u64,
-    saved: HeapCircularBuffer<(u32, u64, u32)>,
-    base: Option<u32>,
+    saved: HeapCircularBuffer<Mark>,
+    newer: u32,
     written: u32,
+    used: u32,
     count: u32,
     pages: u32,
     frames: u32,
@@ -29,9 +53,9 @@ impl Model for CountedSnapshot {
 
     ghost Value = { Slots ℕ };
 
-    ghost view = { λ s. counted_slots s.live s.saved.items s.base s.written s.count s.pages s.frames };
+    ghost view = { λ s. counted_slots s.live s.saved.items s.newer s.written s.count s.pages s.frames };
 
-    ghost invariant = { λ s. AreCounted s.saved.capacity (counted_slots s.live s.saved.items s.base s.written s.count s.pages s.frames) };
+    ghost invariant = { λ s. AreCounted s.saved.capacity s.used (counted_slots s.live s.saved.items s.newer s.written s.count s.pages s.frames) };
 }
 
 impl CountedSnapshot {
@@ -48,8 +72,9 @@ impl CountedSnapshot {
         Ok(CountedSnapshot {
             live: 0,
             saved: HeapCircularBuffer::with_capacity(alloc, count as usize)?,
-            base: None,
+            newer: 0,
             written: pages,
+            used: pages,
             count,
             pages,
             frames,
@@ -59,78 +84,29 @@ impl CountedSnapshot {
     /// Goes on until so many items are taken, and writes so many pages more. Where none is saved all count as written.
     fn advance(&mut self, taken: u64, pages: u32)
         ensures saved { self.new.saved ≡ self.old.saved }
-        ensures base { self.new.base ≡ self.old.base }
+        ensures newer { self.new.newer ≡ self.old.newer }
         ensures count { self.new.count ≡ self.old.count }
     {
-        let used = self.used();
         self.live = taken;
-        if self.base.is_some() {
-            if pages <= u32::MAX - used {
-                self.written += pages;
-            }
+        if !self.saved.is_empty() && pages <= u32::MAX - self.used {
+            self.written += pages;
+            self.used += pages;
         }
     }
 
-    /// The items taken in a saved slot.
-    fn taken_in(&self, slot: u32) -> u64
-        requires { Contains (slot_numbers self.now.saved) slot }
-        ensures { (at : ℕ) × IsSomeAnd (slice_get self.now.saved at) (λ one. (one.slot ≡ slot) × (one.state ≡ result)) }
-    {
-        for at in 0..self.saved.len() {
-            if let Some(one) = self.saved.get(at) {
-                if one.0 == slot {
-                    return one.1;
-                }
-            }
-        }
-        0
-    }
-
-    /// Whether the live state stands on the slot that was saved last, or none is saved.
-    fn stands_on_newest(&self) -> bool
-        ensures newest { IsTrue result ↔ (self.now.base ≡ newest_slot self.now.saved) }
-        ensures sound { AreSound self.now }
-    {
-        let base = self.base;
-        base == self.newest()
-    }
-
-    /// The number of the slot that was saved last.
-    fn newest(&self) -> Option<u32>
-        ensures { result ≡ newest_slot self.now.saved }
-    {
-        match self.saved.back() {
-            Some(one) => Some(one.0),
-            None => None,
-        }
-    }
-
-    /// Gives the slot up that was saved last.
-    fn drop_newest(&mut self)
-        requires { StandsEarlier self.old }
-        ensures newest { self.new ≡ without_newest self.old }
+    /// Saves one more.
+    fn push(&mut self)
+        requires { length self.old.saved < self.old.count }
+        ensures saved { self.new ≡ with_newest self.old }
         ensures sound { AreSound self.new }
     {
-        self.saved.pop_back();
-    }
-
-    /// Gives the oldest slot up.
-    fn drop_oldest(&mut self)
-        requires some { 0 < length self.old.saved }
-        requires base { self.old.base ≡ newest_slot self.old.saved }
-        ensures oldest { self.new ≡ without_oldest self.old }
-        ensures sound { AreSound self.new }
-    {
-        self.saved.pop_front();
-        match self.saved.pop_front() {
-            Some(next) => {
-                let _ = self.saved.push_front((next.0, next.1, self.pages));
-            }
-            None => {
-                self.base = None;
-                self.written = self.pages;
-            }
-        }
+        let mark = Mark {
+            taken: self.live,
+            pages: self.written,
+        };
+        self.saved.push_front(mark);
+        self.newer = 0;
+        self.written = 0;
     }
 }
 
@@ -149,46 +125,63 @@ impl Snapshot for CountedSnapshot {
 
     ghost written = { λ t. t.written };
 
-    fn save_to(&mut self, slot: u32) {
-        self.saved.push_back((slot, self.live, self.written));
-        self.base = Some(slot);
+    fn save_newest(&mut self) {
+        self.push();
+    }
+
+    fn replace_oldest(&mut self) {
+        // What holds of all checkpoints is known from here on.
+        let _ = self.pages();
+        self.drop_oldest();
+        self.push();
+    }
+
+    fn restore(&mut self, index: u32) {
+        self.live = self.taken_at(index);
+        self.newer = index;
+        self.used -= self.written;
         self.written = 0;
     }
 
-    fn restore_from(&mut self, slot: u32) {
-        self.live = self.taken_in(slot);
-        self.base = Some(slot);
-        self.written = 0;
-    }
-
-    fn drop_slot(&mut self, slot: u32) {
-        let _ = slot;
-        if self.stands_on_newest() {
-            self.drop_oldest();
-        } else {
-            self.drop_newest();
+    fn drop_oldest(&mut self) {
+        self.saved.pop_back();
+        match self.saved.pop_back() {
+            Some(next) => {
+                self.used -= next.pages;
+                let whole = Mark {
+                    taken: next.taken,
+                    pages: self.pages,
+                };
+                self.saved.push_back(whole);
+            }
+            None => {
+                self.written = self.pages;
+                self.used = self.pages;
+            }
         }
     }
 
-    fn save_over(&mut self, slot: u32) {
-        // What holds of all slots is known from here on.
-        let _ = self.pages();
-        self.drop_oldest();
-        self.save_to(slot);
+    fn drop_newest(&mut self) {
+        if let Some(newest) = self.saved.pop_front() {
+            self.used -= newest.pages;
+        }
+        self.newer -= 1;
     }
 
-    fn taken(&self) -> u64 {
-        self.live
+    fn checkpoints(&self) -> u32 {
+        self.saved.len() as u32
+    }
+
+    fn most_checkpoints(&self) -> u32 {
+        self.count
+    }
+
+    fn taken_at(&self, index: u32) -> u64 {
+        self.saved.get(index as usize).unwrap().taken()
     }
 
     fn used(&self) -> u32 {
-        let mut used = self.written;
-        for at in 0..self.saved.len() {
-            if let Some(one) = self.saved.get(at) {
-                used += one.2;
-            }
-        }
-        used
+        self.used
     }
 
     fn pages(&self) -> u32 {
@@ -204,25 +197,23 @@ impl Snapshot for CountedSnapshot {
 const PAGES: u32 = 256;
 
 /// Saves at each number of items from one to another, and writes so many pages before each save.
-fn save_each(ring: &mut Ring, t: &mut CountedSnapshot, first: u64, last: u64, pages: u32)
-    requires count { ring.old.capacity ≤ t.old.count }
-    requires same { ring.old.standing ≡ checkpoints_of (λ taken. taken) t.old.saved }
-    requires base { t.old.base ≡ newest_slot t.old.saved }
-    ensures count { ring.new.capacity ≤ t.new.count }
-    ensures same { ring.new.standing ≡ checkpoints_of (λ taken. taken) t.new.saved }
-    ensures base { t.new.base ≡ newest_slot t.new.saved }
+fn save_each(t: &mut CountedSnapshot, first: u64, last: u64, pages: u32)
+    requires some { 1 ≤ t.old.count }
+    requires newest { t.old.newer ≡ 0 }
+    ensures some { 1 ≤ t.new.count }
+    ensures newest { t.new.newer ≡ 0 }
 {
     for taken in first..=last {
         t.advance(taken, pages);
-        ring.save(t);
+        save(t);
     }
 }
 
 /// The items taken at each checkpoint that stands, the newest first.
-fn items_taken(alloc: Global, ring: &Ring) -> Result<Vec<u64>, AllocError> {
+fn items_taken(alloc: Global, t: &CountedSnapshot) -> Result<Vec<u64>, AllocError> {
     let mut taken = Vec::new(alloc);
-    for index in 0..ring.len() {
-        taken.push(ring.taken_at(index))?;
+    for index in 0..t.checkpoints() {
+        taken.push(t.taken_at(index))?;
     }
     Ok(taken)
 }
@@ -230,19 +221,17 @@ fn items_taken(alloc: Global, ring: &Ring) -> Result<Vec<u64>, AllocError> {
 /// The checkpoints that stand after saves at 0 to `last` items, with so many pages written before each.
 fn stand_after(
     alloc: Global,
-    capacity: u32,
+    count: u32,
     frames: u32,
     pages: u32,
     last: u64,
 ) -> Result<Vec<u64>, AllocError>
-    requires some { 1 ≤ capacity }
-    requires few { capacity ≤ 16 }
+    requires some { 1 ≤ count }
     requires room { 512 ≤ frames }
 {
-    let mut ring = Ring::make(alloc, capacity)?;
-    let mut t = CountedSnapshot::make(alloc, capacity, PAGES, frames)?;
-    save_each(&mut ring, &mut t, 0, last, pages);
-    items_taken(alloc, &ring)
+    let mut t = CountedSnapshot::make(alloc, count, PAGES, frames)?;
+    save_each(&mut t, 0, last, pages);
+    items_taken(alloc, &t)
 }
 
 #[test]
@@ -280,26 +269,22 @@ fn the_oldest_are_dropped(rt: HostRuntime) -> Result<(), Fail> {
 
 #[test]
 fn an_older_one_is_restored(rt: HostRuntime) -> Result<(), Fail> {
-    let mut ring = Ring::make(rt.alloc(), 3)?;
     let mut t = CountedSnapshot::make(rt.alloc(), 3, PAGES, 1024)?;
-    save_each(&mut ring, &mut t, 0, 2, 1);
+    save_each(&mut t, 0, 2, 1);
     t.advance(7, 3);
-    assert!(rt; 1 < ring.len());
-    ring.restore(&mut t, 1);
-    assert_eq!(rt; t.taken(), 1);
+    assert!(rt; 1 < t.checkpoints());
+    t.restore(1);
+    assert_eq!(rt; t.live, 1);
     assert_eq!(rt;
-        items_taken(rt.alloc(), &ring)?.as_slice(),
+        items_taken(rt.alloc(), &t)?.as_slice(),
         [2, 1, 0].as_slice()
     );
-    ring.drop_newer(&mut t, 1);
-    assert_eq!(rt; t.taken(), 1);
+    drop_newer(&mut t, 1);
+    assert_eq!(rt; t.live, 1);
+    assert_eq!(rt; items_taken(rt.alloc(), &t)?.as_slice(), [1, 0].as_slice());
+    save_each(&mut t, 5, 6, 2);
     assert_eq!(rt;
-        items_taken(rt.alloc(), &ring)?.as_slice(),
-        [1, 0].as_slice()
-    );
-    save_each(&mut ring, &mut t, 5, 6, 2);
-    assert_eq!(rt;
-        items_taken(rt.alloc(), &ring)?.as_slice(),
+        items_taken(rt.alloc(), &t)?.as_slice(),
         [6, 5, 1].as_slice()
     );
     Ok(())

@@ -223,7 +223,7 @@ recorded_up_to {rules = rules} {image = image} {keeping = keeping} {telling = te
       chained = h.chained;
       checkpoints = h.are;
       stands = stands_of session.cpu.slots.saved;
-      ringed = has_ring session.cpu.slots.saved h.paths h.as_many h.saved;
+      ringed = has_ring session.cpu.slots.saved h.paths h.saved;
       handled =
           subst (λ (k : Keeping). HandledAt (stop.Breaks fault) rules image k account.earlier (before_end account) telling.recoveries account.survivor (stands_of session.cpu.slots.saved)) same left.requests;
       oldest = left.oldest;
@@ -241,7 +241,7 @@ recorded_low {rules = rules} {image = image} {telling = telling} {session = sess
       chained = h.chained;
       checkpoints = h.are;
       stands = stands_of session.cpu.slots.saved;
-      ringed = has_ring session.cpu.slots.saved h.paths h.as_many h.saved;
+      ringed = has_ring session.cpu.slots.saved h.paths h.saved;
       handled =
           subst (λ (k : Keeping). HandlesRequests rules image k account.earlier (before_end account) telling.recoveries account.survivor (stands_of session.cpu.slots.saved)) same h.requests;
       oldest = kept.oldest;

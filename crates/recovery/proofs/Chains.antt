@@ -1,6 +1,6 @@
 -- What holds of all checkpoints of a ring, as the session goes on.
 use Rattle.link_gate.proofs.Knowing.{known_none}
-use Rattle.recovery.proofs.Terms.{Bool, List, None, [], drop, false, length, refl, subst, suc, sym, take, true, zero, ℕ, ◌++◌, ◌∙◌, ◌∷◌, ◌≡◌, ◌≤◌, both_ways, Item, Entry, Log, Ledger, connection_of, Image, may_send, Limits, Override, Path, Served, origin, IsBounded, served_on, served_with, events_of, heeded, KeepsReplies, Rules, opens, Carries, chained_from, AreChained, AreCheckpoints, AreKept, CanGoOn, Brings}
+use Rattle.recovery.proofs.Terms.{Bool, List, None, [], append-nil, drop, false, length, refl, subst, suc, sym, take, true, zero, ℕ, ◌++◌, ◌∙◌, ◌∷◌, ◌≡◌, ◌≤◌, both_ways, Item, Entry, Log, Ledger, connection_of, Image, may_send, Limits, Override, Path, Served, origin, IsBounded, served_on, served_with, events_of, heeded, items_in, KeepsReplies, Rules, opens, Carries, chained_from, AreChained, AreCheckpoints, AreKept, CanGoOn, Brings}
 
 -- the latest run goes on
 pub chained_on : (limits : Limits) (items : List Item) (plan : List Override) (image : Image) (now next : Path) (ring : List Path) → Served limits items plan now next → AreChained limits items plan image now ring → AreChained limits items plan image next ring
@@ -50,6 +50,10 @@ can_go_on rules before after more path brings goes = record {
   timed = goes.timed;
   sendable = goes.sendable;
 }
+
+-- no more entries bring none
+pub brings_none : (rules : Rules) (entries : List Entry) → Brings rules entries entries []
+brings_none rules entries = record { items = sym (append-nil (items_in rules.bounds entries)); opened = λ conn is. is }
 
 -- and a checkpoint is kept, where log and ledger have given up no more
 pub kept_with : (rules : Rules) (before after : List Entry) (more : List Item) (log log' : Log) (ledger ledger' : Ledger) (ring : List Path) → Brings rules before after more → log'.first ≡ log.first → ledger'.first ≡ ledger.first

@@ -1,14 +1,10 @@
 -- The environment that is in force.
-use Rattle.recovery.proofs.Terms.{Bool, List, Some, [], ap, arith, cond, eqb, false, inl, inr, ltb, refl, subst, true, ℕ, ◌+◌, ◌<◌, ◌≡◌, ◌≤◌, ◌⊎◌, cond_both, eqb-false, le-ltb, slice_get, Item, Entry, Env, Plain, Checkpoints, Log, Ledger, Image, Cause, AsksFor, FailsBy, Limits, Override, Path, Served, env_at, CpuState, items_in, Rules, asks_under_all, chained_at, past_request, start_taken, apart_asks_fails, IsCheckpoint, plan_of_trial, IsInForce, KeepsRing}
+use Rattle.recovery.proofs.Terms.{Bool, List, Some, [], ap, arith, cond, eqb, inl, inr, ltb, refl, subst, ℕ, ◌+◌, ◌<◌, ◌≡◌, ◌≤◌, ◌⊎◌, cond_both, eqb-false, le-ltb, slice_get, Item, Entry, Env, Plain, Log, Ledger, Image, Cause, AsksFor, FailsBy, Limits, Override, Path, Served, env_at, CpuState, items_in, Rules, asks_under_all, chained_at, past_request, start_taken, apart_asks_fails, IsCheckpoint, plan_of_trial, IsInForce, KeepsRing}
 use Rattle.recovery.proofs.Starting.{checkpoint_at}
-
-plain_both : (b : Bool) → Plain ≡ cond b Plain Plain
-plain_both true = refl
-plain_both false = refl
 
 -- Without a plan it is Plain.
 pub in_force_none : (taken : ℕ) → IsInForce [] taken Plain 0
-in_force_none taken = record { in_force = λ count later. plain_both (ltb count 0) }
+in_force_none taken = record { in_force = λ count later. cond_both (ltb count 0) Plain Plain (λ e. Plain ≡ e) (λ _. refl) (λ _. refl) }
 
 -- It stays in force as more items are taken.
 pub in_force_later : (plan : List Override) (taken later : ℕ) (env : Env) (until : ℕ) → taken ≤ later → IsInForce plan taken env until → IsInForce plan later env until
@@ -41,10 +37,10 @@ before_point limits items image plan checkpoint failed cause (inr asks) served f
     ]
 
 -- So is each checkpoint of the ring of a survivor that fails, and the environment of a trial from there is in force once it is adopted.
-pub in_force_from : {R : Type 0} (rules : Rules) (image : Image) (entries : List Entry) (plan : List Override) (failed : Path) (ring : List Path) (cpu : CpuState R) (checkpoints : Checkpoints) (log : Log) (ledger : Ledger) (env : Env) (cause : Cause) (index : ℕ) (checkpoint : Path)
-    → KeepsRing rules image entries plan failed ring cpu checkpoints log ledger → FailsBy rules.limits plan failed cause → slice_get ring index ≡ Some checkpoint
+pub in_force_from : {R : Type 0} {rules : Rules} {image : Image} {entries : List Entry} {plan : List Override} {failed : Path} {ring : List Path} {cpu : CpuState R} {log : Log} {ledger : Ledger} {cause : Cause} {checkpoint : Path} (env : Env) (index : ℕ)
+    → KeepsRing rules image entries plan failed ring cpu log ledger → FailsBy rules.limits plan failed cause → slice_get ring index ≡ Some checkpoint
     → IsInForce (plan_of_trial plan checkpoint.state.machine.taken env failed.state.machine.taken) failed.state.machine.taken env (failed.state.machine.taken + 4)
-in_force_from rules image entries plan failed ring cpu checkpoints log ledger env cause index checkpoint k fails found =
+in_force_from {rules = rules} {image = image} {entries = entries} {plan = plan} {failed = failed} {ring = ring} {cause = cause} {checkpoint = checkpoint} env index k fails found =
     in_force_adopted plan checkpoint.state.machine.taken env failed.state.machine.taken
     (before_point rules.limits (items_in rules.bounds entries) image plan checkpoint failed cause (checkpoint_at rules.limits image ring index checkpoint k.are found)
     (chained_at rules.limits (items_in rules.bounds entries) plan image failed ring index checkpoint k.chained found).0 fails)

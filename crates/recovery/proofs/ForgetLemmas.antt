@@ -1,11 +1,11 @@
 -- The oldest checkpoint of a ring, and what a session gives up that lies before it.
-use Rattle.std.specs.Option.{option_map}
 use Rattle.item_log.specs.Log.{received}
 use Rattle.item_log.specs.Log as logs
 use Rattle.reply_ledger.specs.Trimming as ledgers
 use Rattle.run_history.proofs.Repeats.{repeated_keeps}
-use Rattle.recovery.proofs.Terms.{IfSome, List, None, Option, Some, [], ap, arith, length, length-append, length-drop, max, min, subst, suc, sym, ℕ, ◌+◌, ◌-◌, ◌<◌, ◌∙◌, ◌∷◌, ◌≡◌, ◌≤◌, none-some, same_Some, slice_get, Item, Entry, Env, Checkpoints, from_newest, Saved, Log, ShowsStill, Ledger, settled, Image, map_some, served_follows, serves_to, Limits, Override, Path, Served, env_at, listed, origin, planned_next, served_next, Marks, CpuState, standing_of, Standing, marks_of, next_grows, items_in, KeepsItems, KeepsReplies, Rules, chained_at, AreChained, AreKept, AreBehind, KeepsRing}
+use Rattle.recovery.proofs.Terms.{IfSome, List, None, Option, Some, [], ap, arith, length, length-append, length-drop, max, min, subst, suc, sym, ◌+◌, ◌-◌, ◌<◌, ◌∙◌, ◌∷◌, ◌≡◌, ◌≤◌, none-some, same_Some, map, slice_get, Item, Entry, Env, Checkpoint, oldest_of, Log, ShowsStill, Ledger, settled, Image, served_follows, serves_to, Limits, Override, Path, Served, env_at, listed, origin, planned_next, served_next, Marks, CpuState, standing_of, Standing, marks_of, next_grows, items_in, KeepsItems, KeepsReplies, Rules, chained_at, AreChained, AreKept, taken_in, AreBehind, KeepsRing}
 use Rattle.recovery.specs.Forgetting.{CanForget, Forgets}
+use Rattle.recovery.proofs.Stands.{found_at, ring_length, saved_at}
 use Rattle.recovery.proofs.TrimLemmas.{keeps_without}
 use Rattle.recovery.proofs.Survived.{start_used}
 
@@ -65,33 +65,19 @@ oldest_used limits items plan image later ring oldest chain last =
     let from_start = (chained_at limits items plan image later ring (length ring - 1) oldest chain last).1 in
     (served_follows limits items plan (origin image) oldest from_start.more (start_used image) from_start.ran).used
 
--- the oldest run of a ring
-last_of : (ring : List Path) → 0 < length ring → (oldest : Path) × (slice_get ring (length ring - 1) ≡ Some oldest)
-last_of [] some = absurd (omega (arith, some))
-last_of (only ∷ []) some = (only, ap (slice_get (only ∷ [])) (let none : length (only ∷ []) - 1 ≡ 0 = omega arith in none))
-last_of (newest ∷ (next ∷ older)) some =
-    let rest = last_of (next ∷ older) (omega arith) in
-    let place : length (newest ∷ (next ∷ older)) - 1 ≡ suc (length (next ∷ older) - 1) = omega arith in
-    (rest.0, ap (slice_get (newest ∷ (next ∷ older))) place ∙ rest.1)
-
--- The oldest saved slot is where the oldest run of the ring stands.
-pub record HasOldest (ring : List Path) (saved : List (Saved Standing)) : Type 0 where
+-- The oldest checkpoint is where the oldest run of the ring stands.
+pub record HasOldest (ring : List Path) (saved : List (Checkpoint Standing)) : Type 0 where
   pub oldest : Path
-  pub last : slice_get ring (length ring - 1) ≡ Some oldest
-  pub slot : Saved Standing
-  pub first : slice_get saved 0 ≡ Some slot
-  pub stands : slot.state ≡ standing_of oldest
+  pub last : oldest_of ring ≡ Some oldest
+  pub checkpoint : Checkpoint Standing
+  pub first : oldest_of saved ≡ Some checkpoint
+  pub stands : checkpoint.state ≡ standing_of oldest
 
-pub has_oldest : (ring : List Path) (saved : List (Saved Standing)) → 0 < length ring → length saved ≡ length ring
-    → ((index : ℕ) → index < length ring → option_map (λ one. one.state) (from_newest saved index) ≡ option_map standing_of (slice_get ring index)) → HasOldest ring saved
-has_oldest ring saved some many each =
-    let last = last_of ring some in
-    let f : Saved Standing → Standing = λ (one : Saved Standing). one.state in
-    let place : 0 ≡ length saved - (length ring - 1) - 1 = omega (arith, some, many) in
-    let is : option_map f (slice_get saved 0) ≡ Some (standing_of last.0) =
-    ap (λ n. option_map f (slice_get saved n)) place ∙ (each (length ring - 1) (omega (arith, some)) ∙ ap (option_map standing_of) last.1) in
-    let slot = map_some f (slice_get saved 0) (standing_of last.0) is in
-    record { oldest = last.0; last = last.1; slot = slot.0; first = slot.1; stands = slot.2 }
+pub has_oldest : (saved : List (Checkpoint Standing)) (ring : List Path) → 0 < length ring → map (λ (one : Checkpoint Standing). one.state) saved ≡ map standing_of ring → HasOldest ring saved
+has_oldest saved ring some same =
+    let last = found_at ring (length ring - 1) (omega (arith, some)) in
+    let there = saved_at saved ring (length ring - 1) same last.1 in
+    record { oldest = last.0; last = last.1; checkpoint = there.0; first = ap (λ n. slice_get saved (n - 1)) (ring_length saved ring same) ∙ there.1; stands = there.2 }
 
 -- Each checkpoint of the ring is kept still, where log and ledger gave up what lies before the oldest one at most.
 kept_still : (rules : Rules) (entries : List Entry) (oldest : Path) (log log' : Log) (ledger ledger' : Ledger) (ring : List Path) → log'.first ≤ max log.first oldest.state.machine.taken → ledger'.first ≤ max ledger.first (length oldest.state.sends)
@@ -107,49 +93,43 @@ kept_still rules entries oldest log log' ledger ledger' (newest ∷ older) few l
   kept_still rules entries oldest log log' ledger ledger' older few less after.1 are.1,
 )
 
-module _ {R : Type 0} where
-  pub oldest_of : (rules : Rules) (image : Image) (entries : List Entry) (plan : List Override) (now : Path) (ring : List Path) (cpu : CpuState R) (checkpoints : Checkpoints) (log : Log) (ledger : Ledger)
-      → KeepsRing rules image entries plan now ring cpu checkpoints log ledger → HasOldest ring cpu.slots.saved
-  oldest_of rules image entries plan now ring cpu checkpoints log ledger k = has_oldest ring cpu.slots.saved k.some k.as_many k.saved
+module _ {R : Type 0} {rules : Rules} {image : Image} {entries : List Entry} {plan : List Override} {now : Path} {ring : List Path} {cpu : CpuState R} {log : Log} {ledger : Ledger} (k : KeepsRing rules image entries plan now ring cpu log ledger) where
+  pub oldest_kept : HasOldest ring cpu.slots.saved
+  oldest_kept = has_oldest cpu.slots.saved ring k.some k.saved
 
   -- What lies before the oldest checkpoint was received and sent, so that a session between two events can give it up.
-  pub can_forget : (rules : Rules) (image : Image) (entries : List Entry) (plan : List Override) (now : Path) (ring : List Path) (cpu : CpuState R) (checkpoints : Checkpoints) (log : Log) (ledger : Ledger)
-      → KeepsRing rules image entries plan now ring cpu checkpoints log ledger → KeepsItems rules.bounds entries log → KeepsReplies rules.bounds entries None now.state.sends ledger
-      → ledger.trial ≡ None → now.state.machine.taken ≤ received log → CanForget cpu log ledger
-  can_forget rules image entries plan now ring cpu checkpoints log ledger k items replies none taken =
-      let h = oldest_of rules image entries plan now ring cpu checkpoints log ledger k in
+  pub can_forget : KeepsReplies rules.bounds entries None now.state.sends ledger → ledger.trial ≡ None → now.state.machine.taken ≤ received log → CanForget cpu log ledger
+  can_forget replies none taken =
+      let h = oldest_kept in
       let before = (after_oldest rules.limits (items_in rules.bounds entries) plan image now ring h.oldest k.chained h.last).0 in
-      let items_there : h.slot.state.guest.machine.taken ≤ received log = omega (arith, ap (λ (s : Standing). s.guest.machine.taken) h.stands, before.taken, taken) in
       let all : length ledger.kept ≡ length now.state.sends - ledger.first = ap length replies.shows.kept ∙ length-drop ledger.first now.state.sends in
-      let sends_there : h.slot.state.sends ≤ ledger.first + length ledger.kept = omega (arith, ap (λ (s : Standing). s.sends) h.stands, before.sends, all, replies.shows.counted) in
+      let items : h.checkpoint.state.guest.machine.taken ≤ received log = omega (arith, ap taken_in h.stands, before.taken, taken) in
+      let sends : h.checkpoint.state.sends ≤ ledger.first + length ledger.kept = omega (arith, ap (λ (s : Standing). s.sends) h.stands, before.sends, all, replies.shows.counted) in
       record {
-        some = omega (arith, k.as_many, k.some);
+        some = omega (arith, ring_length cpu.slots.saved ring k.saved, k.some);
         trial = none;
-        items = subst (λ (o : Option (Saved Standing)). IfSome o (λ oldest. oldest.state.guest.machine.taken ≤ received log)) (sym h.first) items_there;
-        sends = subst (λ (o : Option (Saved Standing)). IfSome o (λ oldest. oldest.state.sends ≤ ledger.first + length ledger.kept)) (sym h.first) sends_there;
+        items = subst (λ (o : Option (Checkpoint Standing)). IfSome o (λ oldest. oldest.state.guest.machine.taken ≤ received log)) (sym h.first) items;
+        sends = subst (λ (o : Option (Checkpoint Standing)). IfSome o (λ oldest. oldest.state.sends ≤ ledger.first + length ledger.kept)) (sym h.first) sends;
       }
 
   -- The answers of the allocator before the oldest checkpoint: as many were used at each checkpoint, and the run has them.
-  pub behind_marks : (rules : Rules) (image : Image) (entries : List Entry) (plan : List Override) (now : Path) (ring : List Path) (cpu : CpuState R) (checkpoints : Checkpoints) (log : Log) (ledger : Ledger) (marks : Marks)
-      → IfSome (slice_get cpu.slots.saved 0) (λ one. marks ≡ marks_of one.state) → KeepsRing rules image entries plan now ring cpu checkpoints log ledger → AreBehind marks.choices ring × (marks.choices ≤ length now.choices)
-  behind_marks rules image entries plan now ring cpu checkpoints log ledger marks is k =
-      let h = oldest_of rules image entries plan now ring cpu checkpoints log ledger k in
+  pub behind_marks : (marks : Marks) → IfSome (oldest_of cpu.slots.saved) (λ one. marks ≡ marks_of one.state) → AreBehind marks.choices ring × (marks.choices ≤ length now.choices)
+  behind_marks marks is =
+      let h = oldest_kept in
       let after = after_oldest rules.limits (items_in rules.bounds entries) plan image now ring h.oldest k.chained h.last in
-      let here : marks ≡ marks_of h.slot.state = subst (λ (o : Option (Saved Standing)). IfSome o (λ one. marks ≡ marks_of one.state)) h.first is in
+      let here : marks ≡ marks_of h.checkpoint.state = subst (λ (o : Option (Checkpoint Standing)). IfSome o (λ one. marks ≡ marks_of one.state)) h.first is in
       let used : marks.choices ≡ length h.oldest.choices =
       ap (λ (m : Marks). m.choices) here ∙ (ap (λ (s : Standing). s.guest.machine.allocations) h.stands ∙ oldest_used rules.limits (items_in rules.bounds entries) plan image now ring h.oldest k.chained h.last) in
       (subst (λ n. AreBehind n ring) (sym used) (behind_after h.oldest ring after.1), omega (arith, used, after.0.choices))
 
   -- What is left is enough for each trial, and right beside the journal.
-  pub forgets : (rules : Rules) (image : Image) (entries : List Entry) (plan : List Override) (now : Path) (ring : List Path) (cpu : CpuState R) (checkpoints : Checkpoints) (log log' : Log) (ledger ledger' : Ledger) (marks : Marks)
-      → IfSome (slice_get cpu.slots.saved 0) (λ one. marks ≡ marks_of one.state) → log' ≡ logs.trimmed log marks.taken → ShowsStill log log' → ledger' ≡ ledgers.trimmed ledger marks.sends
-      → KeepsRing rules image entries plan now ring cpu checkpoints log ledger → KeepsItems rules.bounds entries log → KeepsReplies rules.bounds entries None now.state.sends ledger
-      → Forgets rules image entries plan now ring cpu checkpoints log' ledger'
-  forgets rules image entries plan now ring cpu checkpoints log log' ledger ledger' marks is cut still less k items replies =
-      let h = oldest_of rules image entries plan now ring cpu checkpoints log ledger k in
+  pub forgets : {log' : Log} {ledger' : Ledger} (marks : Marks) → IfSome (oldest_of cpu.slots.saved) (λ one. marks ≡ marks_of one.state) → log' ≡ logs.trimmed log marks.taken → ShowsStill log log' → ledger' ≡ ledgers.trimmed ledger marks.sends
+      → KeepsItems rules.bounds entries log → KeepsReplies rules.bounds entries None now.state.sends ledger → Forgets rules image entries plan now ring cpu log' ledger'
+  forgets {log' = log'} {ledger' = ledger'} marks is cut still less items replies =
+      let h = oldest_kept in
       let after = after_oldest rules.limits (items_in rules.bounds entries) plan image now ring h.oldest k.chained h.last in
-      let here : marks ≡ marks_of h.slot.state = subst (λ (o : Option (Saved Standing)). IfSome o (λ one. marks ≡ marks_of one.state)) h.first is in
-      let taken : marks.taken ≡ h.oldest.state.machine.taken = ap (λ (m : Marks). m.taken) here ∙ ap (λ (s : Standing). s.guest.machine.taken) h.stands in
+      let here : marks ≡ marks_of h.checkpoint.state = subst (λ (o : Option (Checkpoint Standing)). IfSome o (λ one. marks ≡ marks_of one.state)) h.first is in
+      let taken : marks.taken ≡ h.oldest.state.machine.taken = ap (λ (m : Marks). m.taken) here ∙ ap taken_in h.stands in
       let sent : marks.sends ≡ length h.oldest.state.sends = ap (λ (m : Marks). m.sends) here ∙ ap (λ (s : Standing). s.sends) h.stands in
       let first : log'.first ≡ max log.first marks.taken = ap (λ (l : Log). l.first) cut in
       record {
@@ -158,11 +138,8 @@ module _ {R : Type 0} where
           chained = k.chained;
           are = k.are;
           kept = kept_still rules entries h.oldest log log' ledger ledger' ring (omega (arith, first, taken)) (omega (arith, ap (λ (l : Ledger). l.first) less, sent)) after.1 k.kept;
-          as_many = k.as_many;
           saved = k.saved;
-          standing = k.standing;
-          capacity = k.capacity;
-          base = k.base;
+          newest = k.newest;
           window = k.window;
           wrote = k.wrote;
         };

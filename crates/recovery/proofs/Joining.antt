@@ -1,6 +1,6 @@
 -- What the ledger of a trial says of what was passed is said of its run.
 use Rattle.reply_ledger.specs.Trials as ledgers
-use Rattle.recovery.proofs.Terms.{Bool, List, Option, Some, [], ap, append-nil, arith, cond, drop, eqb, false, length, length-append, refl, subst, sym, take, true, ℕ, ◌&&◌, ◌++◌, ◌+◌, ◌∙◌, ◌∷◌, ◌≡◌, ◌≤◌, eq-eqb, eqb-true, true≢false, drop-drop, take-append-drop, AllByRecursion, IsTrue, unwrap_or, ◌==◌, Prefix, Send, sent_to, covers-shows, covers_before-shows, shown_passed, shows-covers, shows-covers_before, agree-append, IsInOrder, Ledger, Passed, stamped, stamps_of, Shows, pieces_until, stamped_of, agree, trial_sends, sent_to-append, sent_to-more, AreBetween, AreInOrder, until, agrees_next}
+use Rattle.recovery.proofs.Terms.{Bool, List, Option, Some, [], ap, append-nil, arith, cond, drop, eqb, false, length, length-append, refl, subst, sym, take, true, ℕ, ◌&&◌, ◌++◌, ◌+◌, ◌∙◌, ◌∷◌, ◌≡◌, ◌≤◌, eq-eqb, eqb-true, drop-drop, take-append-drop, AllByRecursion, unwrap_or, ◌==◌, Prefix, Send, sent_to, covers-shows, covers_before-shows, shown_passed, shows-covers, shows-covers_before, agree-append, IsInOrder, Ledger, Passed, stamped, stamps_of, Shows, pieces_until, stamped_of, agree, trial_sends, sent_to-append, sent_to-more, AreBetween, AreInOrder, until, agrees_next}
 
 -- stamps stand in order
 all_after : (low : ℕ) (stamp : ℕ) (bytes : List ℕ) (rest : List Passed) → low ≤ stamp → AllByRecursion (λ y. low ≤ y) (stamps_of rest) → AllByRecursion (λ y. low ≤ y) (stamps_of (stamped stamp bytes ++ rest))
@@ -98,10 +98,3 @@ agree_more sends pieces send next before conn = of (eqb send.conn conn) refl
     of true same = subst (λ q. agree (sent_to q (sends ++ send ∷ [])) (sent_to q pieces) ≡ true) (eqb-true send.conn conn same) (agrees_more sends pieces send true next (before send.conn))
     of false other =
         ap (λ (l : List ℕ). agree l (sent_to conn pieces)) (sent_to-more conn sends send ∙ (ap (λ (b : Bool). sent_to conn sends ++ cond b send.bytes []) other ∙ append-nil (sent_to conn sends))) ∙ before conn
-
--- what a test says
-pub test_holds : (b : Bool) (P : Type 0) → b ≡ true → (IsTrue b → P) → P
-test_holds b P is holds = holds is
-
-pub test_fails : (b : Bool) (P : Type 0) → b ≡ false → (P → IsTrue b) → P → ⊥
-test_fails b P is holds p = true≢false (sym (holds p) ∙ is)

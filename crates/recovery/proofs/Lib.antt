@@ -1,4 +1,5 @@
 pub mod Terms
+pub mod Stands
 pub mod Joining
 pub mod Few
 pub mod Starting
@@ -10,7 +11,6 @@ pub mod Looping
 pub mod Ending
 pub mod Adopting
 pub mod WalkLemmas
-pub mod Mirrors
 pub mod Chains
 pub mod RingLemmas
 pub mod Forces

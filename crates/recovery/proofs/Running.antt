@@ -47,46 +47,26 @@ can_still rules items plan entries first now lives goes sends c = record {
 }
 
 module _ {R : Type 0} where
-  -- a trial has room for a budget more
-  pub trying_room : (failure : Failure) (point : ℕ) (checkpoint : Path) (env : Env) (cpu : CpuState R) (choices : List Choice) (log : Log) (ledger : Ledger) → IsTrying failure point checkpoint env cpu choices log ledger
-      → cpu.slots.live.steps + failure.rules.limits.budget < 2 ^ 64 - 1
-  trying_room failure point checkpoint env cpu choices log ledger t =
-      let bounded = t.goes.bounded t.lives in
-      let f = t.failed.has in
-      room t.path.steps cpu.slots.live.steps t.path.state.machine.taken t.path.state.machine.since failure.rules.limits.budget (ap (λ (s : Standing). s.steps) t.stands) bounded.steps bounded.since
-      (omega (arith, t.unharmed.early, t.failed.point_is, f.taken, few_items failure.rules.bounds failure.entries, f.few_items)) t.failed.few_steps
-
   -- how the guest of a trial runs
   abbrev pub Ran : ℕ → (Heap → ℕ → ℕ → Bool) → Env → CpuState R → CpuState R → Result Event AllocError → Type 0
   Ran budget permits env old new result = RunsBy event.Emits (turn (limits_of budget permits) env) old.base (live_of old) result (live_of new)
 
-  ran_under : (failure : Failure) (budget : ℕ) (permits : Heap → ℕ → ℕ → Bool) (env : Env) (old new : CpuState R) (result : Result Event AllocError) → IsUnder failure budget permits → Ran budget permits env old new result
-      → RunsBy event.Emits (turn failure.rules.limits env) old.base (live_of old) result (live_of new)
-  ran_under failure budget permits env old new result under ran = subst (λ (limits : Limits). RunsBy event.Emits (turn limits env) old.base (live_of old) result (live_of new)) (sym under) ran
-
-  -- its run goes on so, and writes the pages that the guest marks
-  pub ran_on : (failure : Failure) (point : ℕ) (checkpoint : Path) (env : Env) (old new : CpuState R) (choices : List Choice) (log : Log) (ledger : Ledger) (budget : ℕ) (permits : Heap → ℕ → ℕ → Bool) (result : Result Event AllocError) → IsUnder failure budget permits
-      → (t : IsTrying failure point checkpoint env old choices log ledger) → Ran budget permits env old new result → RunsWriting failure.rules.limits (items_of failure) (everywhere env point) old.base t.path old.written result (live_of new)
-  ran_on failure point checkpoint env old new choices log ledger budget permits result under t ran =
-      runs_write failure.rules.limits (items_of failure) (everywhere env point) env old.base t.path (live_of old) (live_of new) result t.lives (force_is env point t.path.state.machine.taken t.unharmed.early) t.stands
-      (ran_under failure budget permits env old new result under ran)
-
   -- nothing is saved by a run
-  pub live_keeps : (old new : CpuState R) → new ≡ with_live (live_of new) old → KeepsSaved old new
-  live_keeps old new kept = record {
-    rule = ap (λ (c : CpuState R). c.rule) kept;
-    base = ap (λ (c : CpuState R). c.base) kept;
-    saved = ap (λ (c : CpuState R). c.slots.saved) kept;
-    count = ap (λ (c : CpuState R). c.slots.count) kept;
-    pages = ap (λ (c : CpuState R). c.slots.pages) kept;
-    frames = ap (λ (c : CpuState R). c.slots.frames) kept;
+  pub live_base : (old new : CpuState R) → new ≡ with_live (live_of new) old → KeepsBase old new
+  live_base old new kept = record {
+    saved = record {
+      rule = ap (λ (c : CpuState R). c.rule) kept;
+      base = ap (λ (c : CpuState R). c.base) kept;
+      saved = ap (λ (c : CpuState R). c.slots.saved) kept;
+      count = ap (λ (c : CpuState R). c.slots.count) kept;
+      pages = ap (λ (c : CpuState R). c.slots.pages) kept;
+      frames = ap (λ (c : CpuState R). c.slots.frames) kept;
+    };
+    newer = ap (λ (c : CpuState R). c.slots.newer) kept;
   }
 
-  pub same_base : (cpu : CpuState R) → KeepsBase cpu cpu
-  same_base cpu = record { saved = record { rule = refl; base = refl; saved = refl; count = refl; pages = refl; frames = refl }; base = refl }
-
-  pub saved_on : (old mid new : CpuState R) → KeepsSaved old mid → KeepsSaved mid new → KeepsSaved old new
-  saved_on old mid new one other = record {
+  pub saved_on : {old mid new : CpuState R} → KeepsSaved old mid → KeepsSaved mid new → KeepsSaved old new
+  saved_on one other = record {
     rule = other.rule ∙ one.rule;
     base = other.base ∙ one.base;
     saved = other.saved ∙ one.saved;
@@ -95,42 +75,15 @@ module _ {R : Type 0} where
     frames = other.frames ∙ one.frames;
   }
 
-  pub base_on : (old mid new : CpuState R) → KeepsBase old mid → KeepsBase mid new → KeepsBase old new
-  base_on old mid new one other = record { saved = saved_on old mid new one.saved other.saved; base = other.base ∙ one.base }
-
-  pub live_base : (old new : CpuState R) → new ≡ with_live (live_of new) old → KeepsBase old new
-  live_base old new kept = record { saved = live_keeps old new kept; base = ap (λ (c : CpuState R). c.slots.base) kept }
+  pub base_on : {old mid new : CpuState R} → KeepsBase old mid → KeepsBase mid new → KeepsBase old new
+  base_on one other = record { saved = saved_on one.saved other.saved; newer = other.newer ∙ one.newer }
 
   -- what a trial wrote, and wrote then
-  pub wrote_on : (failure : Failure) (checkpoint first now : Path) (old new : CpuState R) → KeepsSaved old new → Writes failure.rules.limits (items_of failure) old.base checkpoint (replicate old.slots.pages false) first old.written
+  pub wrote_on : (failure : Failure) (checkpoint first now : Path) {old new : CpuState R} → KeepsSaved old new → Writes failure.rules.limits (items_of failure) old.base checkpoint (replicate old.slots.pages false) first old.written
       → Writes failure.rules.limits (items_of failure) old.base first old.written now new.written → Writes failure.rules.limits (items_of failure) new.base checkpoint (replicate new.slots.pages false) now new.written
-  wrote_on failure checkpoint first now old new saved one other =
-      subst (λ (base : ℕ). Writes failure.rules.limits (items_of failure) base checkpoint (replicate new.slots.pages false) now new.written) (sym saved.base)
-      (subst (λ (pages : ℕ). Writes failure.rules.limits (items_of failure) old.base checkpoint (replicate pages false) now new.written) (sym saved.pages)
-      (writes_on failure.rules.limits (items_of failure) old.base checkpoint (replicate old.slots.pages false) first old.written now new.written one other))
-
-  -- a trial that went on, and sent nothing
-  unfoldable pub goes_silently : (failure : Failure) (point : ℕ) (checkpoint : Path) (env : Env) (old new : CpuState R) (before choices : List Choice) (log : Log) (ledger : Ledger) (t : IsTrying failure point checkpoint env old before log ledger) (now : Path)
-      → KeepsSaved old new → GoesOn failure.rules.limits (items_of failure) (everywhere env point) t.path now → now.state.ended ≡ None → now.state.sends ≡ t.path.state.sends → now.choices ≡ checkpoint.choices ++ choices → standing_of now ≡ new.slots.live
-      → Writes failure.rules.limits (items_of failure) old.base t.path old.written now new.written → IsTrying failure point checkpoint env new choices log ledger
-  goes_silently failure point checkpoint env old new before choices log ledger t now saved goes lives sends chose stands wrote =
-      record {
-        failed = failed_still point failure old new log ledger ledger saved refl t.failed;
-        from = t.from;
-        path = now;
-        served = served_on failure.rules.limits (items_of failure) (everywhere env point) checkpoint t.path now t.served goes.served;
-        unharmed = unharmed_still (pieces_of failure) point t.path.state now.state sends goes.taken t.unharmed;
-        lives = lives;
-        stands = sym stands;
-        wrote = wrote_on failure checkpoint t.path now old new saved t.wrote wrote;
-        chose = chose;
-        goes = can_still failure.rules (items_of failure) (everywhere env point) failure.entries t.path now t.lives goes sends t.goes;
-        items = subst (λ n. log.first ≤ n) (sym goes.taken) t.items;
-        many = subst (λ (all : List Send). ledger.first ≤ length all) (sym sends) t.many;
-        front = ap (take ledger.first) sends ∙ t.front;
-        sent = t.sent ∙ ap (λ (all : List Send). Some (drop ledger.first all)) (sym sends);
-        agrees = t.agrees;
-      }
+  wrote_on failure checkpoint first now {old = old} {new = new} saved one other =
+      subst (λ (at : ℕ × ℕ). Writes failure.rules.limits (items_of failure) at.0 checkpoint (replicate at.1 false) now new.written) (λ i. (sym saved.base i, sym saved.pages i))
+      (writes_on failure.rules.limits (items_of failure) old.base checkpoint (replicate old.slots.pages false) first old.written now new.written one other)
 
 -- a run that sends, by its last instruction
 pub record SendsOn (limits : Limits) (items : List Item) (plan : List Override) (base : ℕ) (first : Path) (flags : List Bool) (conn : ℕ) (bytes : List ℕ) (new : Live) : Type 0 where
@@ -183,12 +136,49 @@ sends_last limits items plan env base first flags conn bytes before new t in_for
       later = omega (arith, comes.goes.later, (one_more limits env comes.now follows.next adds.0).steps);
     }
 
-module _ {R : Type 0} where
-  pub ran_sends : (failure : Failure) (point : ℕ) (checkpoint : Path) (env : Env) (old new : CpuState R) (choices : List Choice) (log : Log) (ledger : Ledger) (budget : ℕ) (permits : Heap → ℕ → ℕ → Bool) (conn : ℕ) (bytes : List ℕ)
-      → IsUnder failure budget permits → (t : IsTrying failure point checkpoint env old choices log ledger) → Ran budget permits env old new (Ok (event.Emits conn bytes))
-      → SendsOn failure.rules.limits (items_of failure) (everywhere env point) old.base t.path old.written conn bytes (live_of new)
-  ran_sends failure point checkpoint env old new choices log ledger budget permits conn bytes under t ran =
-      let runs = ran_under failure budget permits env old new (Ok (event.Emits conn bytes)) under ran in
-      let force = force_is env point t.path.state.machine.taken t.unharmed.early in
-      let came = comes_writing failure.rules.limits (items_of failure) (everywhere env point) env old.base t.path (live_of old) runs.before runs.count t.lives force t.stands runs.quiet in
-      sends_last failure.rules.limits (items_of failure) (everywhere env point) env old.base t.path old.written conn bytes runs.before (live_of new) runs.last force came runs.turns runs.is_event runs.left
+module _ {R : Type 0} {failure : Failure} {point : ℕ} {checkpoint : Path} {env : Env} {old : CpuState R} {choices : List Choice} {log : Log} {ledger : Ledger} (t : IsTrying failure point checkpoint env old choices log ledger) where
+  -- a trial has room for a budget more
+  pub trying_room : old.slots.live.steps + failure.rules.limits.budget < 2 ^ 64 - 1
+  trying_room =
+      let bounded = t.goes.bounded t.lives in
+      let f = t.failed.has in
+      room t.path.steps old.slots.live.steps t.path.state.machine.taken t.path.state.machine.since failure.rules.limits.budget (ap (λ (s : Standing). s.steps) t.stands) bounded.steps bounded.since
+      (omega (arith, t.unharmed.early, t.failed.point_is, f.taken, few_items failure.rules.bounds failure.entries, f.few_items)) t.failed.few_steps
+
+  -- a trial that went on, and sent nothing
+  unfoldable pub goes_silently : {new : CpuState R} {after : List Choice} (now : Path) → KeepsSaved old new → GoesOn failure.rules.limits (items_of failure) (everywhere env point) t.path now → now.state.ended ≡ None → now.state.sends ≡ t.path.state.sends
+      → now.choices ≡ checkpoint.choices ++ after → standing_of now ≡ new.slots.live → Writes failure.rules.limits (items_of failure) old.base t.path old.written now new.written → IsTrying failure point checkpoint env new after log ledger
+  goes_silently now saved goes lives sends chose stands wrote = record {
+    failed = failed_still saved refl t.failed;
+    from = t.from;
+    path = now;
+    served = served_on failure.rules.limits (items_of failure) (everywhere env point) checkpoint t.path now t.served goes.served;
+    unharmed = unharmed_still (pieces_of failure) point t.path.state now.state sends goes.taken t.unharmed;
+    lives = lives;
+    stands = sym stands;
+    wrote = wrote_on failure checkpoint t.path now saved t.wrote wrote;
+    chose = chose;
+    goes = can_still failure.rules (items_of failure) (everywhere env point) failure.entries t.path now t.lives goes sends t.goes;
+    items = subst (λ n. log.first ≤ n) (sym goes.taken) t.items;
+    many = subst (λ (all : List Send). ledger.first ≤ length all) (sym sends) t.many;
+    front = ap (take ledger.first) sends ∙ t.front;
+    sent = t.sent ∙ ap (λ (all : List Send). Some (drop ledger.first all)) (sym sends);
+    agrees = t.agrees;
+  }
+
+  module _ (new : CpuState R) {budget : ℕ} (permits : Heap → ℕ → ℕ → Bool) (under : IsUnder failure budget permits) where
+    ran_under : (result : Result Event AllocError) → Ran budget permits env old new result → RunsBy event.Emits (turn failure.rules.limits env) old.base (live_of old) result (live_of new)
+    ran_under result ran = subst (λ (limits : Limits). RunsBy event.Emits (turn limits env) old.base (live_of old) result (live_of new)) (sym under) ran
+
+    -- its run goes on so, and writes the pages that the guest marks
+    pub ran_on : (result : Result Event AllocError) → Ran budget permits env old new result → RunsWriting failure.rules.limits (items_of failure) (everywhere env point) old.base t.path old.written result (live_of new)
+    ran_on result ran =
+        runs_write failure.rules.limits (items_of failure) (everywhere env point) env old.base t.path (live_of old) (live_of new) result t.lives (force_is env point t.path.state.machine.taken t.unharmed.early) t.stands (ran_under result ran)
+
+    pub ran_sends : (conn : ℕ) (bytes : List ℕ) → Ran budget permits env old new (Ok (event.Emits conn bytes))
+        → SendsOn failure.rules.limits (items_of failure) (everywhere env point) old.base t.path old.written conn bytes (live_of new)
+    ran_sends conn bytes ran =
+        let runs = ran_under (Ok (event.Emits conn bytes)) ran in
+        let force = force_is env point t.path.state.machine.taken t.unharmed.early in
+        let came = comes_writing failure.rules.limits (items_of failure) (everywhere env point) env old.base t.path (live_of old) runs.before runs.count t.lives force t.stands runs.quiet in
+        sends_last failure.rules.limits (items_of failure) (everywhere env point) env old.base t.path old.written conn bytes runs.before (live_of new) runs.last force came runs.turns runs.is_event runs.left

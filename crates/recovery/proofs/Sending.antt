@@ -5,10 +5,9 @@ use Rattle.run_history.specs.Run.{does}
 use Rattle.guest_cpu.specs.Receiving.{received_range, taken_standing, live_with_item}
 use Rattle.guest_cpu.proofs.TakeLemmas.{takes_write, asks_wants}
 use Rattle.session_notes.specs.declared.episode.Tried.TheVariants as tried
-use Rattle.session_history.specs.Passing.{CoversBefore}
 use Rattle.session_history.proofs.Passing.{all_until, until_grown}
 use Rattle.link_gate.proofs.ItemLemmas.{item_is, item_fits, opened_items, received_is}
-use Rattle.recovery.proofs.Terms.{Bool, List, None, Option, Some, [], ap, append-nil, arith, cond, drop, eqb, false, inl, inr, length, length-append, refl, subst, suc, sym, take, true, zero, ℕ, ◌++◌, ◌+◌, ◌-◌, ◌<◌, ◌^◌, ◌∙◌, ◌∷◌, ◌≡◌, ◌≤◌, ◌⊎◌, eqb-true, true≢false, drop-append-le, take-append-le, IsSome, is_some, slice_get, unwrap_or, Item, Prefix, Send, sent_to, Choice, Env, IsItemOf, Log, IsOpened, Ledger, NotBefore, connection_of, times_of, agree, discarded, trial_sends, with_trial_send, OpenWithin, within_after, prefix_sent, prefix_trans, sent_to-more, may_send, State, Wants, Path, CpuState, live_of, Live, Standing, with_range, TakesOn, TakesWriting, Writes, Grows, between_append, between_wider, served_on, events_of, heeded, received, AreSendable, IsSendable, opens, AreBetween, IsFeasible, until, everywhere, IsContradicted, CanGoOn, Failure, items_of, pieces_of, HasCome, IsAsking, IsTrying, agrees_next, KeepsSaved}
+use Rattle.recovery.proofs.Terms.{Bool, List, None, Option, Some, [], ap, append-nil, arith, cond, drop, eqb, false, inl, inr, length, length-append, refl, subst, suc, sym, take, true, zero, ℕ, ◌++◌, ◌+◌, ◌-◌, ◌<◌, ◌^◌, ◌∙◌, ◌∷◌, ◌≡◌, ◌≤◌, ◌⊎◌, eqb-true, true≢false, drop-append-le, take-append-le, slice_get, unwrap_or, Item, Prefix, Send, sent_to, Choice, Env, IsItemOf, Log, IsOpened, Ledger, NotBefore, times_of, agree, discarded, trial_sends, with_trial_send, OpenWithin, within_after, prefix_sent, prefix_trans, sent_to-more, may_send, State, Wants, Path, CpuState, live_of, TakesOn, Live, Standing, with_range, TakesWriting, Writes, Grows, between_append, between_wider, served_on, events_of, heeded, received, AreSendable, IsSendable, opens, AreBetween, CoversBefore, IsFeasible, until, everywhere, IsContradicted, CanGoOn, Failure, items_of, pieces_of, HasCome, IsAsking, IsTrying, agrees_next, KeepsSaved}
 use Rattle.recovery.proofs.Joining.{next_agrees, agree_more, differs_more, covers_before_now}
 use Rattle.recovery.proofs.Starting.{failed_still}
 use Rattle.recovery.proofs.Running.{SendsOn, unharmed_still, may_send_by, trying_room, wrote_on}
@@ -27,8 +26,8 @@ between_behind (suc n) low high [] between = between
 between_behind (suc n) low high (send ∷ all) between = between_behind n low high all between.2
 
 -- a connection to which nothing was sent, and a send to one that was opened
-opened_then : (conn : ℕ) (sends : List Send) (send : Send) (shut : Bool) → (send.conn ≡ conn → ⊥) → sent_to conn sends ≡ [] → sent_to conn (sends ++ send ∷ []) ≡ []
-opened_then conn sends send shut other none = of (eqb send.conn conn) refl
+opened_then : (conn : ℕ) (sends : List Send) (send : Send) → (send.conn ≡ conn → ⊥) → sent_to conn sends ≡ [] → sent_to conn (sends ++ send ∷ []) ≡ []
+opened_then conn sends send other none = of (eqb send.conn conn) refl
   where
     of : (b : Bool) → eqb send.conn conn ≡ b → sent_to conn (sends ++ send ∷ []) ≡ []
     of true same = absurd (other (eqb-true send.conn conn same))
@@ -53,66 +52,64 @@ feasible_taken pieces s t sends taken timed covers feasible item low conn = of (
         subst (λ (all : List Send). Prefix (sent_to conn (until item pieces)) (sent_to conn all)) (sym (ap (until item) sends ∙ all_until item 0 s.machine.taken s.sends at timed))
         (subst (λ n. Prefix (sent_to conn (until n pieces)) (sent_to conn s.sends)) (sym same) (covers conn))
 
-pub is_known : {X : Type 0} (found : Option X) → is_some found ≡ true → IsSome found
-is_known found is = is
-
-module _ {R : Type 0} where
+module _ {R : Type 0} {failure : Failure} {point : ℕ} {checkpoint : Path} {env : Env} {old : CpuState R} {choices : List Choice} {log : Log} {ledger : Ledger} (t : IsTrying failure point checkpoint env old choices log ledger) where
   -- what the ledger asks of a send
-  pub sends_opened : (failure : Failure) (point : ℕ) (checkpoint : Path) (env : Env) (cpu : CpuState R) (choices : List Choice) (log : Log) (ledger : Ledger) (conn : ℕ) (t : IsTrying failure point checkpoint env cpu choices log ledger)
-      → may_send t.path.state.machine conn ≡ true → IsOpened ledger conn
-  sends_opened failure point checkpoint env cpu choices log ledger conn t may = is_known (connection_of ledger.connections conn) (t.failed.has.replies.opened conn ∙ t.goes.within conn may)
+  pub sends_opened : (conn : ℕ) → may_send t.path.state.machine conn ≡ true → IsOpened ledger conn
+  sends_opened conn may = t.failed.has.replies.opened conn ∙ t.goes.within conn may
 
-  pub sends_later : (failure : Failure) (point : ℕ) (checkpoint : Path) (env : Env) (cpu : CpuState R) (choices : List Choice) (log : Log) (ledger : Ledger) (taken : ℕ) (t : IsTrying failure point checkpoint env cpu choices log ledger)
-      → taken ≡ t.path.state.machine.taken → NotBefore taken (times_of (trial_sends ledger))
-  sends_later failure point checkpoint env cpu choices log ledger taken t is =
+  pub sends_later : {taken : ℕ} → taken ≡ t.path.state.machine.taken → NotBefore taken (times_of (trial_sends ledger))
+  sends_later {taken = taken} is =
       subst (λ (all : List Send). NotBefore taken (times_of all)) (sym (ap (λ (o : Option (List Send)). unwrap_or o []) t.sent))
       (subst (λ n. NotBefore n (times_of (drop ledger.first t.path.state.sends))) (sym is)
       (times_low 0 t.path.state.machine.taken (drop ledger.first t.path.state.sends) (between_behind ledger.first 0 t.path.state.machine.taken t.path.state.sends t.goes.timed)))
 
-  -- its run can go on behind the send
-  can_send : (failure : Failure) (point : ℕ) (checkpoint : Path) (env : Env) (cpu : CpuState R) (choices : List Choice) (log : Log) (ledger : Ledger) (conn : ℕ) (bytes : List ℕ) (live : Live) (t : IsTrying failure point checkpoint env cpu choices log ledger)
-      → (s : SendsOn failure.rules.limits (items_of failure) (everywhere env point) cpu.base t.path cpu.written conn bytes live) → CanGoOn failure.rules failure.entries s.now
-  can_send failure point checkpoint env cpu choices log ledger conn bytes live t s =
-      let send : Send = record { conn = conn; bytes = bytes; taken = t.path.state.machine.taken } in
-      let sendable : IsSendable send = record { some = s.some; few = s.few } in
-      record {
-        bounded = λ alive. s.goes.bounded alive (t.goes.bounded t.lives);
-        within = λ q may. t.goes.within q (may_send_by t.path.state.machine s.now.state.machine q s.goes.connections may);
-        opened = λ q shut. ap (sent_to q) s.sends
-            ∙ opened_then q t.path.state.sends send true
-            (λ same. true≢false (sym (t.goes.within conn s.may) ∙ (ap (λ n. opens n (heeded failure.rules.bounds (events_of failure.rules.bounds failure.entries))) same ∙ shut)))
-            (t.goes.opened q shut);
-        timed = subst (AreBetween 0 s.now.state.machine.taken) (sym s.sends)
-            (between_append 0 s.now.state.machine.taken t.path.state.sends (send ∷ [])
-            (between_wider 0 t.path.state.machine.taken 0 s.now.state.machine.taken t.path.state.sends (omega arith) (omega (arith, s.goes.taken)) t.goes.timed)
-            (omega arith, omega (arith, s.goes.taken), tt));
-        sendable = subst AreSendable (sym s.sends) (sendable_then t.path.state.sends send t.goes.sendable sendable);
-      }
+  module _ {conn : ℕ} {bytes : List ℕ} {live : Live} (s : SendsOn failure.rules.limits (items_of failure) (everywhere env point) old.base t.path old.written conn bytes live) where
+    -- its run can go on behind the send
+    can_send : CanGoOn failure.rules failure.entries s.now
+    can_send =
+        let send : Send = record { conn = conn; bytes = bytes; taken = t.path.state.machine.taken } in
+        let sendable : IsSendable send = record { some = s.some; few = s.few } in
+        record {
+          bounded = λ alive. s.goes.bounded alive (t.goes.bounded t.lives);
+          within = λ q may. t.goes.within q (may_send_by t.path.state.machine s.now.state.machine q s.goes.connections may);
+          opened = λ q shut. ap (sent_to q) s.sends
+              ∙ opened_then q t.path.state.sends send
+              (λ same. true≢false (sym (t.goes.within conn s.may) ∙ (ap (λ n. opens n (heeded failure.rules.bounds (events_of failure.rules.bounds failure.entries))) same ∙ shut)))
+              (t.goes.opened q shut);
+          timed = subst (AreBetween 0 s.now.state.machine.taken) (sym s.sends)
+              (between_append 0 s.now.state.machine.taken t.path.state.sends (send ∷ [])
+              (between_wider 0 t.path.state.machine.taken 0 s.now.state.machine.taken t.path.state.sends (omega arith) (omega (arith, s.goes.taken)) t.goes.timed)
+              (omega arith, omega (arith, s.goes.taken), tt));
+          sendable = subst AreSendable (sym s.sends) (sendable_then t.path.state.sends send t.goes.sendable sendable);
+        }
+
+    -- what comes next is compared with what was passed
+    agrees_so : (taken : ℕ) {same : Bool} → agrees_next ledger (record { conn = conn; bytes = bytes; taken = taken }) ≡ same → agree bytes (drop (length (sent_to conn t.path.state.sends)) (sent_to conn (pieces_of failure))) ≡ same
+    agrees_so taken same =
+        sym (next_agrees (received failure.rules.bounds failure.entries) ledger failure.failed.state.sends t.path.state.sends (pieces_of failure) (record { conn = conn; bytes = bytes; taken = taken }) (beside t)) ∙ same
 
   -- what it sent is as it was passed: it goes on
-  pub sends_same : (failure : Failure) (point : ℕ) (checkpoint : Path) (env : Env) (old new : CpuState R) (choices : List Choice) (log : Log) (ledger after : Ledger) (conn : ℕ) (bytes : List ℕ) (taken : ℕ)
-      → (t : IsTrying failure point checkpoint env old choices log ledger) (s : SendsOn failure.rules.limits (items_of failure) (everywhere env point) old.base t.path old.written conn bytes (live_of new)) → KeepsSaved old new
+  pub sends_same : {new : CpuState R} {after : Ledger} {conn : ℕ} {bytes : List ℕ} {taken : ℕ} (s : SendsOn failure.rules.limits (items_of failure) (everywhere env point) old.base t.path old.written conn bytes (live_of new)) → KeepsSaved old new
       → taken ≡ t.path.state.machine.taken → after ≡ with_trial_send ledger (record { conn = conn; bytes = bytes; taken = taken }) → agrees_next ledger (record { conn = conn; bytes = bytes; taken = taken }) ≡ true → ledgers.Agrees after
       → IsTrying failure point checkpoint env new choices log after
-  sends_same failure point checkpoint env old new choices log ledger after conn bytes taken t s saved is noted same agrees =
+  sends_same {after = after} {conn = conn} {bytes = bytes} {taken = taken} s saved is noted same agrees =
       let send : Send = record { conn = conn; bytes = bytes; taken = t.path.state.machine.taken } in
       let first : after.first ≡ ledger.first = ap (λ (l : Ledger). l.first) noted in
-      let next = sym (next_agrees (received failure.rules.bounds failure.entries) ledger failure.failed.state.sends t.path.state.sends (pieces_of failure) send (beside failure point checkpoint env old choices log ledger t)) ∙ same in
       record {
-        failed = failed_still point failure old new log ledger after saved (ap discarded noted) t.failed;
+        failed = failed_still saved (ap discarded noted) t.failed;
         from = t.from;
         path = s.now;
         served = served_on failure.rules.limits (items_of failure) (everywhere env point) checkpoint t.path s.now t.served s.goes.served;
         unharmed = record {
-          agrees = λ q. subst (λ (all : List Send). agree (sent_to q all) (sent_to q (pieces_of failure)) ≡ true) (sym s.sends) (agree_more t.path.state.sends (pieces_of failure) send next t.unharmed.agrees q);
+          agrees = λ q. subst (λ (all : List Send). agree (sent_to q all) (sent_to q (pieces_of failure)) ≡ true) (sym s.sends) (agree_more t.path.state.sends (pieces_of failure) send (agrees_so s taken same) t.unharmed.agrees q);
           feasible = feasible_still (pieces_of failure) t.path.state s.now.state (grows_send t.path.state s.now.state send s.sends s.goes.taken refl) s.goes.taken t.unharmed.feasible;
           early = omega (arith, t.unharmed.early, s.goes.taken);
         };
         lives = s.lives;
         stands = sym s.stands;
-        wrote = wrote_on failure checkpoint t.path s.now old new saved t.wrote s.wrote;
+        wrote = wrote_on failure checkpoint t.path s.now saved t.wrote s.wrote;
         chose = s.choices ∙ t.chose;
-        goes = can_send failure point checkpoint env old choices log ledger conn bytes (live_of new) t s;
+        goes = can_send s;
         items = subst (λ n. log.first ≤ n) (sym s.goes.taken) t.items;
         many = omega (arith, first, t.many, ap length s.sends, length-append t.path.state.sends (send ∷ []));
         front = subst (λ n. take n s.now.state.sends ≡ take n failure.failed.state.sends) (sym first) (ap (take ledger.first) s.sends ∙ (take-append-le ledger.first t.path.state.sends (send ∷ []) t.many ∙ t.front));
@@ -124,12 +121,10 @@ module _ {R : Type 0} where
       }
 
   -- it differs: the trial is contradicted
-  pub sends_other : (failure : Failure) (point : ℕ) (checkpoint : Path) (env : Env) (old new : CpuState R) (choices : List Choice) (log : Log) (ledger after : Ledger) (conn : ℕ) (bytes : List ℕ) (taken : ℕ)
-      → (t : IsTrying failure point checkpoint env old choices log ledger) (s : SendsOn failure.rules.limits (items_of failure) (everywhere env point) old.base t.path old.written conn bytes (live_of new))
+  pub sends_other : {new : CpuState R} {after : Ledger} {conn : ℕ} {bytes : List ℕ} (taken : ℕ) (s : SendsOn failure.rules.limits (items_of failure) (everywhere env point) old.base t.path old.written conn bytes (live_of new))
       → KeepsSaved old new → agrees_next ledger (record { conn = conn; bytes = bytes; taken = taken }) ≡ false → HasCome failure point checkpoint env new choices after tried.Contradicts
-  sends_other failure point checkpoint env old new choices log ledger after conn bytes taken t s saved other =
+  sends_other {conn = conn} {bytes = bytes} taken s saved other =
       let send : Send = record { conn = conn; bytes = bytes; taken = t.path.state.machine.taken } in
-      let next = sym (next_agrees (received failure.rules.bounds failure.entries) ledger failure.failed.state.sends t.path.state.sends (pieces_of failure) send (beside failure point checkpoint env old choices log ledger t)) ∙ other in
       let contradicted : IsContradicted failure.rules.limits (items_of failure) (everywhere env point) checkpoint (pieces_of failure) point s.now = record {
         before = s.before;
         from = served_on failure.rules.limits (items_of failure) (everywhere env point) checkpoint t.path s.before t.served s.quiet.served;
@@ -137,37 +132,34 @@ module _ {R : Type 0} where
         next = s.next;
         no_item = s.goes.taken ∙ sym s.quiet.taken;
         conn = conn;
-        differs = subst (λ (all : List Send). agree (sent_to conn all) (sent_to conn (pieces_of failure)) ≡ false) (sym s.sends) (differs_more t.path.state.sends (pieces_of failure) send next t.unharmed.agrees);
+        differs = subst (λ (all : List Send). agree (sent_to conn all) (sent_to conn (pieces_of failure)) ≡ false) (sym s.sends) (differs_more t.path.state.sends (pieces_of failure) send (agrees_so s taken other) t.unharmed.agrees);
       } in
-      comes_at failure point checkpoint env new choices after s.now tried.Contradicts t.from (served_on failure.rules.limits (items_of failure) (everywhere env point) checkpoint t.path s.now t.served s.goes.served) contradicted (sym s.stands) (wrote_on failure checkpoint t.path s.now old new saved t.wrote s.wrote)
-      (s.choices ∙ t.chose) (can_send failure point checkpoint env old choices log ledger conn bytes (live_of new) t s) (λ survived. absurd (let no : ⊥ = cc in no))
+      comes_at failure env s.now tried.Contradicts t.from (served_on failure.rules.limits (items_of failure) (everywhere env point) checkpoint t.path s.now t.served s.goes.served) contradicted (sym s.stands) (wrote_on failure checkpoint t.path s.now saved t.wrote s.wrote)
+      (s.choices ∙ t.chose) (can_send s) (λ survived. absurd (let no : ⊥ = cc in no))
 
+module _ {R : Type 0} {failure : Failure} {point : ℕ} {checkpoint : Path} {env : Env} {old : CpuState R} {choices : List Choice} {log : Log} {ledger : Ledger} (a : IsAsking failure point checkpoint env old choices log ledger) where
   -- its instruction is a recv whose buffer may be written
-  pub takes_wants : (failure : Failure) (point : ℕ) (checkpoint : Path) (env : Env) (cpu : CpuState R) (choices : List Choice) (log : Log) (ledger : Ledger) → IsAsking failure point checkpoint env cpu choices log ledger
-      → does None None cpu.slots.live.guest.machine ≡ Wants
-  takes_wants failure point checkpoint env cpu choices log ledger a =
-      subst (λ (s : Standing). does None None s.guest.machine ≡ Wants) (sym a.trying.stands) (asks_wants failure.rules.limits (everywhere env point) a.trying.path a.trying.path.state.machine.taken a.asks)
+  pub takes_wants : does None None old.slots.live.guest.machine ≡ Wants
+  takes_wants = subst (λ (s : Standing). does None None s.guest.machine ≡ Wants) (sym a.trying.stands) (asks_wants failure.rules.limits (everywhere env point) a.trying.path a.trying.path.state.machine.taken a.asks)
 
   -- there is room for one instruction more
-  pub takes_room : (failure : Failure) (point : ℕ) (checkpoint : Path) (env : Env) (cpu : CpuState R) (choices : List Choice) (log : Log) (ledger : Ledger) → IsAsking failure point checkpoint env cpu choices log ledger → cpu.slots.live.steps < 2 ^ 64 - 1
-  takes_room failure point checkpoint env cpu choices log ledger a = let few = trying_room failure point checkpoint env cpu choices log ledger a.trying in omega (arith, few)
+  pub takes_room : old.slots.live.steps < 2 ^ 64 - 1
+  takes_room = omega (arith, trying_room a.trying)
 
   -- the log has the item of its number
-  pub takes_kept : (failure : Failure) (point : ℕ) (checkpoint : Path) (env : Env) (cpu : CpuState R) (choices : List Choice) (log : Log) (ledger : Ledger) (taken : ℕ) (a : IsAsking failure point checkpoint env cpu choices log ledger)
-      → taken ≡ a.trying.path.state.machine.taken → (taken ≡ point → ⊥) → (log.first ≤ taken) × (taken < logs.received log)
-  takes_kept failure point checkpoint env cpu choices log ledger taken a is other =
+  pub takes_kept : {taken : ℕ} → taken ≡ a.trying.path.state.machine.taken → (taken ≡ point → ⊥) → (log.first ≤ taken) × (taken < logs.received log)
+  takes_kept is other =
       let h = a.trying.failed.has in
       (omega (arith, is, a.trying.items), omega (arith, is, other, a.trying.unharmed.early, received_is failure.rules.bounds failure.entries log h.items, h.taken, a.trying.failed.point_is))
 
-  pub takes_short : (failure : Failure) (point : ℕ) (checkpoint : Path) (env : Env) (cpu : CpuState R) (choices : List Choice) (log : Log) (ledger : Ledger) (taken : ℕ) (item : Item) (a : IsAsking failure point checkpoint env cpu choices log ledger)
-      → IsItemOf log taken item → length item.bytes < 2 ^ 32
-  takes_short failure point checkpoint env cpu choices log ledger taken item a of_events =
+  pub takes_short : (taken : ℕ) (item : Item) → IsItemOf log taken item → length item.bytes < 2 ^ 32
+  takes_short taken item of_events =
       item_fits failure.rules.bounds.framing (heeded failure.rules.bounds (events_of failure.rules.bounds failure.entries)) taken item (item_is failure.rules.bounds failure.entries log taken item a.trying.failed.has.items of_events)
 
   -- it takes the item, before which it had sent all that was passed
-  pub takes_next : (failure : Failure) (point : ℕ) (checkpoint : Path) (env : Env) (old new : CpuState R) (choices : List Choice) (log : Log) (ledger : Ledger) (taken : ℕ) (item : Item) (a : IsAsking failure point checkpoint env old choices log ledger) → KeepsSaved old new
+  pub takes_next : {new : CpuState R} (taken : ℕ) (item : Item) → KeepsSaved old new
       → taken ≡ a.trying.path.state.machine.taken → (taken ≡ point → ⊥) → ledgers.CoversBefore ledger taken → IsItemOf log taken item → live_of new ≡ live_with_item old.base item (live_of old) → IsTrying failure point checkpoint env new choices log ledger
-  takes_next failure point checkpoint env old new choices log ledger taken item a saved is other covers of_events live =
+  takes_next {new = new} taken item saved is other covers of_events live =
       let t = a.trying in
       let first : Path = t.path in
       let found : slice_get (items_of failure) taken ≡ Some item = item_is failure.rules.bounds failure.entries log taken item t.failed.has.items of_events in
@@ -182,9 +174,9 @@ module _ {R : Type 0} where
       subst (OpenWithin (λ conn. opens conn (heeded failure.rules.bounds (events_of failure.rules.bounds failure.entries)) ≡ true)) (sym takes.connections)
       (within_after (λ conn. opens conn (heeded failure.rules.bounds (events_of failure.rules.bounds failure.entries)) ≡ true) item first.state.machine.connections within (opened_items failure.rules.bounds failure.entries taken item found)) in
       let covered : CoversBefore first.state.machine.taken (pieces_of failure) first.state =
-      subst (λ n. CoversBefore n (pieces_of failure) first.state) is (covers_before_now (received failure.rules.bounds failure.entries) taken ledger failure.failed.state.sends first.state.sends (pieces_of failure) (beside failure point checkpoint env old choices log ledger t) covers) in
+      subst (λ n. CoversBefore n (pieces_of failure) first.state) is (covers_before_now (received failure.rules.bounds failure.entries) taken ledger failure.failed.state.sends first.state.sends (pieces_of failure) (beside t) covers) in
       record {
-        failed = failed_still point failure old new log ledger ledger saved refl t.failed;
+        failed = failed_still saved refl t.failed;
         from = t.from;
         path = now;
         served = served_on failure.rules.limits (items_of failure) (everywhere env point) checkpoint first now t.served takes.served;
@@ -195,7 +187,7 @@ module _ {R : Type 0} where
         };
         lives = takes.lives;
         stands = ap (λ (l : Live). l.standing) live ∙ (ap (taken_standing item) t.stands ∙ sym takes.stands);
-        wrote = wrote_on failure checkpoint first now old new saved t.wrote
+        wrote = wrote_on failure checkpoint first now saved t.wrote
             (subst (λ (all : List Bool). Writes failure.rules.limits (items_of failure) old.base first old.written now all) (sym flags) both.wrote);
         chose = takes.silent.choices ∙ t.chose;
         goes = record {

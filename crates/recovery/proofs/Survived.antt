@@ -53,7 +53,7 @@ module _ {R : Type 0} where
   of_failed {failure = failure} {old = old} {new = new} failed same = record {
     trial = None;
     found = tt;
-    replies = replies_still failure.rules.bounds failure.entries failure.failed.state.sends old new same failed.has.replies;
+    replies = replies_still new same failed.has.replies;
   }
 
   -- behind a walk it is of one run, by what was adopted
@@ -77,9 +77,7 @@ adopted_asks {limits = limits} items plan checkpoint pieces {point = point} {pat
     (sym (ap (λ (a : Adopted). a.code) (same_Some (record { index = index; env = env; code = None }) adopted is)) ∙ sym comes.1.lives, λ lives. asks_under_all limits plan [] path point comes.1)
 adopted_asks items plan checkpoint pieces index env (tried.Exits code) {adopted = adopted} is comes =
     (sym (ap (λ (a : Adopted). a.code) (same_Some (record { index = index; env = env; code = Some code }) adopted is)) ∙ sym comes.1, λ lives. absurd (none-some code (sym lives ∙ comes.1)))
-adopted_asks items plan checkpoint pieces index env (tried.Failed cause) {adopted = adopted} is comes = absurd (none-some adopted is)
-adopted_asks items plan checkpoint pieces index env tried.Contradicts {adopted = adopted} is comes = absurd (none-some adopted is)
-adopted_asks items plan checkpoint pieces index env tried.Behind {adopted = adopted} is comes = absurd (none-some adopted is)
+adopted_asks items plan checkpoint pieces index env _ {adopted = adopted} is comes = absurd (none-some adopted is)
 
 -- the start used no answer of the allocator
 pub start_used : (image : Image) → IsUsed (origin image)

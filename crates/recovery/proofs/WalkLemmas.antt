@@ -1,13 +1,16 @@
 -- A walk goes on from chance to chance.
 use Rattle.std.proofs.lemmas.List.Sums.{sum_by-append}
-use Rattle.recovery.proofs.Terms.{Bool, List, None, Option, Some, [], ap, append-nil, append_assoc, arith, cond, false, length, refl, subst, suc, sym, take, true, zero, ℕ, ◌++◌, ◌+◌, ◌-◌, ◌∙◌, ◌∷◌, ◌≡◌, ◌≤◌, MatchBool-at_false, MatchBool-at_true, map-append, take_all, none-some, same_Some, MatchBool, map, slice_get, sum, Choice, Heap, Env, Ledger, discarded, Path, CpuState, Try, survives, Chance, IsRight, Trial, WalksOver, chances_at, environments, survivor_in, table, try_of, Recoverable, Adopted, FailedAt, Failure, IsUnder, items_of, pieces_of, HasWalked, KeepsLedger, KeepsSaved, steps_of, Attempt, BeginsOver, AdoptedLast, AdoptedOne, AreTried, FailedOne, FailedSome, HasBegun, HasSameBytes, KeepsUntried}
+use Rattle.recovery.proofs.Terms.{Bool, List, None, Option, Some, [], ap, append-nil, append_assoc, arith, cond, false, length, refl, subst, suc, sym, take, true, zero, ℕ, ◌++◌, ◌+◌, ◌-◌, ◌∙◌, ◌∷◌, ◌≡◌, ◌≤◌, MatchBool-at_false, MatchBool-at_true, map-append, take_all, none-some, same_Some, MatchBool, map, slice_get, sum, Choice, Heap, Env, Ledger, discarded, Path, CpuState, Try, survives, Chance, IsRight, Trial, WalksOver, chances_at, environments, survivor_in, table, try_of, Recoverable, Adopted, FailedAt, Failure, IsUnder, items_of, pieces_of, HasWalked, KeepsLedger, steps_of, Attempt, BeginsOver, AdoptedLast, AdoptedOne, AreTried, FailedOne, FailedSome, HasBegun, KeepsUntried}
 use Rattle.recovery.proofs.Adopting.{adopted_survives}
 use Rattle.session_history.proofs.Connected.{take_one}
 
-pub steps_of-more : (trials : List Trial) (trial : Trial) → steps_of (trials ++ trial ∷ []) ≡ steps_of trials + (trial.path.steps - trial.chance.checkpoint.steps)
-steps_of-more trials trial =
+steps_of-append : (xs ys : List Trial) → steps_of (xs ++ ys) ≡ steps_of xs + steps_of ys
+steps_of-append xs ys =
     let f : Trial → ℕ = λ (t : Trial). t.path.steps - t.chance.checkpoint.steps in
-    omega (arith, ap sum (map-append f trials (trial ∷ [])) ∙ sum_by-append (λ x. x) (map f trials) (map f (trial ∷ [])))
+    ap sum (map-append f xs ys) ∙ sum_by-append (λ x. x) (map f xs) (map f ys)
+
+pub steps_of-more : (trials : List Trial) (trial : Trial) → steps_of (trials ++ trial ∷ []) ≡ steps_of trials + (trial.path.steps - trial.chance.checkpoint.steps)
+steps_of-more trials trial = omega (arith, steps_of-append trials (trial ∷ []))
 
 -- a list around one of its elements
 around : {X : Type 0} (xs : List X) (n : ℕ) (x : X) → slice_get xs n ≡ Some x → (more : List X) × (xs ≡ take n xs ++ x ∷ more)
@@ -22,15 +25,8 @@ table-append (x ∷ xs) ys = ap (λ l. chances_at x environments ++ l) (table-ap
 -- chances that were tried, and more
 tried-append : (failure : Failure) (point : ℕ) (chances more : List Chance) (trials others : List Trial) → AreTried failure point chances trials → AreTried failure point more others → AreTried failure point (chances ++ more) (trials ++ others)
 tried-append failure point [] more [] others are also = also
-tried-append failure point [] more (trial ∷ trials) others are also = absurd are
-tried-append failure point (chance ∷ chances) more [] others are also = absurd are
 tried-append failure point (chance ∷ chances) more (trial ∷ trials) others are also = (are.0, are.1, are.2, tried-append failure point chances more trials others are.3 also)
-
-by_test : {b : Bool} (P Q : Type 0) → b ≡ false → Q → MatchBool b P Q
-by_test P Q is q = subst (λ (c : Bool). MatchBool c P Q) (sym is) q
-
-by_other : {b : Bool} (P Q : Type 0) → b ≡ true → P → MatchBool b P Q
-by_other P Q is p = subst (λ (c : Bool). MatchBool c P Q) (sym is) p
+tried-append failure point _ more _ others are also = absurd are
 
 abbrev Walks : Failure → ℕ → List Chance → List Trial → Type 0
 Walks failure point chances trials = WalksOver failure.rules.limits (items_of failure) failure.plan (pieces_of failure) point chances trials
@@ -38,33 +34,30 @@ Walks failure point chances trials = WalksOver failure.rules.limits (items_of fa
 -- all were tried, and none survived
 tried_walks : (failure : Failure) (point : ℕ) (chances : List Chance) (trials : List Trial) → AreTried failure point chances trials → Walks failure point chances trials
 tried_walks failure point [] [] are = tt
-tried_walks failure point [] (trial ∷ trials) are = are
-tried_walks failure point (chance ∷ chances) [] are = are
 tried_walks failure point (chance ∷ chances) (trial ∷ trials) are =
-    (are.0, are.1, by_test (trials ≡ []) (Walks failure point chances trials) are.2 (tried_walks failure point chances trials are.3))
+    (are.0, are.1, subst (λ (b : Bool). MatchBool b (trials ≡ []) (Walks failure point chances trials)) (sym are.2) (tried_walks failure point chances trials are.3))
+tried_walks failure point _ _ are = are
 
 -- those before one that survived
 found_walks : (failure : Failure) {point : ℕ} (front more : List Chance) {chance : Chance} (trials : List Trial) {last : Trial} → AreTried failure point front trials → last.chance ≡ chance
     → IsRight failure.rules.limits (items_of failure) failure.plan (pieces_of failure) point last → survives last.result ≡ true → Walks failure point (front ++ chance ∷ more) (trials ++ last ∷ [])
-found_walks failure {point = point} [] more [] are is right survived = (is, right, by_other ([] ≡ []) (Walks failure point more []) survived refl)
+found_walks failure {point = point} [] more [] are is right survived = (is, right, let none : List Trial = [] in subst (λ (b : Bool). MatchBool b (none ≡ none) (Walks failure point more none)) (sym survived) refl)
 found_walks failure [] more (trial ∷ trials) are is right survived = absurd are
 found_walks failure (first ∷ front) more [] are is right survived = absurd are
 found_walks failure {point = point} (first ∷ front) more {chance = chance} (trial ∷ trials) {last = last} are is right survived =
-    (are.0, are.1, by_test (trials ++ last ∷ [] ≡ []) (Walks failure point (front ++ chance ∷ more) (trials ++ last ∷ [])) are.2 (found_walks failure front more trials are.3 is right survived))
+    (are.0, are.1, subst (λ (b : Bool). MatchBool b (trials ++ last ∷ [] ≡ []) (Walks failure point (front ++ chance ∷ more) (trials ++ last ∷ []))) (sym are.2) (found_walks failure front more trials are.3 is right survived))
 
 -- of some that failed none survived, and of one more that did this one
 tried_none : (failure : Failure) (point : ℕ) (chances : List Chance) (trials : List Trial) → AreTried failure point chances trials → survivor_in trials ≡ None
 tried_none failure point [] [] are = refl
-tried_none failure point [] (trial ∷ trials) are = absurd are
-tried_none failure point (chance ∷ chances) [] are = absurd are
 tried_none failure point (chance ∷ chances) (trial ∷ trials) are = ap (λ (b : Bool). cond b (Some trial) (survivor_in trials)) are.2 ∙ tried_none failure point chances trials are.3
+tried_none failure point _ _ are = absurd are
 
 tried_then : (failure : Failure) (point : ℕ) (chances : List Chance) (trials : List Trial) {last : Trial} → AreTried failure point chances trials → survives last.result ≡ true → survivor_in (trials ++ last ∷ []) ≡ Some last
 tried_then failure point [] [] {last = last} are survived = ap (λ (b : Bool). cond b (Some last) None) survived
-tried_then failure point [] (trial ∷ trials) are survived = absurd are
-tried_then failure point (chance ∷ chances) [] are survived = absurd are
 tried_then failure point (chance ∷ chances) (trial ∷ trials) {last = last} are survived =
     ap (λ (b : Bool). cond b (Some trial) (survivor_in (trials ++ last ∷ []))) are.2 ∙ tried_then failure point chances trials are.3 survived
+tried_then failure point _ _ are survived = absurd are
 
 abbrev Begins : Failure → ℕ → List Chance → List Trial → Option Attempt → Type 0
 Begins failure point chances trials last = BeginsOver failure.rules.limits (items_of failure) failure.plan (pieces_of failure) point chances trials last
@@ -79,14 +72,8 @@ begins_more failure point (chance ∷ chances) more (trial ∷ trials) last begi
 -- and so it is behind some that were tried
 begins_behind : (failure : Failure) (point : ℕ) (front chances : List Chance) (tried trials : List Trial) (last : Option Attempt) → AreTried failure point front tried → Begins failure point chances trials last → Begins failure point (front ++ chances) (tried ++ trials) last
 begins_behind failure point [] chances [] trials last are begins = begins
-begins_behind failure point [] chances (trial ∷ tried) trials last are begins = absurd are
-begins_behind failure point (chance ∷ front) chances [] trials last are begins = absurd are
 begins_behind failure point (chance ∷ front) chances (trial ∷ tried) trials last are begins = (are.0, are.1, are.2, begins_behind failure point front chances tried trials last are.3 begins)
-
-steps_of-both : (xs ys : List Trial) → steps_of (xs ++ ys) ≡ steps_of xs + steps_of ys
-steps_of-both xs ys =
-    let f : Trial → ℕ = λ (t : Trial). t.path.steps - t.chance.checkpoint.steps in
-    ap sum (map-append f xs ys) ∙ sum_by-append (λ x. x) (map f xs) (map f ys)
+begins_behind failure point _ chances _ trials last are begins = absurd are
 
 -- memory broke off a walk behind some chances that were tried, and before others
 begun_within : {failure : Failure} {point : ℕ} (front : List Chance) {chances : List Chance} (more : List Chance) {noted mid : List Try} {before between after : ℕ} → FailedSome failure point front noted mid before between
@@ -95,7 +82,7 @@ begun_within {failure = failure} {point = point} front {chances = chances} more 
   unfinished = record { trials = some.trials ++ one.unfinished.trials; last = one.unfinished.last };
   begins = begins_behind failure point front (chances ++ more) some.trials one.unfinished.trials one.unfinished.last some.tried
       (begins_more failure point chances more one.unfinished.trials one.unfinished.last one.begins);
-  counted = let both = steps_of-both some.trials one.unfinished.trials in omega (arith, both, some.counted, one.counted);
+  counted = let both = steps_of-append some.trials one.unfinished.trials in omega (arith, both, some.counted, one.counted);
 }
 
 -- so it is within the chances of a checkpoint
@@ -139,10 +126,6 @@ begins_all failure point (chance ∷ chances) (one ∷ trials) {trial = trial} w
         let later = rest (MatchBool-at_false (trials ≡ []) (Walks failure point chances trials) is walks.2) (sym (ap (λ (b : Bool). cond b (Some one) (survivor_in trials)) is) ∙ found) in
         (one ∷ later.0, ap (λ (l : List Trial). one ∷ l) later.1, (walks.0, walks.1, is, later.2))
 
--- none were tried yet, and one more was
-pub failed_none : {failure : Failure} {point : ℕ} {noted : List Try} {before : ℕ} → FailedSome failure point [] noted noted before before
-failed_none {noted = noted} = record { trials = []; tried = tt; tries_are = sym (append-nil noted); counted = omega arith }
-
 failed_more : {failure : Failure} {point : ℕ} {chances : List Chance} {chance : Chance} {noted mid new : List Try} {before between after : ℕ} → FailedSome failure point chances noted mid before between → FailedOne failure point chance mid new between after
     → FailedSome failure point (chances ++ chance ∷ []) noted new before after
 failed_more {failure = failure} {point = point} {chances = chances} {chance = chance} {noted = noted} some one = record {
@@ -175,10 +158,6 @@ failed_checkpoint {failure = failure} {point = point} index {checkpoint = checkp
           ∙ (ap (λ (all : List Try). all ++ map try_of others.trials) some.tries_are ∙ (append_assoc noted (map try_of some.trials) (map try_of others.trials) ∙ ap (λ (all : List Try). noted ++ all) (sym (map-append try_of some.trials others.trials))));
       counted = let parts = steps_of-append some.trials others.trials in omega (arith, parts, some.counted, others.counted);
     })
-  where
-    steps_of-append : (xs ys : List Trial) → steps_of (xs ++ ys) ≡ steps_of xs + steps_of ys
-    steps_of-append xs ys =
-        ap sum (map-append (λ (t : Trial). t.path.steps - t.chance.checkpoint.steps) xs ys) ∙ sum_by-append (λ x. x) (map (λ (t : Trial). t.path.steps - t.chance.checkpoint.steps) xs) (map (λ (t : Trial). t.path.steps - t.chance.checkpoint.steps) ys)
 
 module _ {R : Type 0} where
   -- behind those that failed one was adopted
@@ -252,12 +231,8 @@ module _ {R : Type 0} where
         walks = subst (λ (all : List Chance). Walks failure point all ((some.trials ++ a.trials) ++ a.last ∷ [])) (sym split)
             (found_walks failure (early ++ here) (chances_at checkpoint envs.0 ++ table ring.0) trials tried a.chance_is a.right survived);
         leaves = (a.last, tried_then failure point (early ++ here) trials tried survived, a.adopts);
-        counted = let parts = ap steps_of (append_assoc some.trials a.trials (a.last ∷ [])) ∙ steps-append some.trials (a.trials ++ a.last ∷ []) in omega (arith, parts, some.counted, a.counted);
+        counted = let parts = ap steps_of (append_assoc some.trials a.trials (a.last ∷ [])) ∙ steps_of-append some.trials (a.trials ++ a.last ∷ []) in omega (arith, parts, some.counted, a.counted);
       }
-    where
-      steps-append : (xs ys : List Trial) → steps_of (xs ++ ys) ≡ steps_of xs + steps_of ys
-      steps-append xs ys =
-          ap sum (map-append (λ (t : Trial). t.path.steps - t.chance.checkpoint.steps) xs ys) ∙ sum_by-append (λ x. x) (map (λ (t : Trial). t.path.steps - t.chance.checkpoint.steps) xs) (map (λ (t : Trial). t.path.steps - t.chance.checkpoint.steps) ys)
 
   -- what holds of the loop over environments, and of that over checkpoints
   pub record TriedUpTo (permits : R → Heap → ℕ → ℕ → Bool) (budget point : ℕ) (index : ℕ) (began now : Recoverable R) (before after : ℕ) (noted tries : List Try) (place : ℕ) : Type 0 where
@@ -272,16 +247,6 @@ module _ {R : Type 0} where
     pub ledger : KeepsLedger began.replies now.replies
     pub tried : (failure : Failure) → IsUnder failure budget (permits began.cpu.rule) → FailedAt point failure began.cpu began.log began.replies → FailedSome failure point (table (take index failure.ring)) [] tries before after
     pub least : before ≤ after
-
-  pub same_saved : {cpu : CpuState R} → KeepsSaved cpu cpu
-  same_saved = record { rule = refl; base = refl; saved = refl; count = refl; pages = refl; frames = refl }
-
--- what was passed stays over the parts of a walk
-pub same_bytes_on : {old mid new : Ledger} → KeepsLedger old mid → HasSameBytes mid new → HasSameBytes old new
-same_bytes_on same h = record { no_trial = h.no_trial; first = h.first ∙ ap (λ (l : Ledger). l.first) same; connections = h.connections ∙ ap (λ (l : Ledger). l.connections) same }
-
-pub same_bytes_discarded : {old new : Ledger} → new ≡ discarded old → HasSameBytes old new
-same_bytes_discarded is = record { no_trial = ap (λ (l : Ledger). l.trial) is; first = ap (λ (l : Ledger). l.first) is; connections = ap (λ (l : Ledger). l.connections) is }
 
 -- a walk past the last checkpoint has tried the whole table
 pub failed_all : {failure : Failure} {point index : ℕ} {noted new : List Try} {before after : ℕ} → length failure.ring ≤ index → FailedSome failure point (table (take index failure.ring)) noted new before after

@@ -1,7 +1,8 @@
 -- What a survivor's run fixes: the pages that it wrote before its requests, and the checkpoints that stand behind them.
 use Rattle.guest_cpu.proofs.WritingOnce.{writes_once}
-use Rattle.recovery.proofs.Terms.{Bool, IfSome, List, Option, Some, [], ap, arith, cond, false, get_or, inl, inr, length, refl, subst, sym, true, ℕ, ◌++◌, ◌+◌, ◌-◌, ◌<◌, ◌∙◌, ◌∷◌, ◌≡◌, slice_get-get_or, replicate, Item, Entry, from_newest, count_true, Image, base, AsksFor, Limits, Override, Path, Served, origin, Writes, Later, served_on, items_in, Rules, Survivor, asks_under_all, Before, Behind, Compared, Equal, compare, start_taken, asks_on, IsCheckpoint, AreWritten, HasWritten, Keeping, Stand, first_stands, handle, handled, is_far, may_stand, stay, whole_oldest}
-use Rattle.recovery.specs.Laws.{OneNumber, OneRing, SameNumbers}
+use Rattle.trials.proofs.Going.{Before}
+use Rattle.recovery.proofs.Terms.{Bool, IfSome, List, [], ap, arith, cond, false, inl, inr, length, refl, subst, sym, take, true, ℕ, ◌*◌, ◌+◌, ◌<◌, ◌∙◌, ◌∷◌, ◌≡◌, ◌≤◌, cond_both, replicate, slice_get, Item, Entry, count_true, has_room, page_numbers, with_whole_oldest, Image, base, AsksFor, Limits, Override, Path, Served, origin, Writes, Later, served_on, items_in, Rules, Survivor, asks_under_all, Behind, Compared, Equal, compare, start_taken, asks_on, IsCheckpoint, AreWritten, HasWritten, Keeping, Stand, handle, handled, is_far, with_another, OneNumber}
+use Rattle.recovery.proofs.Stands.{room_some, whole_some}
 
 -- a run that goes on from its request for an item doesn't ask for that item again
 asks_no_more : (limits : Limits) (items : List Item) (plan : List Override) (one other : Path) (item : ℕ) → AsksFor limits [] one item → other.state.machine.taken ≡ item → Later limits items plan one other → ⊥
@@ -41,95 +42,55 @@ one_number rules image entries survivor pages from to one other w v =
     (subst (λ (p : Path). Writes rules.limits items (base image) v.checkpoint (replicate pages false) p v.flags) (sym request) v.wrote) in
     w.count_is ∙ ap count_true (writes_once rules.limits items (base image) w.checkpoint (replicate pages false) w.request w.flags v.flags w.wrote wrote) ∙ sym v.count_is
 
--- of some there is a newest one
-newest_of : (stands : List Stand) → 0 < length stands → (newest : Stand) × (from_newest stands 0 ≡ Some newest)
-newest_of [] some = absurd (omega (arith, some))
-newest_of (oldest ∷ later) some =
-    let within : length (oldest ∷ later) - 0 - 1 < length (oldest ∷ later) = omega (arith, some) in
-    (get_or (oldest ∷ later) (length (oldest ∷ later) - 0 - 1) oldest, slice_get-get_or (oldest ∷ later) (length (oldest ∷ later) - 0 - 1) oldest within)
+-- the new one stands alone with all pages as its number, or none does
+alone_alike : (keeping : Keeping) (taken one other : ℕ) → handle keeping taken one [] ≡ handle keeping taken other []
+alone_alike keeping taken one other = by (has_room keeping.ring keeping.pages keeping.frames (one ∷ []))
+  where
+    by : (b : Bool) → with_whole_oldest keeping.pages (take (cond b 1 0) (record { state = taken; pages = one } ∷ [])) ≡ with_whole_oldest keeping.pages (take (cond b 1 0) (record { state = taken; pages = other } ∷ []))
+    by true = refl
+    by false = refl
+
+-- and where one may stand alone, one does behind each request
+handled_some : (keeping : Keeping) (from : ℕ) (written : List ℕ) (stands : List Stand) → 0 < length stands → 1 ≤ keeping.ring → 2 * keeping.pages ≤ keeping.frames → 0 < length (handled keeping from written stands)
+handled_some keeping from [] stands some may two = some
+handled_some keeping from (written ∷ earlier) stands some may two =
+    let before : List Stand = handled keeping from earlier stands in
+    cond_both (is_far keeping.every (from + length earlier) (slice_get before 0)) (with_another keeping (from + length earlier) written before) before (λ list. 0 < length list)
+    (λ _. whole_some keeping.pages (record { state = from + length earlier; pages = written }) before (room_some keeping.ring keeping.pages keeping.frames written (page_numbers before) may two))
+    (λ _. handled_some keeping from earlier stands some may two)
 
 module _ (rules : Rules) (image : Image) (entries : List Entry) (survivor : Survivor) (keeping : Keeping) where
   -- before a request so many pages were written since the newest one that stands
   abbrev CountsBefore : ℕ → List Stand → ℕ → Type 0
-  CountsBefore to stands written = IfSome (from_newest stands 0) (λ newest. HasWritten rules image entries survivor keeping.pages newest.taken to written)
+  CountsBefore to stands written = IfSome (slice_get stands 0) (λ newest. HasWritten rules image entries survivor keeping.pages newest.state to written)
 
   -- where one stands there is one such number
   one_before : (to one other : ℕ) (stands : List Stand) → 0 < length stands → CountsBefore to stands one → CountsBefore to stands other → one ≡ other
-  one_before to one other stands some w v =
-      let newest = newest_of stands some in
-      one_number rules image entries survivor keeping.pages newest.0.taken to one other
-      (subst (λ (o : Option Stand). IfSome o (λ newest. HasWritten rules image entries survivor keeping.pages newest.taken to one)) newest.1 w)
-      (subst (λ (o : Option Stand). IfSome o (λ newest. HasWritten rules image entries survivor keeping.pages newest.taken to other)) newest.1 v)
+  one_before to one other [] some w v = absurd (omega (arith, some))
+  one_before to one other (newest ∷ older) some w v = one_number rules image entries survivor keeping.pages newest.state to one other w v
 
   -- and where none stands the number doesn't matter: the new one stands alone, or none does
-  alone_alike : (taken one other : ℕ) → handle keeping taken one [] ≡ handle keeping taken other []
-  alone_alike taken one other = by (may_stand keeping (record { taken = taken; written = one } ∷ []))
-    where
-      by : (b : Bool) → whole_oldest keeping.pages (cond b (record { taken = taken; written = one } ∷ []) []) ≡ whole_oldest keeping.pages (cond b (record { taken = taken; written = other } ∷ []) [])
-      by true = refl
-      by false = refl
-
   handle_once : (to one other : ℕ) (stands : List Stand) → CountsBefore to stands one → CountsBefore to stands other → handle keeping to one stands ≡ handle keeping to other stands
-  handle_once to one other [] w v = alone_alike to one other
-  handle_once to one other (oldest ∷ later) w v = ap (λ n. handle keeping to n (oldest ∷ later)) (one_before to one other (oldest ∷ later) (omega arith) w v)
+  handle_once to one other [] w v = alone_alike keeping to one other
+  handle_once to one other (newest ∷ older) w v = ap (λ n. handle keeping to n (newest ∷ older)) (one_before to one other (newest ∷ older) (omega arith) w v)
 
   -- the same of the requests before
-  ring_once : (from : ℕ) (one other : List ℕ) (stands : List Stand) → AreWritten rules image entries survivor keeping from one stands → AreWritten rules image entries survivor keeping from other stands
+  pub one_ring : (from : ℕ) (one other : List ℕ) (stands : List Stand) → AreWritten rules image entries survivor keeping from one stands → AreWritten rules image entries survivor keeping from other stands
       → length one ≡ length other → handled keeping from one stands ≡ handled keeping from other stands
-  ring_once from [] [] stands w v same = refl
-  ring_once from [] (other ∷ before) stands w v same = absurd (omega (arith, same))
-  ring_once from (one ∷ earlier) [] stands w v same = absurd (omega (arith, same))
-  ring_once from (one ∷ earlier) (other ∷ before) stands w v same =
+  one_ring from [] [] stands w v same = refl
+  one_ring from (one ∷ earlier) (other ∷ before) stands w v same =
       let many : length earlier ≡ length before = omega (arith, same) in
-      let ring = ring_once from earlier before stands w.1 v.1 many in
-      let counts : CountsBefore (from + length before) (handled keeping from before stands) one =
-      subst (λ (n : ℕ). CountsBefore (from + n) (handled keeping from before stands) one) many (subst (λ (list : List Stand). CountsBefore (from + length earlier) list one) ring w.0) in
-      ap (λ (list : List Stand). handle keeping (from + length earlier) one list) ring
-      ∙ ap (λ (n : ℕ). handle keeping (from + n) one (handled keeping from before stands)) many
-      ∙ handle_once (from + length before) one other (handled keeping from before stands) counts v.0
+      let ring = one_ring from earlier before stands w.1 v.1 many in
+      let counts : CountsBefore (from + length before) (handled keeping from before stands) one = subst (λ (at : ℕ × List Stand). CountsBefore (from + at.0) at.1 one) (λ i. (many i, ring i)) w.0 in
+      (λ i. handle keeping (from + many i) one (ring i)) ∙ handle_once (from + length before) one other (handled keeping from before stands) counts v.0
+  one_ring from _ _ stands w v same = absurd (omega (arith, same))
 
-  -- where one may stand alone, one does behind each request
-  stay_some : (newest : Stand) (stands : List Stand) → may_stand keeping (newest ∷ []) ≡ true → 0 < length (stay keeping (stands ++ newest ∷ []))
-  stay_some newest [] may = by (may_stand keeping (newest ∷ [])) may
-    where
-      by : (b : Bool) → b ≡ true → 0 < length (cond b (newest ∷ []) [])
-      by true is = omega arith
-      by false is = absurd (cc)
-  stay_some newest (oldest ∷ later) may = by (may_stand keeping (oldest ∷ later ++ newest ∷ [])) (stay_some newest later may)
-    where
-      by : (b : Bool) → 0 < length (stay keeping (later ++ newest ∷ [])) → 0 < length (cond b (oldest ∷ later ++ newest ∷ []) (stay keeping (later ++ newest ∷ [])))
-      by true some = omega arith
-      by false some = some
-
-  whole_some : (stands : List Stand) → 0 < length stands → 0 < length (whole_oldest keeping.pages stands)
-  whole_some [] some = some
-  whole_some (oldest ∷ later) some = omega arith
-
-  handled_some : (from : ℕ) (written : List ℕ) (stands : List Stand) → 0 < length stands → may_stand keeping (first_stands keeping) ≡ true → 0 < length (handled keeping from written stands)
-  handled_some from [] stands some may = some
-  handled_some from (written ∷ earlier) stands some may = by (is_far keeping.every (from + length earlier) (from_newest (handled keeping from earlier stands) 0)) (handled_some from earlier stands some may)
-    where
-      newest : Stand
-      newest = record { taken = from + length earlier; written = written }
-
-      by : (b : Bool) → 0 < length (handled keeping from earlier stands)
-          → 0 < length (cond b (whole_oldest keeping.pages (stay keeping (handled keeping from earlier stands ++ newest ∷ []))) (handled keeping from earlier stands))
-      by true before = whole_some (stay keeping (handled keeping from earlier stands ++ newest ∷ [])) (stay_some newest (handled keeping from earlier stands) may)
-      by false before = before
-
-  numbers_once : (from : ℕ) (one other : List ℕ) (stands : List Stand) → 0 < length stands → may_stand keeping (first_stands keeping) ≡ true → AreWritten rules image entries survivor keeping from one stands
+  pub same_numbers : (from : ℕ) (one other : List ℕ) (stands : List Stand) → 0 < length stands → 1 ≤ keeping.ring → 2 * keeping.pages ≤ keeping.frames → AreWritten rules image entries survivor keeping from one stands
       → AreWritten rules image entries survivor keeping from other stands → length one ≡ length other → one ≡ other
-  numbers_once from [] [] stands some may w v same = refl
-  numbers_once from [] (other ∷ before) stands some may w v same = absurd (omega (arith, same))
-  numbers_once from (one ∷ earlier) [] stands some may w v same = absurd (omega (arith, same))
-  numbers_once from (one ∷ earlier) (other ∷ before) stands some may w v same =
-      let rest : earlier ≡ before = numbers_once from earlier before stands some may w.1 v.1 (omega (arith, same)) in
+  same_numbers from [] [] stands some may two w v same = refl
+  same_numbers from (one ∷ earlier) (other ∷ before) stands some may two w v same =
+      let rest : earlier ≡ before = same_numbers from earlier before stands some may two w.1 v.1 (omega (arith, same)) in
       let counts : CountsBefore (from + length before) (handled keeping from before stands) one =
       subst (λ (list : List ℕ). CountsBefore (from + length list) (handled keeping from list stands) one) rest w.0 in
-      λ i. (one_before (from + length before) one other (handled keeping from before stands) (handled_some from before stands some may) counts v.0) i ∷ rest i
-
-pub one_ring : OneRing
-one_ring rules image entries survivor keeping from one other stands w v same = ring_once rules image entries survivor keeping from one other stands w v same
-
-pub same_numbers : SameNumbers
-same_numbers rules image entries survivor keeping from one other stands some may w v same = numbers_once rules image entries survivor keeping from one other stands some may w v same
+      λ i. (one_before (from + length before) one other (handled keeping from before stands) (handled_some keeping from before stands some may two) counts v.0) i ∷ rest i
+  same_numbers from _ _ stands some may two w v same = absurd (omega (arith, same))

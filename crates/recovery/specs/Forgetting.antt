@@ -1,7 +1,7 @@
 -- What a session gives up: the items and the replies from before the oldest checkpoint.
-use Rattle.std.specs.Prelude.{◌≡◌, ◌+◌, ◌<◌, ◌≤◌, List, length, None, IfSome, slice_get}
+use Rattle.std.specs.Prelude.{◌≡◌, ◌+◌, ◌<◌, ◌≤◌, List, length, None, IfSome}
 use Rattle.item_log.specs.Log.{received}
-use Rattle.recovery.specs.Terms.{Entry, Checkpoints, Log, Ledger, Image, Override, Path, CpuState, KeepsItems, KeepsReplies, Rules}
+use Rattle.recovery.specs.Terms.{Entry, oldest_of, Log, Ledger, Image, Override, Path, CpuState, KeepsItems, KeepsReplies, Rules}
 use Rattle.recovery.specs.Rings.{KeepsRing}
 
 module _ {R : Type 0} where
@@ -9,11 +9,11 @@ module _ {R : Type 0} where
   pub record CanForget (cpu : CpuState R) (log : Log) (ledger : Ledger) : Type 0 where
     pub some : 0 < length cpu.slots.saved
     pub trial : ledger.trial ≡ None
-    pub items : IfSome (slice_get cpu.slots.saved 0) (λ oldest. oldest.state.guest.machine.taken ≤ received log)
-    pub sends : IfSome (slice_get cpu.slots.saved 0) (λ oldest. oldest.state.sends ≤ ledger.first + length ledger.kept)
+    pub items : IfSome (oldest_of cpu.slots.saved) (λ oldest. oldest.state.guest.machine.taken ≤ received log)
+    pub sends : IfSome (oldest_of cpu.slots.saved) (λ oldest. oldest.state.sends ≤ ledger.first + length ledger.kept)
 
-  -- A log and a ledger from which each checkpoint of the ring can still begin a trial, and which are right beside the journal.
-  pub record Forgets (rules : Rules) (image : Image) (entries : List Entry) (plan : List Override) (now : Path) (paths : List Path) (cpu : CpuState R) (checkpoints : Checkpoints) (log : Log) (ledger : Ledger) : Type 0 where
-    pub ring : KeepsRing rules image entries plan now paths cpu checkpoints log ledger
+  -- A log and a ledger from which each checkpoint can still begin a trial, and which are right beside the journal.
+  pub record Forgets (rules : Rules) (image : Image) (entries : List Entry) (plan : List Override) (now : Path) (paths : List Path) (cpu : CpuState R) (log : Log) (ledger : Ledger) : Type 0 where
+    pub ring : KeepsRing rules image entries plan now paths cpu log ledger
     pub items : KeepsItems rules.bounds entries log
     pub replies : KeepsReplies rules.bounds entries None now.state.sends ledger

@@ -1,6 +1,6 @@
--- Which checkpoints stand: what a session makes of the requests of its survivors.
-use Rattle.std.specs.Prelude.{◌≡◌, ℕ, ◌+◌, ◌-◌, ◌<◌, ◌&&◌, Bool, true, false, List, [], ◌∷◌, ◌++◌, length, map, sum, drop, replicate, nat_le, if◌then◌else◌, Option, Some, None, IfSome, option_map, slice_get}
-use Rattle.recovery.specs.Terms.{Entry, from_newest, without_newer, Saved, Slots, count_true, Image, base, AsksFor, Path, Served, origin, Standing, Writes, items_in, Chapter, Rules, Survivor, IsCheckpoint, Recovery, Trial, first_survivor, starting_path, survivor_in}
+-- Which checkpoints stand, the newest first: what a session makes of the requests of its survivors.
+use Rattle.std.specs.Prelude.{◌≡◌, ℕ, ◌+◌, ◌-◌, Bool, true, false, List, [], ◌∷◌, ◌++◌, length, map, take, drop, replicate, nat_le, if◌then◌else◌, Option, Some, None, IfSome, slice_get}
+use Rattle.recovery.specs.Terms.{Entry, count_true, room_for, Checkpoint, Slots, page_numbers, with_whole_oldest, Image, base, AsksFor, Path, Served, origin, Standing, Writes, items_in, Chapter, Rules, Survivor, first_survivor, starting_path, IsCheckpoint, Recovery, Trial, survivor_in}
 use Rattle.recovery.specs.Sessions.{taken_in}
 
 -- How a session keeps its checkpoints: how many stand at most, how many items lie between two at least, how many pages the program's window
@@ -11,43 +11,34 @@ pub record Keeping : Type 0 where
   pub pages : ℕ
   pub frames : ℕ
 
--- a checkpoint that stands: how many items were taken there, and how many pages were written since the one before it
-pub record Stand : Type 0 where
-  pub taken : ℕ
-  pub written : ℕ
+-- a checkpoint that stands, of which only is told how many items were taken there
+abbrev pub Stand : Type 0
+Stand = Checkpoint ℕ
 
 -- One stands alone. Before the oldest one all pages count as written.
 abbrev pub alone : ℕ → ℕ → List Stand
-alone taken pages = record { taken = taken; written = pages } ∷ []
+alone taken pages = record { state = taken; pages = pages } ∷ []
 
 -- so does the start at first
 abbrev pub first_stands : Keeping → List Stand
 first_stands keeping = alone 0 keeping.pages
 
-abbrev pub whole_oldest : ℕ → List Stand → List Stand
-whole_oldest pages [] = []
-whole_oldest pages (oldest ∷ later) = record oldest { written = pages } ∷ later
-
--- Whether some, the oldest first, may stand: there are no more of them than may be, and the frames hold all pages of the oldest, those that were
--- written between it and the newest, and all pages once more.
-abbrev pub may_stand : Keeping → List Stand → Bool
-may_stand keeping stands = nat_le (length stands) keeping.ring && nat_le (keeping.pages + sum (drop 1 (map (λ (one : Stand). one.written) stands)) + keeping.pages) keeping.frames
-
--- the oldest are dropped as long as they may not
-abbrev pub stay : Keeping → List Stand → List Stand
-stay keeping [] = []
-stay keeping (oldest ∷ later) = if may_stand keeping (oldest ∷ later) then oldest ∷ later else stay keeping later
-
 -- whether enough items were taken since the newest one
 abbrev pub is_far : ℕ → ℕ → Option Stand → Bool
 is_far every taken None = true
-is_far every taken (Some newest) = nat_le every (taken - newest.taken)
+is_far every taken (Some newest) = nat_le every (taken - newest.state)
 
--- At a request for an item, with so many taken and so many pages written since the newest checkpoint, another one stands behind the others
--- where enough items were taken since; and of them all the oldest are dropped that may not stand.
+-- Of a checkpoint with so many items taken and so many pages written since the newest one, and the others behind it, those stand that have room, the
+-- oldest of them with all pages as its number.
+abbrev pub with_another : Keeping → ℕ → ℕ → List Stand → List Stand
+with_another keeping taken written stands =
+    with_whole_oldest keeping.pages
+    (take (room_for keeping.ring keeping.pages keeping.frames (written ∷ page_numbers stands)) (record { state = taken; pages = written } ∷ stands))
+
+-- At a request for an item, with so many taken and so many pages written since the newest checkpoint, another one stands where enough items were
+-- taken since.
 abbrev pub handle : Keeping → ℕ → ℕ → List Stand → List Stand
-handle keeping taken written stands =
-    if is_far keeping.every taken (from_newest stands 0) then whole_oldest keeping.pages (stay keeping (stands ++ record { taken = taken; written = written } ∷ [])) else stands
+handle keeping taken written stands = if is_far keeping.every taken (slice_get stands 0) then with_another keeping taken written stands else stands
 
 -- Requests one after another, the first one with so many items taken and each later one with one more. The numbers are those of the pages
 -- that were written before each, the latest first.
@@ -55,10 +46,9 @@ abbrev pub handled : Keeping → ℕ → List ℕ → List Stand → List Stand
 handled keeping from [] stands = stands
 handled keeping from (written ∷ earlier) stands = handle keeping (from + length earlier) written (handled keeping from earlier stands)
 
--- the runs of a ring, from the newest to the oldest, took as many items as those that stand
-pub record HasRing (stands : List Stand) (ring : List Path) : Type 0 where
-  pub many : length stands ≡ length ring
-  pub each : (index : ℕ) → index < length ring → option_map (λ (one : Stand). one.taken) (from_newest stands index) ≡ option_map (λ (path : Path). path.state.machine.taken) (slice_get ring index)
+-- the runs of a ring took as many items as those that stand
+abbrev pub HasRing : List Stand → List Path → Type 0
+HasRing stands ring = map (λ (one : Stand). one.state) stands ≡ map (λ (path : Path). path.state.machine.taken) ring
 
 -- So many pages were written by a survivor's run, from a checkpoint of it with so many items taken to its request with so many.
 pub record HasWritten (rules : Rules) (image : Image) (entries : List Entry) (survivor : Survivor) (pages : ℕ) (from to count : ℕ) : Type 0 where
@@ -78,7 +68,7 @@ pub record HasWritten (rules : Rules) (image : Image) (entries : List Entry) (su
 abbrev pub AreWritten : Rules → Image → List Entry → Survivor → Keeping → ℕ → List ℕ → List Stand → Type 0
 AreWritten rules image entries survivor keeping from [] stands = Unit {0}
 AreWritten rules image entries survivor keeping from (written ∷ earlier) stands =
-    IfSome (from_newest (handled keeping from earlier stands) 0) (λ newest. HasWritten rules image entries survivor keeping.pages newest.taken (from + length earlier) written)
+    IfSome (slice_get (handled keeping from earlier stands) 0) (λ newest. HasWritten rules image entries survivor keeping.pages newest.state (from + length earlier) written)
     × AreWritten rules image entries survivor keeping from earlier stands
 
 -- What stood at a recovery, behind all entries that the journal had at the failure: the survivor's requests from where it began to where it failed
@@ -92,7 +82,7 @@ pub record IsRinged (rules : Rules) (image : Image) (entries : List Entry) (keep
   pub adopted : survivor_in recovery.trials ≡ Some trial
   pub index : ℕ
   pub checkpoint_is : slice_get recovery.ring index ≡ Some trial.chance.checkpoint
-  pub next_is : next ≡ without_newer index (handled keeping recovery.survivor.begun.state.machine.taken written from)
+  pub next_is : next ≡ drop index (handled keeping recovery.survivor.begun.state.machine.taken written from)
 
 -- So it is at each of some recoveries, behind some entries and those of the chapters up to it: from those that stand before the first one to
 -- those behind the last. There are as many chapters as recoveries.
@@ -134,13 +124,13 @@ pub record HasHandled (rules : Rules) (image : Image) (keeping : Keeping) (chapt
   pub pages : AreWritten rules image entries survivor keeping survivor.begun.state.machine.taken written begun
   pub stands_are : stands ≡ handled keeping survivor.begun.state.machine.taken written begun
 
--- saved slots as checkpoints that stand
-abbrev pub stand_of : Saved Standing → Stand
-stand_of one = record { taken = taken_in one.state; written = one.pages }
+-- a guest's checkpoints as those that stand
+abbrev pub stand_of : Checkpoint Standing → Stand
+stand_of one = record { state = taken_in one.state; pages = one.pages }
 
-abbrev pub stands_of : List (Saved Standing) → List Stand
+abbrev pub stands_of : List (Checkpoint Standing) → List Stand
 stands_of saved = map stand_of saved
 
--- how a ring of a capacity keeps checkpoints in some slots
-abbrev pub keeping_by : ℕ → ℕ → Slots Standing → Keeping
-keeping_by ring every slots = record { ring = ring; every = every; pages = slots.pages; frames = slots.frames }
+-- how a guest keeps its checkpoints
+abbrev pub keeping_by : ℕ → Slots Standing → Keeping
+keeping_by every slots = record { ring = slots.count; every = every; pages = slots.pages; frames = slots.frames }

@@ -1,8 +1,8 @@
 -- What the run of a survivor fixes: how many pages were written before its requests, and which checkpoints stand behind them. And what is followed
 -- where nothing is before.
-use Rattle.std.specs.Prelude.{◌≡◌, ℕ, ◌<◌, true, List, [], length}
-use Rattle.recovery.specs.Terms.{Entry, Image, Rules, Survivor, nothing_before}
-use Rattle.recovery.specs.Handling.{Keeping, Stand, first_stands, may_stand, handled, HasWritten, AreWritten, HasFollowedRequests}
+use Rattle.std.specs.Prelude.{◌≡◌, ℕ, ◌*◌, ◌<◌, ◌≤◌, List, [], length}
+use Rattle.recovery.specs.Terms.{Entry, Image, nothing_before, Rules, Survivor}
+use Rattle.recovery.specs.Handling.{Keeping, Stand, handled, HasWritten, AreWritten, HasFollowedRequests}
 
 -- the number of pages that a survivor's run wrote from a checkpoint to a request is one
 abbrev pub OneNumber : Type 0
@@ -21,7 +21,7 @@ OneRing =
 abbrev pub SameNumbers : Type 0
 SameNumbers =
     (rules : Rules) (image : Image) (entries : List Entry) (survivor : Survivor) (keeping : Keeping) (from : ℕ) (one other : List ℕ) (stands : List Stand) →
-    0 < length stands → may_stand keeping (first_stands keeping) ≡ true →
+    0 < length stands → 1 ≤ keeping.ring → 2 * keeping.pages ≤ keeping.frames →
     AreWritten rules image entries survivor keeping from one stands → AreWritten rules image entries survivor keeping from other stands → length one ≡ length other → one ≡ other
 
 -- where nothing came before a session no request was followed, and that is so of it

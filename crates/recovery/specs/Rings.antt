@@ -1,22 +1,19 @@
--- The ring of a session's checkpoints beside its guest, its log and its ledger.
-use Rattle.std.specs.Prelude.{◌≡◌, ℕ, ◌-◌, ◌<◌, ◌≤◌, Bool, true, false, List, [], ◌∷◌, ◌++◌, length, take, replicate, nat_le, nat_lt, if◌then◌else◌, Option, Some, None, IfSome, option_map, slice_get}
+-- A session's checkpoints beside its log and its ledger.
+use Rattle.std.specs.Prelude.{◌≡◌, ℕ, ◌<◌, ◌≤◌, Bool, true, false, List, [], ◌∷◌, ◌++◌, length, take, replicate, nat_lt, if◌then◌else◌, IfSome, slice_get}
 use Rattle.elf_image.specs.Image as images
-use Rattle.recovery.specs.Terms.{Item, Entry, Env, Plain, Checkpoint, Checkpoints, checkpoints_of, from_newest, saved_in_ring, newest_slot, Log, Ledger, Image, AsksFor, Override, Path, env_at, origin, CpuState, standing_of, Writes, events_of, heeded, items_in, Rules, opens, AreChained, AreCheckpoints}
-use Rattle.recovery.specs.Sessions.{AreKept, CanGoOn, taken_in}
+use Rattle.recovery.specs.Terms.{Item, Entry, Env, Plain, saved_in_ring, Log, Ledger, Image, AsksFor, Override, Path, env_at, origin, CpuState, standing_of, Writes, events_of, heeded, items_in, Rules, opens, AreChained, AreCheckpoints}
+use Rattle.recovery.specs.Sessions.{AreKept, CanGoOn, HasSaved}
 
--- what a ring and the slots of its guest have in common: both have the same checkpoints, at least one, and the guest stands on the newest
-pub record IsRingOf {R : Type 0} (cpu : CpuState R) (checkpoints : Checkpoints) : Type 0 where
-  pub some : 0 < length checkpoints.standing
-  pub standing : checkpoints.standing ≡ checkpoints_of taken_in cpu.slots.saved
-  pub capacity : checkpoints.capacity ≤ cpu.slots.count
-  pub base : cpu.slots.base ≡ newest_slot cpu.slots.saved
+-- a guest that stands on its newest checkpoint
+pub record StandsOnNewest {R : Type 0} (cpu : CpuState R) : Type 0 where
+  pub some : 0 < length cpu.slots.saved
+  pub newest : cpu.slots.newer ≡ 0
 
--- a guest without checkpoints, and an empty ring with no more room than it has slots
-pub record HasNoCheckpoint {R : Type 0} (cpu : CpuState R) (checkpoints : Checkpoints) : Type 0 where
+-- a guest without checkpoints, of which some can stand
+pub record HasNoCheckpoint {R : Type 0} (cpu : CpuState R) : Type 0 where
   pub saved : cpu.slots.saved ≡ []
-  pub base : cpu.slots.base ≡ None
-  pub empty : checkpoints.standing ≡ []
-  pub capacity : checkpoints.capacity ≤ cpu.slots.count
+  pub newest : cpu.slots.newer ≡ 0
+  pub some : 1 ≤ cpu.slots.count
 
 -- a guest at the start of a program, beside a log and a ledger that have given up nothing
 pub record IsAtStart {R : Type 0} (image : Image) (cpu : CpuState R) (log : Log) (ledger : Ledger) : Type 0 where
@@ -25,31 +22,28 @@ pub record IsAtStart {R : Type 0} (image : Image) (cpu : CpuState R) (log : Log)
   pub items : log.first ≡ 0
   pub sends : ledger.first ≡ 0
 
--- a save leaves a guest's live state, its rule and its window, and the room of its ring
-pub record KeepsGuest {R : Type 0} (old new : CpuState R) (before after : Checkpoints) : Type 0 where
+-- a save leaves a guest's live state, its rule and its window, and how many checkpoints can stand
+pub record KeepsGuest {R : Type 0} (old new : CpuState R) : Type 0 where
   pub live : new.slots.live ≡ old.slots.live
   pub rule : new.rule ≡ old.rule
   pub base : new.base ≡ old.base
-  pub capacity : after.capacity ≡ before.capacity
+  pub count : new.slots.count ≡ old.slots.count
 
--- The checkpoints of a session's ring as runs, from the newest to the oldest, beside its guest, its log and its ledger. The guest's window is
+-- The checkpoints of a session's guest as runs, the newest first, beside its log and its ledger. The guest stands on the newest. Its window is
 -- that of the image, and its flags of pages say which of them the run wrote since the newest checkpoint.
-pub record KeepsRing {R : Type 0} (rules : Rules) (image : Image) (entries : List Entry) (plan : List Override) (now : Path) (ring : List Path) (cpu : CpuState R) (checkpoints : Checkpoints) (log : Log) (ledger : Ledger) : Type 0 where
+pub record KeepsRing {R : Type 0} (rules : Rules) (image : Image) (entries : List Entry) (plan : List Override) (now : Path) (ring : List Path) (cpu : CpuState R) (log : Log) (ledger : Ledger) : Type 0 where
   pub some : 0 < length ring
   pub chained : AreChained rules.limits (items_in rules.bounds entries) plan image now ring
   pub are : AreCheckpoints rules.limits image ring
   pub kept : AreKept rules entries log ledger ring
-  pub as_many : length cpu.slots.saved ≡ length ring
-  pub saved : (index : ℕ) → index < length ring → option_map (λ one. one.state) (from_newest cpu.slots.saved index) ≡ option_map standing_of (slice_get ring index)
-  pub standing : checkpoints.standing ≡ checkpoints_of taken_in cpu.slots.saved
-  pub capacity : checkpoints.capacity ≤ cpu.slots.count
-  pub base : cpu.slots.base ≡ newest_slot cpu.slots.saved
+  pub saved : HasSaved cpu ring
+  pub newest : cpu.slots.newer ≡ 0
   pub window : cpu.base ≡ images.base image
   pub wrote : IfSome (slice_get ring 0) (λ newest. Writes rules.limits (items_in rules.bounds entries) cpu.base newest (replicate cpu.slots.pages false) now cpu.written)
 
--- A session's ring beside a guest at its request for an item, with so many taken: a trial could begin there.
-pub record CanSave {R : Type 0} (rules : Rules) (image : Image) (entries : List Entry) (plan : List Override) (now : Path) (paths : List Path) (cpu : CpuState R) (checkpoints : Checkpoints) (log : Log) (ledger : Ledger) (taken : ℕ) : Type 0 where
-  pub ring : KeepsRing rules image entries plan now paths cpu checkpoints log ledger
+-- A session's checkpoints where its guest stands at its request for an item, with so many taken: a trial could begin there.
+pub record CanSave {R : Type 0} (rules : Rules) (image : Image) (entries : List Entry) (plan : List Override) (now : Path) (paths : List Path) (cpu : CpuState R) (log : Log) (ledger : Ledger) (taken : ℕ) : Type 0 where
+  pub ring : KeepsRing rules image entries plan now paths cpu log ledger
   pub live : cpu.slots.live ≡ standing_of now
   pub asks : AsksFor rules.limits plan now taken
   pub goes : CanGoOn rules entries now
@@ -66,21 +60,13 @@ pub record Brings (rules : Rules) (before after : List Entry) (more : List Item)
   pub items : items_in rules.bounds after ≡ items_in rules.bounds before ++ more
   pub opened : (conn : ℕ) → opens conn (heeded rules.bounds (events_of rules.bounds before)) ≡ true → opens conn (heeded rules.bounds (events_of rules.bounds after)) ≡ true
 
--- whether another checkpoint is due where so many items were taken: since the newest one so many were
-abbrev pub is_due_after : ℕ → ℕ → Option Checkpoint → Bool
-is_due_after every taken None = true
-is_due_after every taken (Some newest) = nat_le every (taken - newest.taken)
-
-abbrev pub is_due : ℕ → ℕ → List Checkpoint → Bool
-is_due every taken standing = is_due_after every taken (from_newest standing 0)
-
 module _ {R : Type 0} where
-  -- where it is due the live state was saved, as a ring of this capacity saves it; else nothing changed
-  abbrev pub SavesIf : Bool → ℕ → CpuState R → CpuState R → Type 0
-  SavesIf true capacity old new = (slot : ℕ) × (new.slots ≡ saved_in_ring capacity slot old.slots)
-  SavesIf false capacity old new = new ≡ old
+  -- where a checkpoint is due the live state was saved; else nothing changed
+  abbrev pub SavesIf : Bool → CpuState R → CpuState R → Type 0
+  SavesIf true old new = new.slots ≡ saved_in_ring old.slots
+  SavesIf false old new = new ≡ old
 
--- the checkpoints as runs then: of the run that was saved and those before it the newest ones, so many as slots are saved
+-- the checkpoints as runs then: of the run that was saved and those before it the newest ones, as many as stand
 abbrev pub ring_if : Bool → ℕ → Path → List Path → List Path
 ring_if true count now ring = take count (now ∷ ring)
 ring_if false count now ring = ring

@@ -1,6 +1,6 @@
 -- Where a session stands whose program failed.
-use Rattle.std.specs.Prelude.{◌≡◌, ℕ, ◌<◌, ◌≤◌, ◌^◌, List, [], ◌∷◌, length, Bool, true, false, None, option_map, slice_get}
-use Rattle.recovery.specs.Terms.{Item, Send, sent_to, Entry, Heap, from_newest, Log, Ledger, Image, may_send, Override, Path, limits_of, CpuState, standing_of, Standing, IsBounded, events_of, heeded, items_in, received, AreSendable, KeepsItems, KeepsReplies, Rules, opens, AreBetween, AreInOrder, Covers, IsFeasible, passed_in, AreChained, AreCheckpoints}
+use Rattle.std.specs.Prelude.{◌≡◌, ℕ, ◌≤◌, ◌^◌, List, [], ◌∷◌, length, map, Bool, true, false, None}
+use Rattle.recovery.specs.Terms.{Item, Send, sent_to, Entry, Choice, Heap, Checkpoint, Log, Ledger, Image, may_send, Override, Path, limits_of, CpuState, IsBounded, standing_of, Standing, events_of, heeded, items_in, received, AreSendable, KeepsItems, KeepsReplies, Rules, opens, AreBetween, AreInOrder, Covers, IsFeasible, passed_in, AreChained, AreCheckpoints}
 
 -- A run of a session, from which its guest can go on unless it has ended: it is within the budget, it may send to connections alone that
 -- were opened, it did so, and its sends stand in the order of time and have as many bytes as a piece may.
@@ -22,6 +22,10 @@ abbrev pub AreKept : Rules → List Entry → Log → Ledger → List Path → T
 AreKept rules entries log ledger [] = Unit {0}
 AreKept rules entries log ledger (newest ∷ older) = IsKept rules entries log ledger newest × AreKept rules entries log ledger older
 
+-- a guest's checkpoints are those where these runs stand, the newest first
+abbrev pub HasSaved : {R : Type 0} → CpuState R → List Path → Type 0
+HasSaved cpu ring = map (λ (one : Checkpoint Standing). one.state) cpu.slots.saved ≡ map standing_of ring
+
 -- A session whose survivor failed here, with the checkpoints of its ring as runs, from the newest to the oldest: the guest's slots have
 -- them, log and ledger have the journal's items and replies, and the survivor emits what was passed, each byte in time.
 pub record HasFailed {R : Type 0} (rules : Rules) (image : Image) (entries : List Entry) (plan : List Override) (failed : Path) (ring : List Path) (cpu : CpuState R) (log : Log) (ledger : Ledger) : Type 0 where
@@ -35,8 +39,7 @@ pub record HasFailed {R : Type 0} (rules : Rules) (image : Image) (entries : Lis
   pub chained : AreChained rules.limits (items_in rules.bounds entries) plan image failed ring
   pub checkpoints : AreCheckpoints rules.limits image ring
   pub kept : AreKept rules entries log ledger ring
-  pub as_many : length cpu.slots.saved ≡ length ring
-  pub saved : (index : ℕ) → index < length ring → option_map (λ one. one.state) (from_newest cpu.slots.saved index) ≡ option_map standing_of (slice_get ring index)
+  pub saved : HasSaved cpu ring
 
 -- A failure as data: the session that it befell, as above.
 pub record Failure : Type 0 where
@@ -73,3 +76,12 @@ pub record CanTry {R : Type 0} (budget : ℕ) (permits : Heap → ℕ → ℕ �
 -- how many items a state of a guest has taken
 abbrev pub taken_in : Standing → ℕ
 taken_in standing = standing.guest.machine.taken
+
+-- What a session takes back: its guest with its checkpoints, what was received and sent, how many answers of the allocator are recorded, and those
+-- behind them
+pub record Held (R : Type 0) : Type 0 where
+  pub cpu : CpuState R
+  pub log : Log
+  pub replies : Ledger
+  pub recorded : ℕ
+  pub choices : List Choice

@@ -1,7 +1,6 @@
 -- The words that this crate's definitions are written in: those of crates below, and types of its code.
 pub use Rattle.std.specs.declared.alloc.AllocError.{AllocError}
 pub use Rattle.std.specs.List.{AllByRecursion, position_or_len}
-pub use Rattle.std.specs.Option.{option_map}
 pub use Rattle.rx_io.specs.declared.bytes.Item.{Item}
 pub use Rattle.rx_io.specs.Prefix.{Prefix}
 pub use Rattle.rx_io.specs.Sends.{Send, sent_to}
@@ -10,10 +9,9 @@ pub use Rattle.block_book.specs.declared.choice.Choice.{Choice}
 pub use Rattle.block_book.specs.Heap.{Heap}
 pub use Rattle.alloc_env.specs.declared.env.Env.{Env}
 pub use Rattle.alloc_env.specs.declared.env.Env.TheVariants.{Plain}
-pub use Rattle.ckpt_ring.specs.declared.checkpoint.Checkpoint.{Checkpoint}
-pub use Rattle.ckpt_ring.specs.Rings.{Checkpoints, checkpoint_of, checkpoints, checkpoints_of, from_newest, has_room, kept, line, saved_in_ring, without_newer}
-pub use Rattle.ckpt_ring.specs.Slots.{Saved, Slots, newest_slot, restored, slot_numbers, with_whole_oldest, without_newer_slots}
-pub use Rattle.page_line.specs.Line.{count_true}
+pub use Rattle.ckpt_ring.specs.Line.{count_true}
+pub use Rattle.ckpt_ring.specs.Rings.{has_room, largest, room_for, saved_in_ring}
+pub use Rattle.ckpt_ring.specs.Slots.{Checkpoint, Slots, oldest_of, page_numbers, restored, with_whole_oldest, without_newer}
 pub use Rattle.item_log.specs.Log.{IsItemOf, Log, ShowsStill}
 pub use Rattle.reply_ledger.specs.Ledger.{Connection, IsInOrder, IsOpened, Ledger, NotBefore, Passed, no_replies, passed_to}
 unfoldable pub use Rattle.reply_ledger.specs.Ledger.{connection_of, is_open, stamped, stamped_to, stamps_of, times_of}
@@ -21,7 +19,7 @@ pub use Rattle.reply_ledger.specs.Parts.{is_left, parts}
 unfoldable pub use Rattle.reply_ledger.specs.Parts.{parts_behind, settled, unpassed, waits}
 pub use Rattle.reply_ledger.specs.Shows.{Shows}
 unfoldable pub use Rattle.reply_ledger.specs.Shows.{pieces_until, stamped_of}
-pub use Rattle.reply_ledger.specs.Trials.{CoversBefore, adopted, begun, discarded, trial_sends, with_trial_send}
+pub use Rattle.reply_ledger.specs.Trials.{adopted, begun, discarded, trial_sends, with_trial_send}
 unfoldable pub use Rattle.reply_ledger.specs.Trials.{agree}
 pub use Rattle.elf_image.specs.declared.image.Image.{Image}
 pub use Rattle.elf_image.specs.Image.{base}
@@ -40,12 +38,12 @@ pub use Rattle.guest_cpu.specs.Serving.{Adds, standing_of}
 pub use Rattle.guest_cpu.specs.Standing.{Live, Standing, Turn, live_after, marks_of, with_range}
 unfoldable pub use Rattle.guest_cpu.specs.Standing.{turn}
 pub use Rattle.guest_cpu.specs.Writing.{RunsWriting, TakesWriting, Writes, writes}
-pub use Rattle.session_history.specs.Heeding.{Bounds, LimitEvents, LimitItems, TooLong, events_of, heeded, items_in, nothing_before, received, refusal}
+pub use Rattle.session_history.specs.Heeding.{Before, Bounds, LimitEvents, LimitItems, TooLong, events_of, heeded, items_in, nothing_before, received, refusal}
 unfoldable pub use Rattle.session_history.specs.Heeding.{heeded_behind}
 pub use Rattle.session_history.specs.Keeping.{AreSendable, IsSendable, KeepsItems, KeepsReplies, may_pass}
 pub use Rattle.session_history.specs.Lawful.{Chapter, Rules, Survivor, entries_of}
 pub use Rattle.session_history.specs.Opened.{opens}
-pub use Rattle.session_history.specs.Passing.{AreBetween, AreInOrder, Covers, IsFeasible, passed_in, until}
+pub use Rattle.session_history.specs.Passing.{AreBetween, AreInOrder, Covers, CoversBefore, IsFeasible, passed_in, until}
 pub use Rattle.session_history.specs.Serving.{Carries, first_survivor, starting_path}
 pub use Rattle.session_notes.specs.declared.episode.Episode.{Episode}
 pub use Rattle.session_notes.specs.declared.episode.Tried.{Tried}

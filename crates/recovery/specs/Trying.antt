@@ -1,7 +1,7 @@
 -- What a trial, and a walk over the table, make of a session whose program failed.
 use Rattle.std.specs.Prelude.{◌≡◌, ℕ, ◌+◌, ◌-◌, ◌≤◌, List, ◌++◌, map, sum, drop, replicate, false, Option, None, Some, IsSomeAnd, MatchBool, Result, Ok, Err}
 use Rattle.session_notes.specs.declared.episode.Tried.TheVariants as tried
-use Rattle.recovery.specs.Terms.{AllocError, Choice, Env, from_newest, Saved, slot_numbers, Ledger, discarded, Path, CpuState, standing_of, Standing, Writes, KeepsReplies, Tried, Try, survives, Trial, WalksOver, chance_at, survivor_in, table, try_of, IsTrial, plan_of_trial}
+use Rattle.recovery.specs.Terms.{AllocError, Choice, Env, Checkpoint, Ledger, discarded, Path, CpuState, standing_of, Standing, Writes, KeepsReplies, Tried, Try, survives, Trial, WalksOver, chance_at, survivor_in, table, try_of, IsTrial, plan_of_trial}
 use Rattle.recovery.specs.Sessions.{CanGoOn, Failure, items_of, pieces_of}
 use Rattle.recovery.specs.Going.{HasStopped}
 use Rattle.recovery.specs.declared.walking.Adopted.{Adopted}
@@ -33,11 +33,11 @@ module _ {R : Type 0} where
   -- and its live state stands on the same checkpoint
   pub record KeepsBase (old new : CpuState R) : Type 0 where
     pub saved : KeepsSaved old new
-    pub base : new.slots.base ≡ old.slots.base
+    pub newer : new.slots.newer ≡ old.slots.newer
 
   -- the guest stands on the checkpoint of an index
   abbrev pub StandsOn : CpuState R → ℕ → Type 0
-  StandsOn cpu index = cpu.slots.base ≡ from_newest (slot_numbers cpu.slots.saved) index
+  StandsOn cpu index = cpu.slots.newer ≡ index
 
   -- A trial from a checkpoint came to this result: the guest stands where it has come, has marked the pages that it wrote since the checkpoint,
   -- and these are its answers of the allocator since then. Where it survives, the ledger has its sends, and else it has no trial.
@@ -51,7 +51,7 @@ module _ {R : Type 0} where
     pub sent : MatchBool (survives result) (ledger.trial ≡ Some (drop ledger.first path.state.sends)) (ledger.trial ≡ None)
 
   -- the instructions of a trial from a saved checkpoint were counted
-  pub record CountsTrial (saved : Option (Saved Standing)) (cpu : CpuState R) (before after : ℕ) : Type 0 where
+  pub record CountsTrial (saved : Option (Checkpoint Standing)) (cpu : CpuState R) (before after : ℕ) : Type 0 where
     pub counted : IsSomeAnd saved (λ one. after + one.state.steps ≡ before + cpu.slots.live.steps)
     pub least : before ≤ after
 

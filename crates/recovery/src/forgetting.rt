@@ -1,7 +1,8 @@
 // What a session gives up as it goes on.
-ghost use Rattle.std.specs.Prelude.{◌≡◌, ℕ, None, List, IfSome, slice_get};
+ghost use Rattle.std.specs.Prelude.{◌≡◌, ℕ, None, List, IfSome};
 ghost use Rattle.links.specs.declared.journal.Entry.{Entry};
 ghost use Rattle.elf_image.specs.declared.image.Image.{Image};
+ghost use Rattle.ckpt_ring.specs.Slots.{oldest_of};
 ghost use Rattle.item_log.specs.Log.{received};
 ghost use Rattle.item_log.specs.Log as logs;
 ghost use Rattle.reply_ledger.specs.Ledger.{is_open};
@@ -22,12 +23,12 @@ impl<R: AccessRule> Recoverable<R> {
         requires can { CanForget self.old.cpu self.old.log self.old.replies }
         ensures forgets { (rules : Rules) (image : Image) (entries : List Entry) (plan : List Override) (now : Path) (paths : List Path) → HoldsRing rules image entries plan now paths self.old
             → KeepsItems rules.bounds entries self.old.log → KeepsReplies rules.bounds entries None now.state.sends self.old.replies
-            → Forgets rules image entries plan now paths self.new.cpu self.new.ring self.new.log self.new.replies }
+            → Forgets rules image entries plan now paths self.new.cpu self.new.log self.new.replies }
         ensures received { received self.new.log ≡ received self.old.log }
         ensures open { (conn : ℕ) → is_open self.new.replies.connections conn ≡ is_open self.old.replies.connections conn }
         ensures trial { self.new.replies.trial ≡ None }
-        ensures first { IfSome (slice_get self.old.cpu.slots.saved 0) (λ oldest. self.new.log ≡ logs.trimmed self.old.log oldest.state.guest.machine.taken) }
-        ensures first_send { IfSome (slice_get self.old.cpu.slots.saved 0) (λ oldest. self.new.replies ≡ ledgers.trimmed self.old.replies oldest.state.sends) }
+        ensures first { IfSome (oldest_of self.old.cpu.slots.saved) (λ oldest. self.new.log ≡ logs.trimmed self.old.log oldest.state.guest.machine.taken) }
+        ensures first_send { IfSome (oldest_of self.old.cpu.slots.saved) (λ oldest. self.new.replies ≡ ledgers.trimmed self.old.replies oldest.state.sends) }
         ensures rest { self.new ≡ record self.old { log = self.new.log; replies = self.new.replies } }
     {
         let oldest = self.cpu.oldest_marks();

@@ -6,11 +6,11 @@
 //! After want of memory the trials so far are told, and how far the one had come that was under way. Where the guest stands isn't, but of one trial.
 //! A `Watch` may look at a failure before trials are made of it. The program's own is `NoWatch`.
 //! A `Recoverable` is what a recovery takes back, as one value, which a session owns: guest, checkpoints, items, replies, and answers of the allocator.
-//! Its calls keep the ring right beside the guest, the log and the ledger, and require that it is.
+//! Its calls keep the checkpoints right beside the log and the ledger, and require that they are.
 //! `recover` asks the watch first, and then walks over the trials.
 //! What the watch counts isn't among what the trials did.
 //! `forget` gives up only what no trial from the checkpoints that stand can need.
-//! After want of memory the ring and the guest's saved slots are as they were.
+//! After want of memory the checkpoints are as they were.
 //! The laws say that the checkpoints behind a request are fixed by the run, and by how the session keeps them.
 #![tactic(auto)]
 

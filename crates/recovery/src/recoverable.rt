@@ -3,7 +3,6 @@ ghost use Rattle.std.specs.Prelude.{◌≤◌, IfOk};
 ghost use Rattle.recovery.specs.Recoverables.{IsFresh};
 
 use block_book::Choice;
-use ckpt_ring::Ring;
 use elf_image::Image;
 use guest_cpu::Cpu;
 use guest_space::AccessRule;
@@ -18,10 +17,8 @@ const PAGE: u32 = 4096;
 /// A session owns one.
 #[derive(Drop)]
 pub struct Recoverable<R: AccessRule> {
-    /// The guest, with the states that its checkpoints saved.
+    /// The guest, with its checkpoints.
     pub cpu: Cpu<R>,
-    /// Which checkpoints stand, from the oldest to the newest.
-    pub ring: Ring,
     /// The items that were received: those that a trial may need.
     pub log: ItemLog,
     /// What the run sent, what of it was passed, and what a trial sends.
@@ -65,13 +62,11 @@ impl<R: AccessRule + Drop> Recoverable<R> {
         ensures { IfOk result (IsFresh image.now room rule) }
     {
         let frames = room.frames * (image.window / PAGE);
-        let ring = Ring::make(alloc, room.ring)?;
         let log = ItemLog::make(alloc, room.framing, room.max_items)?;
         let replies = Replies::make(alloc)?;
         let cpu = Cpu::make(alloc, image, room.ring, frames, rule)?;
         Ok(Recoverable {
             cpu,
-            ring,
             log,
             replies,
             recorded: 0,

@@ -5,7 +5,7 @@ ghost use Rattle.recovery.specs.Sessions.{Failure, IsUnder};
 ghost use Rattle.recovery.specs.Trying.{StandsOn};
 ghost use Rattle.recovery.specs.Walking.{IsEpisode, IsOfOneRun, StaysBy, WalksBy};
 ghost use Rattle.recovery.specs.Recovering.{AdoptsBy, WatchedBy};
-ghost use Rattle.recovery.specs.Recoverables.{CanBeRecovered, CanBeTried, HasFailedAt, HasSameRing, IsRecoveredBy, IsToRecover, KeepsHeld, KeepsUntried, LeavesHeldBy};
+ghost use Rattle.recovery.specs.Recoverables.{CanBeRecovered, CanBeTried, HasFailedAt, held_of, IsRecoveredBy, IsToRecover, KeepsHeld, KeepsUntried, LeavesHeldBy};
 
 use crate::{Adopted, FailureSite, Recoverable, Walked, Watch};
 use block_book::Choice;
@@ -36,19 +36,17 @@ impl<R: AccessRule> Recoverable<R> {
     // Makes the trial that survived the session's run: of the answers of the allocator behind the recorded ones as many as it has before its own stay,
     // and its own come behind them. Checkpoints that are newer than its own, the one at this index, are dropped.
     fn adopt(&mut self, index: u32, own: &[Choice]) -> Result<(), AllocError>
-        requires within { index < length self.old.ring.standing }
-        requires same { HasSameRing self.old }
+        requires within { index < length self.old.cpu.slots.saved }
         requires base { StandsOn self.old.cpu index }
         requires own { self.old.recorded + length own.now ≤ self.old.cpu.slots.live.guest.machine.allocations }
         requires first { self.old.cpu.slots.live.guest.machine.allocations ≤ self.old.recorded + length self.old.choices.items + length own.now }
-        ensures adopts { AdoptsBy index self.old.recorded own.now self.old.cpu self.new.cpu self.old.ring self.new.ring self.old.choices.items self.new.choices.items result }
-        ensures rule { self.new.cpu.rule ≡ self.old.cpu.rule }
-        ensures rest { self.new ≡ record self.old { cpu = self.new.cpu; ring = self.new.ring; choices = self.new.choices } }
+        ensures adopts { AdoptsBy index own.now (held_of self.old) (held_of self.new) result }
+        ensures rest { self.new ≡ record self.old { cpu = self.new.cpu; choices = self.new.choices } }
     {
         let first = (self.cpu.marks().choices - own.len() as u64 - self.recorded) as usize;
         match joined(self.alloc, &self.choices[..first], own) {
             Ok(all) => {
-                self.ring.drop_newer(&mut self.cpu, index);
+                ckpt_ring::drop_newer(&mut self.cpu, index);
                 self.choices = all;
                 Ok(())
             }
@@ -66,7 +64,6 @@ impl<R: AccessRule> Recoverable<R> {
         steps: &mut Steps<L>,
     ) -> Result<Walked, AllocError>
         requires failed { CanBeTried budget (R.rule self.old.cpu.rule) site.point self.old }
-        requires same { HasSameRing self.old }
         ensures walks { (failure : Failure) → IsUnder failure budget (R.rule self.old.cpu.rule) → HasFailedAt site.point failure self.old
             → WalksBy failure site.point self.new.cpu own.new.items self.old.replies self.new.replies (W.ran watch.new + steps.old) (W.ran watch.old + steps.new) result }
         ensures watched { (failure : Failure) → IsUnder failure budget (R.rule self.old.cpu.rule) → HasFailedAt site.point failure self.old

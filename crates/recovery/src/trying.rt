@@ -1,20 +1,19 @@
 // A trial: to go on from a checkpoint in an environment.
 ghost use Rattle.std.specs.Prelude.{◌≡◌, ℕ, ◌<◌, length, Some, slice_get, IfOk, IsSomeAnd, MatchBool};
 ghost use Rattle.item_log.specs.Log.{Log};
-ghost use Rattle.ckpt_ring.specs.Rings.{checkpoints_of, from_newest};
 ghost use Rattle.reply_ledger.specs.Trials.{discarded};
 ghost use Rattle.session_notes.specs.Survival.{survives};
 ghost use Rattle.alloc_env.specs.declared.env.Env.{Env};
 ghost use Rattle.run_history.specs.Served.{Path};
-ghost use Rattle.recovery.specs.Sessions.{Failure, FailedAt, IsUnder, taken_in};
+ghost use Rattle.recovery.specs.Sessions.{Failure, FailedAt, IsUnder};
 ghost use Rattle.recovery.specs.Going.{IsTrying};
 ghost use Rattle.recovery.specs.Trying.{KeepsLedger, KeepsSaved, StandsOn, CountsTrial, TriesBy};
-ghost use Rattle.recovery.specs.Recoverables.{CanBeTried, HasFailedAt, HasSameRing, KeepsUntried};
+ghost use Rattle.recovery.specs.Recoverables.{CanBeTried, HasFailedAt, KeepsUntried};
 
 use crate::Recoverable;
 use alloc_env::Env;
 use block_book::Choice;
-use ckpt_ring::Ring;
+use ckpt_ring::Snapshot;
 use guest_cpu::Cpu;
 use guest_space::AccessRule;
 use item_log::ItemLog;
@@ -27,7 +26,7 @@ use std::sync::ledger::Ledger;
 /// Where a trial begins, and how it is run.
 #[derive(Clone, Copy, Debug)]
 pub struct Chance {
-    /// The index of its checkpoint in the ring, where 0 is the newest one.
+    /// The index of its checkpoint, where 0 is the newest one.
     pub index: u32,
     /// Its environment.
     pub env: Env,
@@ -45,23 +44,21 @@ pub struct TrialLimits {
 // The guest stands on a checkpoint, and a trial begins there.
 fn begin<R: AccessRule>(
     cpu: &mut Cpu<R>,
-    ring: &Ring,
     index: u32,
     replies: &mut Replies,
     choices: &mut Vec<Choice>,
 )
     requires failed { (point : ℕ) × (items : Log) × (failure : Failure) × FailedAt point failure cpu.old items replies.old }
-    requires within { index < length ring.now.standing }
-    requires same { ring.now.standing ≡ checkpoints_of taken_in cpu.old.slots.saved }
+    requires within { index < length cpu.old.slots.saved }
     ensures begins { (point : ℕ) (items : Log) (failure : Failure) (checkpoint : Path) (env : Env) → FailedAt point failure cpu.old items replies.old → slice_get failure.ring index ≡ Some checkpoint
         → IsTrying failure point checkpoint env cpu.new choices.new.items items replies.new }
     ensures saved { KeepsSaved cpu.old cpu.new }
     ensures ledger { KeepsLedger replies.old replies.new }
     ensures stands { StandsOn cpu.new index }
-    ensures live { IsSomeAnd (from_newest cpu.old.slots.saved index) (λ one. cpu.new.slots.live ≡ one.state) }
+    ensures live { IsSomeAnd (slice_get cpu.old.slots.saved index) (λ one. cpu.new.slots.live ≡ one.state) }
 {
     replies.discard();
-    ring.restore(cpu, index);
+    cpu.restore(index);
     cpu.sound();
     replies.begin_trial(cpu.marks().sends);
     choices.clear();
@@ -95,22 +92,15 @@ impl<R: AccessRule> Recoverable<R> {
         steps: &mut Steps<L>,
     ) -> Result<Tried, AllocError>
         requires failed { CanBeTried limits.budget (R.rule self.old.cpu.rule) limits.point self.old }
-        requires within { chance.index < length self.old.ring.standing }
-        requires same { HasSameRing self.old }
+        requires within { chance.index < length self.old.cpu.slots.saved }
         ensures tries { (failure : Failure) (checkpoint : Path) → IsUnder failure limits.budget (R.rule self.old.cpu.rule) → HasFailedAt limits.point failure self.old → slice_get failure.ring chance.index ≡ Some checkpoint
             → TriesBy failure limits.point checkpoint chance.env self.new.cpu own.new.items self.new.replies result }
         ensures kept { KeepsUntried self.old self.new }
         ensures ledger { KeepsLedger self.old.replies self.new.replies }
         ensures stands { IfOk result (λ _. StandsOn self.new.cpu chance.index) }
-        ensures counts { CountsTrial (from_newest self.old.cpu.slots.saved chance.index) self.new.cpu steps.old steps.new }
+        ensures counts { CountsTrial (slice_get self.old.cpu.slots.saved chance.index) self.new.cpu steps.old steps.new }
     {
-        begin(
-            &mut self.cpu,
-            &self.ring,
-            chance.index,
-            &mut self.replies,
-            own,
-        );
+        begin(&mut self.cpu, chance.index, &mut self.replies, own);
         match self.go_on(chance.env, limits, own, steps) {
             Ok(tried) => {
                 settle(tried, &mut self.replies);

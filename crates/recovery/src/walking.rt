@@ -5,11 +5,12 @@ ghost use Rattle.trials.specs.Tables.{environments};
 ghost use Rattle.recovery.specs.Sessions.{Failure, IsUnder};
 ghost use Rattle.recovery.specs.Trying.{adopted_of};
 ghost use Rattle.recovery.specs.Walking.{OneBy, AllBy, RingBy, LedgerBy, StaysBy, IsOfOneRun, IsEpisode, WalksBy};
-ghost use Rattle.recovery.specs.Recoverables.{CanBeTried, HasFailedAt, HasSameRing, KeepsUntried};
+ghost use Rattle.recovery.specs.Recoverables.{CanBeTried, HasFailedAt, KeepsUntried};
 
 use crate::{Chance, Recoverable, TrialLimits};
 use alloc_env::Env;
 use block_book::Choice;
+use ckpt_ring::Snapshot;
 use guest_space::AccessRule;
 use run_history::Cause;
 use rx_io::Steps;
@@ -31,7 +32,7 @@ pub struct FailureSite {
 /// What is adopted of a trial that survived.
 #[derive(Clone, Copy, Debug)]
 pub struct Adopted {
-    /// The index of its checkpoint in the ring, where 0 is the newest one.
+    /// The index of its checkpoint, where 0 is the newest one.
     pub index: u32,
     /// The environment of the trial.
     pub env: Env,
@@ -90,8 +91,7 @@ impl<R: AccessRule> Recoverable<R> {
         tries: &mut Vec<Try>,
     ) -> Result<Option<Adopted>, AllocError>
         requires failed { CanBeTried limits.budget (R.rule self.old.cpu.rule) limits.point self.old }
-        requires within { chance.index < length self.old.ring.standing }
-        requires same { HasSameRing self.old }
+        requires within { chance.index < length self.old.cpu.slots.saved }
         ensures tries { (failure : Failure) (checkpoint : Path) → IsUnder failure limits.budget (R.rule self.old.cpu.rule) → HasFailedAt limits.point failure self.old → slice_get failure.ring chance.index ≡ Some checkpoint
             → OneBy failure limits.point (record { checkpoint = checkpoint; env = chance.env }) self.new.cpu own.new.items self.new.replies tries.old.items tries.new.items steps.old steps.new result }
         ensures kept { KeepsUntried self.old self.new }
@@ -100,7 +100,7 @@ impl<R: AccessRule> Recoverable<R> {
     {
         match self.attempt(chance, limits, own, steps) {
             Ok(tried) => {
-                let checkpoint = self.ring.taken_at(chance.index);
+                let checkpoint = self.cpu.taken_at(chance.index);
                 if let Err(e) = note(
                     tries,
                     Try {
@@ -133,8 +133,7 @@ impl<R: AccessRule> Recoverable<R> {
         tries: &mut Vec<Try>,
     ) -> Result<Option<Adopted>, AllocError>
         requires failed { CanBeTried limits.budget (R.rule self.old.cpu.rule) limits.point self.old }
-        requires within { index < length self.old.ring.standing }
-        requires same { HasSameRing self.old }
+        requires within { index < length self.old.cpu.slots.saved }
         ensures tries { (failure : Failure) (checkpoint : Path) → IsUnder failure limits.budget (R.rule self.old.cpu.rule) → HasFailedAt limits.point failure self.old → slice_get failure.ring index ≡ Some checkpoint
             → AllBy failure limits.point checkpoint self.new.cpu own.new.items self.new.replies tries.old.items tries.new.items steps.old steps.new result }
         ensures kept { KeepsUntried self.old self.new }
@@ -161,7 +160,6 @@ impl<R: AccessRule> Recoverable<R> {
         tries: &mut Vec<Try>,
     ) -> Result<Option<Adopted>, AllocError>
         requires failed { CanBeTried limits.budget (R.rule self.old.cpu.rule) limits.point self.old }
-        requires same { HasSameRing self.old }
         requires none { tries.old.items ≡ [] }
         ensures walks { (failure : Failure) → IsUnder failure limits.budget (R.rule self.old.cpu.rule) → HasFailedAt limits.point failure self.old
             → RingBy failure limits.point self.new.cpu own.new.items self.old.replies self.new.replies steps.old steps.new tries.new.items result }
@@ -169,7 +167,7 @@ impl<R: AccessRule> Recoverable<R> {
         ensures ledger { StaysBy self.old.replies self.new.replies result }
         ensures least { steps.old ≤ steps.new }
     {
-        let count = self.ring.len();
+        let count = self.cpu.checkpoints();
         'checkpoints: for index in 0..count {
             match self.try_all(index, limits, own, steps, tries) {
                 Ok(None) => {}
@@ -181,7 +179,7 @@ impl<R: AccessRule> Recoverable<R> {
         Ok(None)
     }
 
-    /// Tries to come past a failure: goes on from each checkpoint of the ring, the newest first, in each of five environments, up to the
+    /// Tries to come past a failure: goes on from each checkpoint, the newest first, in each of five environments, up to the
     /// first trial that survives, and adopts that one. Where and why the program failed stands in the episode, with all trials in their order.
     ///
     /// Where a trial was adopted, the guest stands where that trial has come, on its checkpoint; the allocator's answers
@@ -202,7 +200,6 @@ impl<R: AccessRule> Recoverable<R> {
         steps: &mut Steps<L>,
     ) -> Result<Walked, AllocError>
         requires failed { CanBeTried budget (R.rule self.old.cpu.rule) site.point self.old }
-        requires same { HasSameRing self.old }
         ensures walks { (failure : Failure) → IsUnder failure budget (R.rule self.old.cpu.rule) → HasFailedAt site.point failure self.old
             → WalksBy failure site.point self.new.cpu own.new.items self.old.replies self.new.replies steps.old steps.new result }
         ensures episode { IfOk result (λ walked. IsEpisode site walked.episode) }

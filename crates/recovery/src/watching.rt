@@ -2,7 +2,7 @@
 ghost use Rattle.std.specs.Prelude.{◌≡◌, ◌+◌, ◌≤◌, ℕ, List, Option, None};
 ghost use Rattle.session_notes.specs.declared.episode.Try.{Try};
 ghost use Rattle.recovery.specs.Sessions.{Failure, IsUnder};
-ghost use Rattle.recovery.specs.Recoverables.{CanBeTried, HasFailedAt, HasSameRing, KeepsUntried};
+ghost use Rattle.recovery.specs.Recoverables.{CanBeTried, HasFailedAt, KeepsUntried};
 ghost use Rattle.recovery.specs.Walking.{LeavesNoTrial};
 ghost use Rattle.recovery.specs.Watching.{LooksBy};
 
@@ -35,7 +35,6 @@ pub trait Watch {
         steps: &mut Steps<L>,
     ) -> Result<(), AllocError>
         requires failed { CanBeTried budget (R.rule held.old.cpu.rule) point held.old }
-        requires same { HasSameRing held.old }
         ensures kept { KeepsUntried held.old held.new }
         ensures ledger { LeavesNoTrial held.old.replies held.new.replies result }
         ensures counted { steps.new + ran self.old ≡ steps.old + ran self.new }

@@ -1,13 +1,10 @@
 -- A session that follows, where its guest fails or has ended itself: it is judged there by its counts, and is released, or isn't.
 use Rattle.std.proofs.Common.{Bool, true}
 use Rattle.guest_cpu.specs.declared.event.Event.TheVariants as step
-use Rattle.session_history.specs.declared.ends.SessionBreak.TheVariants as session_break
-use Rattle.session_history.specs.declared.ends.Stop.TheVariants as stop
-use Rattle.session_following.specs.declared.judging.StandKind.{StandKind}
 use Rattle.session_following.specs.declared.judging.StandKind.TheVariants as kind
 use Rattle.session_following.specs.declared.unfollowed.Unfollowed.TheVariants as unfollowed
 use Rattle.session_following.proofs.PlanLemmas.{up_to_same}
-use Rattle.rx_engine.proofs.Terms.{List, None, [], ap, append-nil, arith, inl, length, refl, subst, sym, ℕ, ◌+◌, ◌∙◌, ◌≡◌, ◌≤◌, IsSome, LinkEvent, Tells, Told, Seen, Heap, Env, Image, Fails, FailsBy, Limits, Path, env_at, guest_of, serves, CpuState, Standing, items_in, Rules, Noted, heard_alone, AtExit, AtFailure, Handed, HasReached, Stand, AreWellPlaced, plan_of, IsCounted, rules_by, SessionState, Unfollowed, exit_on, exit_stands, judged_exit, unfollowed_exit, ends_at_exit, ends_at_failure, judged_at, short_there, unlike_there, IsMovedFrom, unfollowed_of, IsInPlace, IsShort, IsUnlike, IsJudgedAt, before_moved, before_released, IsUnfollowed, IsUnfollowedBy, FailsOn, HasReachedOn, HasRunOn, IsReleasedAtExit}
+use Rattle.rx_engine.proofs.Terms.{List, None, [], ap, append-nil, arith, inl, length, refl, subst, sym, ℕ, ◌+◌, ◌∙◌, ◌≡◌, ◌≤◌, IsSome, LinkEvent, Tells, Told, Seen, Heap, Env, Image, Fails, FailsBy, Limits, Path, guest_of, serves, Standing, items_in, Rules, Noted, heard_alone, AtExit, AtFailure, Handed, HasReached, AreWellPlaced, plan_of, IsCounted, rules_by, SessionState, Unfollowed, exit_on, exit_stands, judged_exit, unfollowed_exit, ends_at_exit, ends_at_failure, judged_at, short_there, unlike_there, IsMovedFrom, unfollowed_of, IsInPlace, IsShort, IsUnlike, IsJudgedAt, before_moved, before_released, IsUnfollowed, IsUnfollowedBy, FailsOn, HasReachedOn, HasRunOn, IsReleasedAtExit}
 
 -- at its failure
 module _ {R : Type 0} {rules here : Rules} {image : Image} {handed : Handed} {told : Told} {seen : Seen} {before noted : Noted} {missing : List ℕ} {session : SessionState R} (w : FailsOn rules here image handed told seen before noted missing session) where

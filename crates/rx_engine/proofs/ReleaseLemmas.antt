@@ -1,6 +1,6 @@
 -- A session that was released has served on.
 use Rattle.session_history.specs.declared.ends.Stop.TheVariants as stop
-use Rattle.rx_engine.proofs.Terms.{Err, List, Ok, Option, ap, arith, refl, subst, sym, ℕ, ◌+◌, ◌∙◌, ◌≡◌, ◌≤◌, Bool, true, rose_later, Coming, Told, Seen, Heap, Ledger, Image, Answer, SessionBreak, Stop, AtBreak, AtEnd, StaysKnown, Rules, Try, Noted, Shown, rules_behind, Handed, Keeping, known_same, known_then, once_at, unnoted_passing, answers_broken, notes_broken, passing_serves, unnoted_serves, same_rules, LeavesBy, keeping_of, HasWatched, BreaksAt, BreaksPassing, HasSameFrame, LinkAnswers, LinkPasses, NotesAnswer, outcome_of, rules_by, SessionState, TookOver, IsReleased}
+use Rattle.rx_engine.proofs.Terms.{Err, List, Option, arith, refl, subst, ℕ, ◌+◌, ◌∙◌, ◌≡◌, ◌≤◌, Bool, true, rose_later, Coming, Told, Seen, Heap, Ledger, Image, Stop, AtBreak, AtEnd, StaysKnown, Rules, Try, Noted, Shown, rules_behind, Handed, Keeping, known_same, known_then, once_at, unnoted_passing, answers_broken, notes_broken, passing_serves, unnoted_serves, same_rules, LeavesBy, keeping_of, HasWatched, BreaksAt, BreaksPassing, HasSameFrame, LinkAnswers, LinkPasses, NotesAnswer, outcome_of, rules_by, SessionState, TookOver, IsReleased}
 
 -- the link failed as pieces were passed, or memory ran out
 pub passing_answers : {before new : Seen} {ledger : Ledger} (why : Stop) → before.takes ≡ true → LinkPasses before new ledger (Err why) → LinkAnswers before new why

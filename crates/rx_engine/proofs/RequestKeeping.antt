@@ -3,7 +3,7 @@ use Rattle.session_history.specs.declared.ends.SessionEnd.TheVariants as session
 use Rattle.session_history.specs.declared.ends.Stop.TheVariants as stop
 use Rattle.session_following.specs.declared.turned.Turned.TheVariants as turned
 use Rattle.session_following.specs.declared.unfollowed.Unfollowed.TheVariants as unfollowed
-use Rattle.rx_engine.proofs.Terms.{Err, List, Ok, ap, arith, refl, subst, sym, ℕ, ◌+◌, ◌∙◌, ◌≡◌, slice_get, Told, Seen, Ledger, Image, Standing, Stop, Rules, Noted, Shown, Handed, known_same, asking_notes, noting_serves, serves_well, unnoted_serves, gives_same, trimmed_still, KeepsOldest, keeping_of, IsCounted, IsUnnoted, LinkServes, MayServe, NotesServe, SessionState, Unfollowed, UnnotedBy, stop_as, AsksOn, KeepsTurning, KeepsHandling, KeepsHeard}
+use Rattle.rx_engine.proofs.Terms.{Err, List, Ok, ap, arith, refl, subst, sym, ℕ, ◌+◌, ◌∙◌, ◌≡◌, Told, Seen, oldest_of, Ledger, Image, Standing, Stop, Rules, Noted, Shown, Handed, known_same, asking_notes, noting_serves, serves_well, unnoted_serves, gives_same, trimmed_still, IsTrimmed, KeepsOldest, keeping_of, IsCounted, IsUnnoted, LinkServes, MayServe, NotesServe, SessionState, Unfollowed, UnnotedBy, stop_as, AsksOn, KeepsTurning, KeepsHandling, KeepsHeard}
 use Rattle.rx_engine.proofs.RequestLemmas.{asks_counted}
 use Rattle.rx_engine.proofs.UnnotedLemmas.{none_failed}
 
@@ -20,7 +20,7 @@ finished_serves may = record {
 module _ {R : Type 0} where
   pub heard_oldest : {old new : SessionState R} → KeepsHeard old new → KeepsOldest old new
   heard_oldest k = record {
-    oldest = ap (λ (s : SessionState R). slice_get s.cpu.slots.saved 0) k.same;
+    oldest = ap (λ (s : SessionState R). oldest_of s.cpu.slots.saved) k.same;
     first = k.first;
     recorded = ap (λ (s : SessionState R). s.recorded) k.same;
     sends = k.sends;
@@ -109,17 +109,8 @@ module _ {R : Type 0} where
     options = ap (λ (s : SessionState R). s.options) same;
     rule = ap (λ (s : SessionState R). s.cpu.rule) same;
     keeping = ap (λ (s : SessionState R). keeping_of s) same;
-    trimmed = λ trimmed. trimmed_still (record {
-      oldest = ap (λ (s : SessionState R). slice_get s.cpu.slots.saved 0) same;
-      first = ap (λ (s : SessionState R). s.log.first) same;
-      recorded = ap (λ (s : SessionState R). s.recorded) same;
-      sends = ap (λ (s : SessionState R). s.replies.first) same;
-      keeping = ap (λ (s : SessionState R). keeping_of s) same;
-    }) trimmed;
-    marked = record {
-      taken = ap (λ (s : SessionState R). s.taken) same ∙ (counted.taken ∙ sym (ap (λ (s : SessionState R). s.cpu.slots.live.guest.machine.taken) same));
-      steps = ap (λ (s : SessionState R). s.steps) same ∙ (counted.steps ∙ sym (ap (λ (s : SessionState R). s.cpu.slots.live.steps) same));
-    };
+    trimmed = λ trimmed. subst (λ (s : SessionState R). IsTrimmed s) (sym same) (record { items = trimmed.items; recorded = trimmed.recorded; sends = trimmed.sends });
+    marked = subst (λ (s : SessionState R). IsCounted s) (sym same) (record { taken = counted.taken; steps = counted.steps });
     later = tt;
   }
 

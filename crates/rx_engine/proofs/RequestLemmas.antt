@@ -1,7 +1,6 @@
 -- A session that follows, at its guest's request: it is judged there by its counts, and is released, or isn't; or it waits for the item.
 use Rattle.std.proofs.Common.{Bool, true}
 use Rattle.rx_io.specs.declared.bytes.Item.{Item}
-use Rattle.item_log.specs.Log as logs
 use Rattle.links.specs.declared.journal.LinkEvent.TheVariants.{Ends as EndOfLink}
 use Rattle.session_notes.specs.declared.episode.Episode.{Episode}
 use Rattle.session_history.specs.declared.ends.SessionBreak.TheVariants as session_break
@@ -15,7 +14,7 @@ use Rattle.session_following.specs.declared.unfollowed.Unfollowed.TheVariants as
 use Rattle.session_following.proofs.Following.{items_following, kept_following, whole_following}
 use Rattle.session_following.proofs.Holding.{following_holding}
 use Rattle.session_following.proofs.Steps.{marked_story}
-use Rattle.rx_engine.proofs.Terms.{List, [], ap, append-nil, arith, drop, inl, inr, length, map, refl, subst, sym, take, ℕ, ◌++◌, ◌+◌, ◌<◌, ◌∙◌, ◌∷◌, ◌≡◌, ◌≤◌, false≢true, Result, false, LinkEvent, Coming, Grew, Tells, Told, Seen, Heap, Image, AsksFor, Override, Path, Standing, Stop, items_in, Rules, Noted, Shown, AsksForMore, heard_alone, AtRequest, Handed, HasReached, IsStuck, AreWellPlaced, plan_of, received_is, BreaksNoting, rules_by, SessionState, IsWaitingFor, Story, Unfollowed, is_marked, ends_behind, enough, judged_at, short_here, short_there, unlike_here, unlike_there, HasSameBase, here_then, unfollowed_of, IsInPlace, IsShort, IsUnlike, rules_following, plan_up_to, IsJudgedAt, IsUnfollowed, IsUnfollowedBy, AsksOn, Follows, HasReachedOn, WaitsOn, held_back, marked, nothing_told, EndedOn, KeepsHandling, KeepsHeard, StoppedOn}
+use Rattle.rx_engine.proofs.Terms.{List, [], ap, append-nil, arith, drop, inl, inr, length, map, refl, subst, sym, take, ℕ, ◌++◌, ◌+◌, ◌∙◌, ◌∷◌, ◌≡◌, ◌≤◌, false≢true, Result, false, LinkEvent, Coming, Grew, Tells, Told, Seen, Heap, Image, AsksFor, Path, Standing, Stop, items_in, Rules, Noted, Shown, AsksForMore, heard_alone, AtRequest, Handed, HasReached, AreWellPlaced, plan_of, received_is, BreaksNoting, rules_by, SessionState, IsWaitingFor, Story, Unfollowed, is_marked, ends_behind, enough, judged_at, short_here, short_there, unlike_here, unlike_there, HasSameBase, here_then, unfollowed_of, IsInPlace, IsShort, IsUnlike, rules_following, plan_up_to, IsJudgedAt, IsUnfollowed, IsUnfollowedBy, AsksOn, Follows, HasReachedOn, WaitsOn, held_back, marked, nothing_told, EndedOn, KeepsHandling, KeepsHeard, StoppedOn}
 
 -- at its request
 module _ {R : Type 0} {rules here : Rules} {image : Image} {handed : Handed} {told : Told} {seen : Seen} {before noted : Noted} {missing : List ℕ} {session : SessionState R} (a : AsksOn rules here image handed told seen before noted missing session) where

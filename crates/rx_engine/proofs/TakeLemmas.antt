@@ -1,5 +1,6 @@
 -- How far a session has come that takes over: it follows still. And what it comes to: it wasn't released, or it was, and served on.
 use Rattle.run_history.specs.declared.answer.Answer.TheVariants as answer
+use Rattle.run_history.specs.declared.answer.Answer.{Answer}
 use Rattle.session_following.specs.declared.unfollowed.Unfollowed.TheVariants as unfollowed
 use Rattle.session_history.specs.Answering.{MayBegin}
 use Rattle.session_history.specs.declared.ends.SessionBreak.TheVariants as session_break
@@ -8,7 +9,7 @@ use Rattle.session_history.specs.declared.ends.SessionEnd.TheVariants as session
 use Rattle.session_history.specs.declared.ends.Stop.TheVariants as stop
 use Rattle.session_state.specs.Serving.{StaysKnown}
 use Rattle.std.specs.Prelude.{List}
-use Rattle.rx_engine.proofs.Terms.{Err, Ok, Option, ap, arith, inl, refl, subst, sym, ℕ, ◌+◌, ◌-◌, ◌<◌, ◌∙◌, ◌≡◌, ◌≤◌, Bool, false, true, rose_later, Told, Seen, Heap, Ledger, Image, Answer, Stop, answer_of, Rules, CanGive, Try, Noted, Shown, AsksForMore, rules_behind, Handed, AreWellPlaced, Keeping, known_same, known_then, answers_broken, answers_finished, exited_serves, memory_serves, notes_broken, notes_finished, serves_may, unnoted_serves, begun_keeping, starts_at, starts_giving, cause_then, still_takes, IsTrimmed, LeavesBy, keeping_of, AreInRange, keeping_for, HasWatched, Finishes, IsCounted, IsFinishing, LinkAnswers, LinkFinishes, LinkServes, MayServe, NotesAnswer, NotesServe, outcome_of, rules_by, IsBegun, SessionState, IsEnding, Since, told_since, Turned, Unfollowed, nothing_followed, NoPlan, HasNotTakenOver, HasTakenOver, IsUnfollowed, TookOver, UnnotedBy, stop_as, CanRelease, Follows, HasServedReleased, IsReleased, IsReleasedAtExit, KeepsTurning}
+use Rattle.rx_engine.proofs.Terms.{Err, Ok, Option, ap, arith, inl, refl, subst, sym, ℕ, ◌+◌, ◌-◌, ◌<◌, ◌∙◌, ◌≡◌, ◌≤◌, Bool, false, true, rose_later, Told, Seen, Heap, Ledger, Image, Stop, answer_of, Rules, CanGive, Try, Noted, Shown, AsksForMore, rules_behind, Handed, AreWellPlaced, Keeping, known_same, known_then, answers_broken, answers_finished, exited_serves, memory_serves, notes_broken, notes_finished, serves_may, unnoted_serves, begun_keeping, starts_at, starts_giving, cause_then, still_takes, IsTrimmed, LeavesBy, keeping_of, AreInRange, keeping_for, HasWatched, Finishes, IsCounted, IsFinishing, LinkAnswers, LinkFinishes, LinkServes, MayServe, NotesAnswer, NotesServe, outcome_of, rules_by, IsBegun, SessionState, IsEnding, Since, told_since, Turned, Unfollowed, nothing_followed, NoPlan, HasNotTakenOver, HasTakenOver, IsUnfollowed, TookOver, UnnotedBy, stop_as, CanRelease, Follows, HasServedReleased, IsReleased, IsReleasedAtExit, KeepsTurning}
 use Rattle.rx_engine.proofs.ReleaseLemmas.{answers_later}
 use Rattle.rx_engine.proofs.TurnFollowed.{follows_counted, follows_fits}
 

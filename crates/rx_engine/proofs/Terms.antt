@@ -1,4 +1,5 @@
 -- The words and lemmas that this crate's proofs are written in: those of crates below, and its own words.
+pub use Rattle.std.specs.declared.alloc.AllocError.{AllocError}
 pub use Rattle.std.proofs.Common.{Err, List, None, Ok, Option, Some, [], ap, append-nil, arith, drop, inl, inr, length, map, min, refl, rules, subst, sym, take, ℕ, ◌*◌, ◌++◌, ◌+◌, ◌-◌, ◌<◌, ◌^◌, ◌∙◌, ◌∷◌, ◌≡◌, ◌≤◌}
 pub use Rattle.std.proofs.lemmas.Bool.{false≢true}
 pub use Rattle.std.specs.Prelude.{Bool, IfOk, IfSome, IsSome, Result, false, if◌then◌else◌, slice_get, true, ◌==◌, ◌≢◌, ◌⊎◌}
@@ -10,17 +11,17 @@ pub use Rattle.links.specs.Seen.{Seen}
 pub use Rattle.block_book.specs.declared.choice.Choice.{Choice}
 pub use Rattle.block_book.specs.Heap.{Heap}
 pub use Rattle.alloc_env.specs.declared.env.Env.{Env}
+pub use Rattle.ckpt_ring.specs.Slots.{Slots, oldest_of}
 pub use Rattle.item_log.specs.Log.{IsItemOf, Log, received}
 pub use Rattle.reply_ledger.specs.Ledger.{IsOpened, Ledger, NotBefore, passed_connection, passed_to, with_passed, with_send}
 unfoldable pub use Rattle.reply_ledger.specs.Ledger.{is_open, stamped, stamped_to, stamps_of, times_of}
 pub use Rattle.elf_image.specs.declared.image.Image.{Image}
-pub use Rattle.run_history.specs.declared.answer.Answer.{Answer}
+pub use Rattle.run_history.specs.declared.answer.Cause.{Cause}
 pub use Rattle.run_history.specs.Machine.{Fails, Wants}
 pub use Rattle.run_history.specs.Served.{AsksFor, FailsBy, Limits, Override, Path, env_at, guest_of, origin}
 unfoldable pub use Rattle.run_history.specs.Served.{serves}
 pub use Rattle.guest_cpu.specs.Cpus.{CpuState, live_of, with_live}
 pub use Rattle.guest_cpu.specs.Standing.{Standing}
-pub use Rattle.session_history.specs.declared.ends.SessionBreak.{SessionBreak}
 pub use Rattle.session_history.specs.declared.ends.Stop.{Stop}
 pub use Rattle.session_history.specs.Ends.{AtBreak, AtEnd, StaysKnown, answer_of}
 pub use Rattle.session_history.specs.Giving.{IsClosing, IsReady}
@@ -31,11 +32,12 @@ pub use Rattle.link_gate.specs.Passing.{CanGive}
 pub use Rattle.session_notes.specs.declared.episode.Try.{Try}
 pub use Rattle.session_notes.specs.Noting.{Noted, Shown, Unnoted}
 pub use Rattle.follow.specs.Following.{AsksForMore, heard_alone, rules_behind}
-pub use Rattle.follow.specs.Handed.{AtExit, AtFailure, AtRequest, Handed, HasReached, IsStuck, Stand}
+pub use Rattle.follow.specs.Handed.{AtExit, AtFailure, AtRequest, Handed, HasReached}
 pub use Rattle.follow.specs.Plans.{AreWellPlaced, plan_of}
 pub use Rattle.recovery.specs.declared.recoverable.Recoverable.{Recoverable}
 pub use Rattle.recovery.specs.Handling.{Keeping, alone, handle, is_far, keeping_by, stands_of}
-pub use Rattle.recovery.specs.Rings.{CanSave, IsInForce, KeepsRing, SavesIf, is_due}
+pub use Rattle.recovery.specs.Rings.{CanSave, IsInForce, KeepsRing, SavesIf}
+pub use Rattle.recovery.specs.Sessions.{Held, taken_in}
 pub use Rattle.session_state.proofs.ending.EndLemmas.{end_of, ending_moved, served_off}
 pub use Rattle.session_state.proofs.ending.FaultLemmas.{note_answered}
 pub use Rattle.session_state.proofs.ending.KnownLemmas.{counted_same, known_same, known_then, once_at, pass_answer, unnoted_passing, unnoted_stopped}
@@ -51,7 +53,7 @@ pub use Rattle.session_state.proofs.guest.ServeLemmas.{run_breaks, run_chooses}
 pub use Rattle.session_state.proofs.passing.DueLemmas.{comes_between}
 pub use Rattle.session_state.proofs.passing.PassLemmas.{breaks_by, may_pass, passes_ok, rest_ok}
 pub use Rattle.session_state.proofs.passing.PassingLemmas.{closed_can, closing_can, due_behind, due_passed, due_ready, ending_can, ending_ready, finish_fault, finish_ok, finish_unnoted, gives_closed, none_due, none_passed, passed_then, received_given, rest_passed}
-pub use Rattle.session_state.proofs.recovering.AdoptLemmas.{adopt_breaks, adopt_least, adopt_none, adopt_some, adopted_later, adopting_at, adopting_in, counts_seen, failing_moved, failure_of, goes_as, to_recover, walked}
+pub use Rattle.session_state.proofs.recovering.AdoptLemmas.{KeepsBeside, adopt_breaks, adopt_least, adopt_none, adopt_some, adopted_later, adopting_in, counts_seen, failure_of, to_recover, walked}
 pub use Rattle.session_state.proofs.recovering.RecoverLemmas.{comes_lost, ends_adopted, failing_told, gives_same, goes_adopted, lost_behind, missed_episode, noted_episode, one_more}
 pub use Rattle.session_state.proofs.recovering.TableLemmas.{counted_alone, watched_kept}
 pub use Rattle.session_state.proofs.standing.FrameLemmas.{forgot_frame, guest_frame, noted_frame, passed_adopted, passed_counted, passed_frame, same_rules, saved_frame}
@@ -61,9 +63,9 @@ pub use Rattle.session_state.proofs.standing.StoryLemmas.{still_takes}
 pub use Rattle.session_state.specs.Leaving.{CanForgetSends, HandledAt, HasLeft, IsHandled, IsRecorded, IsTrimmed, KeepsOldest, LeavesBy, keeping_of}
 pub use Rattle.session_state.specs.Options.{AreInRange, keeping_for, rules_in}
 pub use Rattle.session_state.specs.Recovered.{FailsAtChoices, HasWatched, IsNoteFault}
-pub use Rattle.session_state.specs.Serving.{BreaksAt, BreaksNoting, BreaksPassing, CountsEvent, Finishes, HasSameFrame, HasSameOpen, IsCounted, IsFinishing, IsStopAt, IsToldBy, IsUnnoted, LinkAnswers, LinkFinishes, LinkPasses, LinkServes, MayServe, NotesAnswer, NotesServe, StandsClosing, StandsEnding, StandsPassing, StopsBy, TakesBy, TrimsAt, TrimsBy, UnlessBroken, outcome_of, rules_by}
-pub use Rattle.session_state.specs.Sessions.{IsBegun, SessionState, env_of}
-pub use Rattle.session_state.specs.Standing.{HasPassed, IsBetween, IsBrokenOff, IsEnding, IsGoing, IsWaitingFor, Since, Story, entries, moment, sends, then_story, told_since}
+pub use Rattle.session_state.specs.Serving.{AdoptsBy, BreaksAt, BreaksNoting, BreaksPassing, CountsEvent, Finishes, HasSameFrame, HasSameOpen, IsCounted, IsFinishing, IsStopAt, IsToldBy, IsUnnoted, LinkAnswers, LinkFinishes, LinkPasses, LinkServes, MayServe, NotesAnswer, NotesServe, StandsClosing, StandsEnding, StandsPassing, StopsBy, TakesBy, TrimsAt, TrimsBy, UnlessBroken, outcome_of, rules_by}
+pub use Rattle.session_state.specs.Sessions.{IsBegun, SessionState, env_of, held_in}
+pub use Rattle.session_state.specs.Standing.{HasPassed, IsBetween, IsEnding, IsFailing, IsGoing, IsWaitingFor, Since, Story, entries, moment, sends, then_story, told_since}
 pub use Rattle.session_following.specs.declared.turned.Turned.{Turned}
 pub use Rattle.session_following.specs.declared.unfollowed.Unfollowed.{Unfollowed}
 pub use Rattle.session_following.proofs.Meets.{is_marked, later_following, opened_following, stamped_following}

@@ -2,17 +2,15 @@
 use Rattle.guest_cpu.specs.declared.event.Event.{Event}
 use Rattle.guest_cpu.specs.declared.event.Event.TheVariants as step
 use Rattle.guest_cpu.specs.Writing.{RunsWriting}
-use Rattle.run_history.specs.declared.answer.Cause.{Cause}
 use Rattle.session_history.specs.declared.ends.SessionBreak.TheVariants as session_break
 use Rattle.session_history.specs.declared.ends.Stop.TheVariants as stop
-use Rattle.std.specs.declared.alloc.AllocError.{AllocError}
 use Rattle.std.specs.Prelude.{Err, List, None, Ok, Option, [], ◌*◌, ◌^◌}
 use Rattle.session_following.specs.declared.turned.Turned.TheVariants as turned
 use Rattle.session_following.specs.declared.unfollowed.Unfollowed.TheVariants as unfollowed
 use Rattle.session_following.specs.Missing.{IsMissing}
 use Rattle.session_following.specs.Standing.{HasJustBegun}
 use Rattle.std.proofs.lemmas.Nat.{mul-le}
-use Rattle.rx_engine.proofs.Terms.{ap, append-nil, arith, inl, refl, subst, sym, ℕ, ◌+◌, ◌<◌, ◌∙◌, ◌≡◌, ◌≤◌, Bool, IfOk, Result, false, slice_get, true, ◌≢◌, Send, Phases, Told, Seen, Choice, Heap, Env, Ledger, is_open, Image, AsksFor, FailsBy, Path, CpuState, live_of, with_live, Standing, Stop, Before, items_in, Rules, Noted, Shown, Unnoted, AsksForMore, Handed, plan_of, known_same, chosen_serves, memory_serves, unnoted_serves, Ran, ran_oldest, gives_same, trimmed_still, still_takes, KeepsOldest, keeping_of, rules_in, HasSameOpen, IsCounted, IsUnnoted, LinkServes, MayServe, NotesServe, rules_by, SessionState, env_of, Since, Turned, Unfollowed, moved_turn, ran_to, rules_following, plan_up_to, Agree, before_moved, IsUnfollowed, UnnotedBy, AsksOn, FailsOn, Follows, HasRunOn, IfFollows, KeepsTurning, TurnsTo, held_back, turn_as}
+use Rattle.rx_engine.proofs.Terms.{AllocError, ap, append-nil, arith, inl, refl, subst, sym, ℕ, ◌+◌, ◌<◌, ◌∙◌, ◌≡◌, ◌≤◌, Bool, IfOk, Result, false, true, ◌≢◌, Send, Phases, Told, Seen, Choice, Heap, Env, Ledger, is_open, Image, Cause, AsksFor, FailsBy, Path, CpuState, live_of, with_live, Standing, Stop, Before, items_in, Rules, Noted, Shown, Unnoted, AsksForMore, Handed, plan_of, known_same, chosen_serves, memory_serves, unnoted_serves, Ran, ran_oldest, gives_same, trimmed_still, still_takes, KeepsOldest, rules_in, HasSameOpen, IsCounted, IsUnnoted, LinkServes, MayServe, NotesServe, rules_by, SessionState, env_of, Since, Turned, Unfollowed, moved_turn, ran_to, rules_following, plan_up_to, Agree, before_moved, IsUnfollowed, UnnotedBy, AsksOn, FailsOn, Follows, HasRunOn, IfFollows, KeepsTurning, TurnsTo, held_back, turn_as}
 
 -- where its guest ran to
 module _ {R : Type 0} (permits : R → Heap → ℕ → ℕ → Bool) {rules : Rules} {image : Image} {handed : Handed} {told : Told} {seen : Seen} {before noted : Noted} {missing : List ℕ} {env : Env} {old inside : SessionState R} {cpu : CpuState R}
@@ -234,13 +232,7 @@ module _ {R : Type 0} {old mid : SessionState R} where
   pub moved_oldest : {inside : SessionState R} {cpu : CpuState R} {taken steps : ℕ} {came : Before} → inside ≡ old → cpu ≡ with_live (live_of cpu) inside.cpu → mid ≡ record inside { cpu = cpu; taken = taken; steps = steps; before = came } → KeepsOldest old mid
   moved_oldest {inside = inside} {cpu = cpu} same kept is =
       let first = ran_oldest {old = old} {inside = inside} {after = record inside { cpu = cpu }} {cpu = cpu} same kept refl in
-      record {
-        oldest = ap (λ (t : SessionState R). slice_get t.cpu.slots.saved 0) is ∙ first.oldest;
-        first = ap (λ (t : SessionState R). t.log.first) is ∙ first.first;
-        recorded = ap (λ (t : SessionState R). t.recorded) is ∙ first.recorded;
-        sends = ap (λ (t : SessionState R). t.replies.first) is ∙ first.sends;
-        keeping = ap (λ (t : SessionState R). keeping_of t) is ∙ first.keeping;
-      }
+      subst (λ (s : SessionState R). KeepsOldest old s) (sym is) (record { oldest = first.oldest; first = first.first; recorded = first.recorded; sends = first.sends; keeping = first.keeping })
 
 -- Its guest has done few instructions: so many come between two items, and so many items.
 pub follows_fits : {R : Type 0} {rules here : Rules} {image : Image} {handed : Handed} {told : Told} {seen : Seen} {before noted : Noted} {missing : List ℕ} {session : SessionState R} → here.limits.budget ≤ 2 ^ 24 → here.bounds.max_items ≤ 2 ^ 20 → Follows rules here image handed told seen before noted missing session

@@ -1,7 +1,8 @@
 -- What calls of notes have failed where a session that follows stops.
 use Rattle.session_history.specs.declared.ends.SessionBreak.TheVariants as session_break
 use Rattle.session_history.specs.declared.ends.Stop.TheVariants as stop
-use Rattle.rx_engine.proofs.Terms.{Err, List, Ok, Option, inl, inr, ◌≡◌, Result, Choice, SessionBreak, Stop, Unnoted, FailsAtChoices, IsNoteFault, IsUnnoted, UnnotedBy}
+use Rattle.session_history.specs.declared.ends.SessionBreak.{SessionBreak}
+use Rattle.rx_engine.proofs.Terms.{Err, List, Ok, Option, inl, inr, ◌≡◌, Result, Choice, Stop, Unnoted, FailsAtChoices, IsNoteFault, IsUnnoted, UnnotedBy}
 
 -- one that was handed answers of the allocator
 pub failed_unnoted : {old new : Option Unnoted} {choices : List Choice} (why : SessionBreak) → IsNoteFault why → FailsAtChoices old new choices → UnnotedBy old new choices (Err (stop.Breaks why))

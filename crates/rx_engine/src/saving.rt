@@ -1,12 +1,13 @@
 // The checkpoints of a session.
 ghost use Rattle.std.specs.Prelude.{◌≡◌, ◌<◌, ◌+◌, ◌^◌, [], ◌∷◌, length, true, IfSome, OnErr, slice_get};
 ghost use Rattle.links.specs.Seen.{Seen};
+ghost use Rattle.ckpt_ring.specs.Slots.{oldest_of};
 ghost use Rattle.reply_ledger.specs.Trimming.{trimmed};
 ghost use Rattle.elf_image.specs.declared.image.Image.{Image};
 ghost use Rattle.run_history.specs.Served.{origin};
 ghost use Rattle.session_history.specs.Lawful.{Rules};
-ghost use Rattle.recovery.specs.Rings.{KeepsRing, SavesIf, is_due};
-ghost use Rattle.recovery.specs.Handling.{alone, stands_of};
+ghost use Rattle.recovery.specs.Rings.{KeepsRing, SavesIf};
+ghost use Rattle.recovery.specs.Handling.{alone, is_far, stands_of};
 ghost use Rattle.session_state.specs.Sessions.{IsBegun};
 ghost use Rattle.session_state.specs.Standing.{Since, IsWaitingFor};
 ghost use Rattle.session_state.specs.Leaving.{IsHandled, CanForgetSends};
@@ -25,7 +26,7 @@ impl<R: AccessRule> Session<R> {
     pub(crate) fn save_start(&mut self)
         requires { IsReadyToServe self.old }
         ensures rings { (rules : Rules) (image : Image) → IsBegun image self.old.options self.old.cpu.rule self.old
-            → KeepsRing rules image [] [] (origin image) (origin image ∷ []) self.new.cpu self.new.ring self.old.log self.old.replies }
+            → KeepsRing rules image [] [] (origin image) (origin image ∷ []) self.new.cpu self.old.log self.old.replies }
         ensures first { stands_of self.new.cpu.slots.saved ≡ alone 0 self.new.cpu.slots.pages }
         ensures keeps { KeepsSaving self.old self.new }
     {
@@ -37,7 +38,7 @@ impl<R: AccessRule> Session<R> {
         requires { StandsSomewhere (rules_by R.rule self.old) self.old }
         ensures waits { (image : Image) (began : Since) (seen : Seen) → IsWaitingFor (rules_by R.rule self.old) image began seen self.old → IsWaitingFor (rules_by R.rule self.old) image began seen self.new }
         ensures handled { IsHandled self.new }
-        ensures saved { SavesIf (is_due self.old.options.every self.old.taken self.old.ring.standing) self.old.ring.capacity self.old.cpu self.new.cpu }
+        ensures saved { SavesIf (is_far self.old.options.every self.old.taken (slice_get (stands_of self.old.cpu.slots.saved) 0)) self.old.cpu self.new.cpu }
         ensures keeps { KeepsSaving self.old self.new }
     {
         self.held.save(self.options.every);
@@ -79,7 +80,7 @@ impl<R: AccessRule> Session<R> {
     pub(crate) fn forget_sends(&mut self)
         requires can { CanForgetSends self.old }
         ensures same { self.new ≡ record self.old { replies = self.new.replies } }
-        ensures trimmed { IfSome (slice_get self.old.cpu.slots.saved 0) (λ oldest. self.new.replies ≡ trimmed self.old.replies oldest.state.sends) }
+        ensures trimmed { IfSome (oldest_of self.old.cpu.slots.saved) (λ oldest. self.new.replies ≡ trimmed self.old.replies oldest.state.sends) }
     {
         let oldest = self.held.cpu.oldest_marks();
         self.held.replies.trim(oldest.sends);

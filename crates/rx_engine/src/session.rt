@@ -33,7 +33,7 @@ impl<R: AccessRule> Model for Session<R> {
 
     ghost Value = { SessionState R };
 
-    ghost view = { λ s. record { options = s.options; cpu = s.held.cpu; ring = s.held.ring; log = s.held.log; replies = s.held.replies; events = s.events; recorded = s.held.recorded; choices = s.held.choices.items; taken = s.taken; steps = s.steps; env = s.env; until = s.until; before = s.past.before; hold = s.hold } };
+    ghost view = { λ s. record { options = s.options; cpu = s.held.cpu; log = s.held.log; replies = s.held.replies; events = s.events; recorded = s.held.recorded; choices = s.held.choices.items; taken = s.taken; steps = s.steps; env = s.env; until = s.until; before = s.past.before; hold = s.hold } };
 
     ghost invariant = { λ s. AreInRange s.options };
 }

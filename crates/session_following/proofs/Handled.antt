@@ -2,7 +2,7 @@
 use Rattle.guest_cpu.proofs.WritingLemmas.{writes_more}
 use Rattle.elf_image.specs.Image.{base}
 use Rattle.recovery.specs.Handling.{Stand}
-use Rattle.session_following.proofs.Terms.{List, None, Option, Some, [], ap, append-nil, arith, false, inl, inr, length, length-append, refl, subst, sym, ℕ, ◌++◌, ◌+◌, ◌∙◌, ◌∷◌, ◌≡◌, IfSome, replicate, Item, Send, Entry, LinkEvent, from_newest, Image, Override, Path, Served, origin, Writes, served_on, served_same, served_with, events_of, items_in, Rules, Survivor, first_survivor, starting_path, taken_later, AreRinged, AreWritten, HasFollowedRequests, HasHandled, HasWritten, Keeping, first_stands, handle, handled, starting_stands, HandlesRequests, came_before, rules_after}
+use Rattle.session_following.proofs.Terms.{List, None, Option, Some, [], ap, append-nil, arith, false, inl, inr, length, length-append, refl, subst, sym, ℕ, ◌++◌, ◌+◌, ◌∙◌, ◌∷◌, ◌≡◌, IfSome, replicate, slice_get, Item, Send, Entry, LinkEvent, Image, Override, Path, Served, origin, Writes, served_on, served_same, served_with, events_of, items_in, Rules, Survivor, first_survivor, starting_path, taken_later, AreRinged, AreWritten, HasFollowedRequests, HasHandled, HasWritten, Keeping, first_stands, handle, handled, starting_stands, HandlesRequests, came_before, rules_after}
 use Rattle.session_following.proofs.Based.{SaysAs, same_items}
 
 -- requests behind others
@@ -26,8 +26,8 @@ pub all_wrote : {rules others : Rules} {image : Image} {entries : List Entry} {s
     → AreWritten rules image entries survivor keeping from written stands → AreWritten others image [] other keeping from written stands
 all_wrote keeping from [] stands so are = tt
 all_wrote {rules = rules} {others = others} {image = image} {entries = entries} {survivor = survivor} {other = other} keeping from (written ∷ earlier) stands so are = (
-  if_some (from_newest (handled keeping from earlier stands) 0) (λ newest. HasWritten rules image entries survivor keeping.pages newest.taken (from + length earlier) written)
-      (λ newest. HasWritten others image [] other keeping.pages newest.taken (from + length earlier) written) (λ newest one. so.each keeping.pages newest.taken (from + length earlier) written one) are.0,
+  if_some (slice_get (handled keeping from earlier stands) 0) (λ newest. HasWritten rules image entries survivor keeping.pages newest.state (from + length earlier) written)
+      (λ newest. HasWritten others image [] other keeping.pages newest.state (from + length earlier) written) (λ newest one. so.each keeping.pages newest.state (from + length earlier) written one) are.0,
   all_wrote keeping from earlier stands so are.1,
 )
 
@@ -36,8 +36,8 @@ both_written : (rules : Rules) (image : Image) (survivor : Survivor) (keeping : 
 both_written rules image survivor keeping from [] earlier stands are more = are
 both_written rules image survivor keeping from (written ∷ later) earlier stands are more =
     let many : (from + length earlier) + length later ≡ from + length (later ++ earlier) = omega (arith, length-append later earlier) in (
-      subst (λ (list : List Stand). IfSome (from_newest list 0) (λ newest. HasWritten rules image [] survivor keeping.pages newest.taken (from + length (later ++ earlier)) written)) (sym (handled_append keeping from later earlier stands))
-          (subst (λ (n : ℕ). IfSome (from_newest (handled keeping (from + length earlier) later (handled keeping from earlier stands)) 0) (λ newest. HasWritten rules image [] survivor keeping.pages newest.taken n written)) many more.0),
+      subst (λ (list : List Stand). IfSome (slice_get list 0) (λ newest. HasWritten rules image [] survivor keeping.pages newest.state (from + length (later ++ earlier)) written)) (sym (handled_append keeping from later earlier stands))
+          (subst (λ (n : ℕ). IfSome (slice_get (handled keeping (from + length earlier) later (handled keeping from earlier stands)) 0) (λ newest. HasWritten rules image [] survivor keeping.pages newest.state n written)) many more.0),
       both_written rules image survivor keeping from later earlier stands are more.1,
     )
 
@@ -164,14 +164,14 @@ module _ (rules : Rules) (image : Image) (keeping : Keeping) (entries : List Ent
             written = written ∷ [];
             many = omega arith;
             pages = (
-              subst (λ (n : ℕ). IfSome (from_newest stood 0) (λ newest. HasWritten next image [] (record { plan = other; begun = now; now = now }) keeping.pages newest.taken n written)) number
-                  (subst (λ (list : List Stand). IfSome (from_newest list 0) (λ newest. HasWritten next image [] (record { plan = other; begun = now; now = now }) keeping.pages newest.taken (begun.state.machine.taken + length earlier) written)) f.stands_are
-                  (if_some (from_newest (handled keeping begun.state.machine.taken earlier h.begun) 0)
-                  (λ newest. HasWritten rules image entries (record { plan = plan; begun = begun; now = now }) keeping.pages newest.taken (begun.state.machine.taken + length earlier) written)
-                  (λ newest. HasWritten next image [] (record { plan = other; begun = now; now = now }) keeping.pages newest.taken (begun.state.machine.taken + length earlier) written)
+              subst (λ (n : ℕ). IfSome (slice_get stood 0) (λ newest. HasWritten next image [] (record { plan = other; begun = now; now = now }) keeping.pages newest.state n written)) number
+                  (subst (λ (list : List Stand). IfSome (slice_get list 0) (λ newest. HasWritten next image [] (record { plan = other; begun = now; now = now }) keeping.pages newest.state (begun.state.machine.taken + length earlier) written)) f.stands_are
+                  (if_some (slice_get (handled keeping begun.state.machine.taken earlier h.begun) 0)
+                  (λ newest. HasWritten rules image entries (record { plan = plan; begun = begun; now = now }) keeping.pages newest.state (begun.state.machine.taken + length earlier) written)
+                  (λ newest. HasWritten next image [] (record { plan = other; begun = now; now = now }) keeping.pages newest.state (begun.state.machine.taken + length earlier) written)
                   (λ newest one.
                   (wrote_as rules image entries entries [] (record { plan = plan; begun = begun; now = now }) events had plan other now same refl (sym (append-nil (items_in rules.bounds entries))) says (served_same rules.limits (items_in rules.bounds entries) plan now)).each
-                  keeping.pages newest.taken (begun.state.machine.taken + length earlier) written one) pages.0)),
+                  keeping.pages newest.state (begun.state.machine.taken + length earlier) written one) pages.0)),
               tt,
             );
             stands_are =

@@ -7,7 +7,7 @@ use Rattle.reply_ledger.proofs.ShowsLemmas.{bytes_of-stamped_of, shows-passed, s
 use Rattle.run_history.proofs.Outputs.{sent_to-append, sent_to-more}
 use Rattle.link_gate.proofs.KeepLemmas.{known-changed, next_of}
 use Rattle.std.proofs.lemmas.Grind.{flat_map-append}
-use Rattle.session_following.proofs.Terms.{Bool, List, None, [], ap, append-nil, append_assoc, arith, cond, drop, eqb, false, inl, inr, length, length-append, length-drop, min, refl, subst, sym, take, true, ℕ, ◌++◌, ◌+◌, ◌-◌, ◌∙◌, ◌∷◌, ◌≡◌, ◌≤◌, drop-append_seam, take-length, cases_lt, eq-eqb, eqb-false, eqb-true, true≢false, length-take, length-take-le, take-append-drop, take-append-le, take_all, is_some, Prefix, Send, sent_to, Connection, IsOpened, Ledger, Passed, connection_of, passed_connection, passed_to, stamped, stamped_to, with_passed, with_send, Shows, stamped_of, Before, events_of, AreSendable, IsSendable, KeepsReplies, Rules, is_open, opens, passed_in, sendable_then, held_is_front, part_behind, count_of, held, held_behind, rules_after, held_count, with_held, HeldGrows, SentIsHeld}
+use Rattle.session_following.proofs.Terms.{Bool, List, None, [], ap, append-nil, append_assoc, arith, cond, drop, eqb, false, inl, inr, length, length-append, length-drop, min, refl, subst, sym, take, true, ℕ, ◌++◌, ◌+◌, ◌-◌, ◌∙◌, ◌∷◌, ◌≡◌, ◌≤◌, drop-append_seam, take-length, cases_lt, eq-eqb, eqb-false, eqb-true, true≢false, length-take, length-take-le, take-append-drop, take-append-le, take_all, is_some, Prefix, Send, sent_to, IsOpened, Ledger, Passed, connection_of, passed_connection, passed_to, stamped, stamped_to, with_passed, with_send, Shows, stamped_of, Before, events_of, AreSendable, IsSendable, KeepsReplies, Rules, is_open, opens, passed_in, sendable_then, held_is_front, part_behind, count_of, held, held_behind, rules_after, held_count, with_held, HeldGrows, SentIsHeld}
 use Rattle.session_following.proofs.Based.{only_had, same_heeded, same_open}
 
 -- what is held of more sends

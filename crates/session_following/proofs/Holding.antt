@@ -1,6 +1,6 @@
 -- What is known of a session that follows doesn't tell how many items more have to be taken before a reply is passed.
 use Rattle.recovery.specs.Handling.{Stand}
-use Rattle.session_following.proofs.Terms.{List, [], inl, inr, ℕ, ◌∷◌, Entry, LinkEvent, Phases, Checkpoints, Log, Ledger, Image, Override, Path, CpuState, Rules, Survivor, Carries, AsksForMore, Handed, HasHandled, Keeping, first_stands, starting_stands, KeepsRing, AreKept, HandlesRequests, keeping_of, SessionState, Since, HasJustBegun, IsFollowing, holding}
+use Rattle.session_following.proofs.Terms.{List, [], inl, inr, ℕ, ◌∷◌, Entry, LinkEvent, Phases, Log, Ledger, Image, Override, Path, CpuState, Rules, Survivor, Carries, AsksForMore, Handed, HasHandled, Keeping, first_stands, starting_stands, KeepsRing, AreKept, HandlesRequests, keeping_of, SessionState, Since, HasJustBegun, IsFollowing, holding}
 use Rattle.session_following.proofs.Handled.{WroteAs, all_wrote, begun_stands}
 
 module _ (rules : Rules) (hold : ℕ) where
@@ -57,18 +57,15 @@ module _ (rules : Rules) (hold : ℕ) where
   asks_holding image handed events a = record { path = a.path; ran = a.ran; asks = a.asks; not_yet = a.not_yet }
 
 module _ {R : Type 0} (rules : Rules) (hold : ℕ) where
-  ring_holding : (image : Image) (entries : List Entry) (plan : List Override) (now : Path) (ring : List Path) (cpu : CpuState R) (checkpoints : Checkpoints) (log : Log) (ledger : Ledger) → KeepsRing rules image entries plan now ring cpu checkpoints log ledger
-      → KeepsRing (holding rules hold) image entries plan now ring cpu checkpoints log ledger
-  ring_holding image entries plan now ring cpu checkpoints log ledger k = record {
+  ring_holding : (image : Image) (entries : List Entry) (plan : List Override) (now : Path) (ring : List Path) (cpu : CpuState R) (log : Log) (ledger : Ledger) → KeepsRing rules image entries plan now ring cpu log ledger
+      → KeepsRing (holding rules hold) image entries plan now ring cpu log ledger
+  ring_holding image entries plan now ring cpu log ledger k = record {
     some = k.some;
     chained = k.chained;
     are = k.are;
     kept = kept_holding rules hold entries log ledger ring k.kept;
-    as_many = k.as_many;
     saved = k.saved;
-    standing = k.standing;
-    capacity = k.capacity;
-    base = k.base;
+    newest = k.newest;
     window = k.window;
     wrote = k.wrote;
   }
@@ -89,7 +86,7 @@ module _ {R : Type 0} (rules : Rules) (hold : ℕ) where
     };
     saved = record {
       paths = f.saved.paths;
-      ring = ring_holding image [] _ _ f.saved.paths session.cpu session.ring session.log session.replies f.saved.ring;
+      ring = ring_holding image [] _ _ f.saved.paths session.cpu session.log session.replies f.saved.ring;
       early = f.saved.early;
       requests = requests_holding rules hold image (keeping_of session) _ _ f.saved.requests;
       in_force = f.saved.in_force;

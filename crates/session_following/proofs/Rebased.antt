@@ -35,7 +35,7 @@ module _ {R : Type 0} where
     pub answers : AnswersFor began (story_alone survivor since) session
     pub goes : GoesWith rules (story_alone survivor since) session phases
     pub paths : List Path
-    pub ring : KeepsRing rules image since survivor.plan survivor.now paths session.cpu session.ring session.log session.replies
+    pub ring : KeepsRing rules image since survivor.plan survivor.now paths session.cpu session.log session.replies
     pub early : AreBehind session.recorded paths
     pub requests : HandlesRequests rules image (keeping_of session) [] since [] survivor (stands_of session.cpu.slots.saved)
 
@@ -69,7 +69,7 @@ module _ {R : Type 0} where
         };
         saved = record {
           paths = there.paths;
-          ring = ring_after rules image since what survivor.plan other now there.paths session.cpu session.ring session.log session.replies same says there.ring;
+          ring = ring_after rules image since what survivor.plan other now there.paths session.cpu session.log session.replies same says there.ring;
           early = there.early;
           requests = handled_after rules image (keeping_of session) since there.more events had survivor.plan other survivor.begun now same there.plan there.begun there.brings says there.way there.requests;
           in_force = in_force;

@@ -45,7 +45,7 @@ module _ {R : Type 0} where
       let says : SaysAs here image items under plan to = says_alike here image items under plan to (λ count few. up_to_same plan now.state.machine.taken count (omega (arith, few, still))) in
       let served : Served rules.limits items under (origin image) to = served_on rules.limits items under (origin image) now to f.stands.sound.carries.served goes.served in
       let saved = saved_on {story = begun_story here image} {to = to} side (ap (λ (l : Ledger). l.first) replies) goes.served wrote (omega (arith, still)) (requests_on {to = to} goes.served still f.stands.saved.requests) f.stands.saved in
-      let ring = ring_after here image [] what under plan to saved.paths new.cpu new.ring new.log new.replies same says saved.ring in
+      let ring = ring_after here image [] what under plan to saved.paths new.cpu new.log new.replies same says saved.ring in
       let log_items : KeepsItems here.bounds [] new.log = subst (KeepsItems here.bounds []) (sym side.log) f.stands.goes.items in
       let items_are : KeepsItems next.bounds [] new.log = items_after here [] what same log_items in
       let few = f.stands.sound.carries.taken in
@@ -84,7 +84,6 @@ module _ {R : Type 0} where
             some = ring.some;
             chained = ring.chained;
             are = ring.are;
-            as_many = ring.as_many;
             saved = ring.saved;
             requests = handled_after here image (keeping_of new) [] [] (events_in (heard_alone events)) (held handed.counts to.state.sends) under plan now to same refl refl (sym (append-nil items)) says goes.served saved.requests;
           };

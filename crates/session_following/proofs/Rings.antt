@@ -2,7 +2,7 @@
 use Rattle.session_history.proofs.Passing.{in_order_wider}
 use Rattle.trials.specs.Chains.{AreChained}
 use Rattle.trials.proofs.Chained.{chained_from}
-use Rattle.session_following.proofs.Terms.{List, [], ap, false, length, subst, sym, ℕ, ◌∙◌, ◌∷◌, ◌≡◌, ◌≤◌, IfSome, replicate, slice_get, Item, Send, Entry, Checkpoints, Log, Ledger, Image, Override, Path, Served, origin, CpuState, Writes, served_on, served_same, Before, events_of, items_in, received, Rules, opens, AreBetween, AreInOrder, Covers, IsFeasible, passed_in, Carries, held_is_in_time, held_is_in_order, held, KeepsRing, AreKept, CanGoOn, rules_after}
+use Rattle.session_following.proofs.Terms.{List, [], ap, false, length, subst, sym, ℕ, ◌∙◌, ◌∷◌, ◌≡◌, ◌≤◌, IfSome, replicate, slice_get, Item, Send, Entry, Log, Ledger, Image, Override, Path, Served, origin, CpuState, Writes, served_on, served_same, Before, events_of, items_in, received, Rules, opens, AreBetween, AreInOrder, Covers, IsFeasible, passed_in, Carries, held_is_in_time, held_is_in_order, held, KeepsRing, AreKept, CanGoOn, rules_after}
 use Rattle.session_following.proofs.Based.{SaysAs, only_had, same_heeded, same_items}
 
 -- a run to there is one under the other plan
@@ -40,9 +40,9 @@ kept_after rules entries what same log ledger (newest ∷ older) are = (
 )
 
 module _ {R : Type 0} where
-  pub ring_after : (rules : Rules) (image : Image) (entries : List Entry) (what : Before) (plan other : List Override) (now : Path) (ring : List Path) (cpu : CpuState R) (checkpoints : Checkpoints) (log : Log) (ledger : Ledger) → what.events ≡ events_of rules.bounds entries
-      → SaysAs rules image (items_in rules.bounds entries) plan other now → KeepsRing rules image entries plan now ring cpu checkpoints log ledger → KeepsRing (rules_after rules what) image [] other now ring cpu checkpoints log ledger
-  ring_after rules image entries what plan other now ring cpu checkpoints log ledger same says k =
+  pub ring_after : (rules : Rules) (image : Image) (entries : List Entry) (what : Before) (plan other : List Override) (now : Path) (ring : List Path) (cpu : CpuState R) (log : Log) (ledger : Ledger) → what.events ≡ events_of rules.bounds entries
+      → SaysAs rules image (items_in rules.bounds entries) plan other now → KeepsRing rules image entries plan now ring cpu log ledger → KeepsRing (rules_after rules what) image [] other now ring cpu log ledger
+  ring_after rules image entries what plan other now ring cpu log ledger same says k =
       let items : List Item = items_in rules.bounds entries in
       let to : items ≡ items_in (rules_after rules what).bounds [] = sym (same_items rules entries what same) in
       record {
@@ -52,11 +52,8 @@ module _ {R : Type 0} where
             (chained_as rules image items plan other now now ring says (served_same rules.limits items plan now) k.chained);
         are = k.are;
         kept = kept_after rules entries what same log ledger ring k.kept;
-        as_many = k.as_many;
         saved = k.saved;
-        standing = k.standing;
-        capacity = k.capacity;
-        base = k.base;
+        newest = k.newest;
         window = k.window;
         wrote = subst (λ (its : List Item). IfSome (slice_get ring 0) (λ (newest : Path). Writes rules.limits its cpu.base newest (replicate cpu.slots.pages false) now cpu.written)) to k.wrote;
       }

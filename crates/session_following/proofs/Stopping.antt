@@ -3,7 +3,7 @@ use Rattle.item_log.specs.Log as logs
 use Rattle.link_gate.specs.declared.heard.HearFault.TheVariants as fault
 use Rattle.session_history.specs.Heeding as unheeded
 use Rattle.session_state.proofs.guest.ChoiceLemmas.{few_choices}
-use Rattle.session_following.proofs.Terms.{Bool, List, Option, [], ap, append-nil, arith, inl, inr, length, refl, subst, sym, true, ℕ, ◌++◌, ◌+◌, ◌<◌, ◌∙◌, ◌∷◌, ◌≡◌, ◌≤◌, ◌⊎◌, length-replicate, Err, IsSome, replicate, ◌^◌, ◌≢◌, Item, LinkEvent, Coming, Tells, Told, events_in, Seen, Log, Ledger, Image, Cause, AsksFor, FailsBy, Path, Stop, events_alone, Unheeded, events_of, items_in, refusal, Rules, HearFault, ComesLast, HearsBy, Noted, apart_asks_fails, apart_ended, heard_alone, AtExit, AtFailure, AtRequest, Handed, IsStuck, Stand, AreWellPlaced, plan_of, between_counted, between_fits, taken_all, IsStopAt, SessionState, StandKind, rules_following, EndsEarly, IsInPlace, IsShort, IsUnlike, NoPlan, OtherAnswer, OtherPlace, Agree, IsJudgedAt, kind_of, HasEndedBehind, HasEndedThere, IsUnfollowedBy, Follows, WaitsOn, held_back, nothing_told}
+use Rattle.session_following.proofs.Terms.{Bool, List, Option, [], ap, append-nil, arith, inl, inr, length, refl, subst, sym, true, ℕ, ◌++◌, ◌+◌, ◌<◌, ◌∙◌, ◌∷◌, ◌≡◌, ◌≤◌, ◌⊎◌, length-replicate, Err, IsSome, replicate, ◌^◌, ◌≢◌, Item, LinkEvent, Coming, Tells, Told, events_in, Seen, Log, Ledger, Image, Cause, AsksFor, FailsBy, Path, Stop, events_alone, events_of, items_in, refusal, Rules, HearFault, ComesLast, HearsBy, Noted, apart_asks_fails, apart_ended, heard_alone, AtExit, AtFailure, AtRequest, Handed, IsStuck, Stand, AreWellPlaced, plan_of, between_counted, between_fits, taken_all, IsStopAt, SessionState, StandKind, rules_following, EndsEarly, IsInPlace, IsShort, IsUnlike, NoPlan, OtherAnswer, OtherPlace, Agree, IsJudgedAt, kind_of, HasEndedBehind, HasEndedThere, IsUnfollowedBy, Follows, WaitsOn, held_back, nothing_told}
 use Rattle.session_following.specs.declared.judging.StandKind.TheVariants as stands
 use Rattle.session_following.specs.declared.unfollowed.Unfollowed.TheVariants as unfollowed
 use Rattle.session_following.proofs.Meets.{between_following}

@@ -35,7 +35,7 @@ start_there image = refl
 module _ {R : Type 0} where
   -- A session that was begun follows from the start of its program, once the start is its first checkpoint, in the environment of the report, and nothing is passed.
   pub begins_on : (permits : R → Heap → ℕ → ℕ → Bool) {image : Image} {handed : Handed} {seen : Seen} {shown : Noted} {missing : List ℕ} {old mid new : SessionState R} → IsBegun image old.options old.cpu.rule old → IsFresh seen.phases
-      → ((any : Rules) → KeepsRing any image [] [] (origin image) (origin image ∷ []) mid.cpu mid.ring old.log old.replies) → mid ≡ record old { cpu = mid.cpu; ring = mid.ring } → mid.cpu.slots.live ≡ old.cpu.slots.live → mid.cpu.rule ≡ old.cpu.rule → stands_of mid.cpu.slots.saved ≡ alone 0 mid.cpu.slots.pages
+      → ((any : Rules) → KeepsRing any image [] [] (origin image) (origin image ∷ []) mid.cpu old.log old.replies) → mid ≡ record old { cpu = mid.cpu } → mid.cpu.slots.live ≡ old.cpu.slots.live → mid.cpu.rule ≡ old.cpu.rule → stands_of mid.cpu.slots.saved ≡ alone 0 mid.cpu.slots.pages
       → IsMissing handed.counts [] missing → new ≡ record mid { env = new.env; until = 1; before = new.before; hold = 4294967295 } → new.env ≡ env_at (plan_of handed.episodes) 0 → new.before ≡ before_begun mid.cpu.slots.live new.env
       → Follows (rules_by permits old) (rules_by permits new) image handed seen.told seen shown shown missing new
   begins_on permits {image = image} {handed = handed} {seen = seen} {shown = shown} {missing = missing} {old = old} {mid = mid} {new = new} begun fresh keeps same live rule stands lacks is env came =

@@ -108,7 +108,6 @@ module _ {R : Type 0} where
         log = ap (λ (s : SessionState R). s.log) same ∙ ap (λ (s : SessionState R). s.log) first;
         events = ap (λ (s : SessionState R). s.events) same ∙ ap (λ (s : SessionState R). s.events) first;
         cpu = is ∙ (cpu ∙ ap (λ (c : CpuState R). with_live (live_of c) was.cpu) (sym is));
-        ring = ap (λ (s : SessionState R). s.ring) same ∙ ap (λ (s : SessionState R). s.ring) first;
         env = ap (λ (s : SessionState R). s.env) same ∙ ap (λ (s : SessionState R). s.env) first;
         until = ap (λ (s : SessionState R). s.until) same ∙ ap (λ (s : SessionState R). s.until) first;
         options = ap (λ (s : SessionState R). s.options) same ∙ ap (λ (s : SessionState R). s.options) first;

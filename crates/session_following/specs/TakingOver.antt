@@ -7,7 +7,7 @@ use Rattle.session_history.specs.declared.ends.SessionBreak.TheVariants as sessi
 use Rattle.session_history.specs.declared.ends.SessionEnd.TheVariants as session_end
 use Rattle.session_history.specs.declared.ends.Stop.TheVariants as stop
 use Rattle.session_history.specs.Heeding as unheeded
-use Rattle.session_following.specs.Terms.{Item, LinkEvent, Coming, Grew, IsNext, Refuses, Tells, Told, Seen, Choice, IsPieceOf, Image, Answer, Path, Served, origin, Stop, StaysKnown, answer_of, Bounds, Unheeded, events_of, items_in, refusal, Rules, Episode, Try, Noted, Shown, Unnoted, AsksForMore, HasFollowed, heard_alone, rules_behind, AtExit, AtFailure, AtRequest, Finish, Handed, Stand, adopted_try, plan_of, Keeping, LeavesBy, keeping_of, keeping_for, FailsAtChoices, HasWatched, LinkAnswers, NotesAnswer, outcome_of, IsBegun, SessionState, Unfollowed}
+use Rattle.session_following.specs.Terms.{Item, LinkEvent, Coming, Grew, IsNext, Refuses, Tells, Told, Seen, Choice, IsPieceOf, Image, Answer, Path, Served, origin, Stop, StaysKnown, answer_of, Unheeded, events_of, items_in, refusal, Rules, Episode, Try, Noted, Shown, Unnoted, AsksForMore, HasFollowed, heard_alone, rules_behind, AtExit, AtFailure, AtRequest, Finish, Handed, Stand, adopted_try, plan_of, Keeping, LeavesBy, keeping_of, keeping_for, FailsAtChoices, HasWatched, LinkAnswers, NotesAnswer, outcome_of, IsBegun, SessionState, Unfollowed}
 use Rattle.session_following.specs.declared.unfollowed.Unfollowed.TheVariants as unfollowed
 use Rattle.session_following.specs.Answers.{EndsEarly, IsAtFinish, IsInPlace, IsShort, IsUnlike, NoPlan, OtherAnswer, OtherPlace}
 use Rattle.session_following.specs.Reaching.{HasAskedBefore, HasNotReached}

@@ -85,7 +85,7 @@ module _ {R : Type 0} where
   -- Its request is handled: a checkpoint is saved where one is due, what no trial needs is noted and given up; and the guest stands as before. Where noting failed, no
   -- answer of the allocator was noted. No episode is.
   pub record KeepsHandling (shown now : Shown) (old new : SessionState R) (result : Result (Unit {0}) Stop) : Type 0 where
-    pub same : new ≡ record old { cpu = new.cpu; ring = new.ring; recorded = new.recorded; choices = new.choices; log = new.log; replies = new.replies }
+    pub same : new ≡ record old { cpu = new.cpu; recorded = new.recorded; choices = new.choices; log = new.log; replies = new.replies }
     pub live : new.cpu.slots.live ≡ old.cpu.slots.live
     pub rule : new.cpu.rule ≡ old.cpu.rule
     pub keeping : keeping_of new ≡ keeping_of old

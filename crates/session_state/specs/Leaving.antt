@@ -1,9 +1,9 @@
 -- What a session leaves: the checkpoints of the run that it answers for, and what a trial from them would need.
-use Rattle.std.specs.Prelude.{◌≡◌, ◌⊎◌, false, [], ℕ, ◌+◌, ◌-◌, ◌<◌, ◌≤◌, List, length, Option, None, Some, IfSome, option_map, slice_get}
+use Rattle.std.specs.Prelude.{◌≡◌, ◌⊎◌, false, [], ◌+◌, ◌-◌, ◌<◌, ◌≤◌, List, length, Option, None, Some, IfSome, slice_get}
 use Rattle.session_history.specs.declared.ends.SessionBreak.TheVariants as session_break
 use Rattle.session_history.specs.declared.ends.SessionEnd.TheVariants as session_end
 use Rattle.session_history.specs.declared.ends.Stop.TheVariants as stop
-use Rattle.session_state.specs.Terms.{Entry, from_newest, Image, AsksFor, Path, standing_of, SessionBreak, SessionEnd, Stop, AtBreak, AtEnd, before_end, items_in, Chapter, Rules, Survivor, Unnoted, AreChained, AreCheckpoints, Recovery, HasHandled, Keeping, Stand, is_far, keeping_by, stands_of}
+use Rattle.session_state.specs.Terms.{Entry, oldest_of, Image, AsksFor, Path, standing_of, SessionBreak, SessionEnd, Stop, AtBreak, AtEnd, before_end, items_in, Chapter, Rules, Survivor, Unnoted, AreChained, AreCheckpoints, Recovery, HasHandled, Keeping, Stand, is_far, keeping_by, stands_of, HasSaved}
 use Rattle.session_state.specs.Sessions.{SessionState}
 use Rattle.session_state.specs.Recovered.{Telling, FailsUpTo}
 
@@ -33,7 +33,7 @@ IsReadFault session_break.Memory = ⊥
 abbrev pub HandlesRequests : Rules → Image → Keeping → List Chapter → List Entry → List Recovery → Survivor → List Stand → Type 0
 HandlesRequests rules image keeping chapters entries recoveries survivor stands =
     HasHandled rules image keeping chapters entries recoveries survivor survivor.now.state.machine.taken stands
-    ⊎ (AsksFor rules.limits [] survivor.now survivor.now.state.machine.taken × HasHandled rules image keeping chapters entries recoveries survivor (survivor.now.state.machine.taken + 1) stands × (is_far keeping.every survivor.now.state.machine.taken (from_newest stands 0) ≡ false))
+    ⊎ (AsksFor rules.limits [] survivor.now survivor.now.state.machine.taken × HasHandled rules image keeping chapters entries recoveries survivor (survivor.now.state.machine.taken + 1) stands × (is_far keeping.every survivor.now.state.machine.taken (slice_get stands 0) ≡ false))
 
 -- Which requests were handled beside the last survivor: where the program waits, those so far and that at which it stands; where it
 -- ended or failed, those so far, since it makes none there; and at a fault of writing either is so, the second only where it stands at a request.
@@ -46,50 +46,49 @@ HandledAt why rules image keeping chapters entries recoveries survivor stands = 
 module _ {R : Type 0} where
   -- how a session keeps its checkpoints
   abbrev pub keeping_of : SessionState R → Keeping
-  keeping_of session = keeping_by session.ring.capacity session.options.every session.cpu.slots
+  keeping_of session = keeping_by session.options.every session.cpu.slots
 
   -- no checkpoint is due with the items taken so far
   abbrev pub IsHandled : SessionState R → Type 0
-  IsHandled session = is_far session.options.every session.taken (from_newest (stands_of session.cpu.slots.saved) 0) ≡ false
+  IsHandled session = is_far session.options.every session.taken (slice_get (stands_of session.cpu.slots.saved) 0) ≡ false
 
-  -- The saved slots of a session's guest are checkpoints of the survivor's run, at least one. As runs, from the newest to the oldest, each goes
-  -- on as the one before it, and the survivor goes on as the newest. Each slot holds the state where its run stands.
+  -- A session's checkpoints are those of the survivor's run, at least one. As runs, the newest first, each goes on as the one behind it, and the
+  -- survivor goes on as the newest. Each was saved where its run stands.
   pub record HoldsCheckpoints (rules : Rules) (image : Image) (chapters : List Chapter) (entries : List Entry) (recoveries : List Recovery) (survivor : Survivor) (session : SessionState R) : Type 0 where
     pub paths : List Path
     pub some : 0 < length paths
     pub chained : AreChained rules.limits (items_in rules.bounds entries) survivor.plan image survivor.now paths
     pub are : AreCheckpoints rules.limits image paths
-    pub as_many : length session.cpu.slots.saved ≡ length paths
-    pub saved : (index : ℕ) → index < length paths → option_map (λ one. one.state) (from_newest session.cpu.slots.saved index) ≡ option_map standing_of (slice_get paths index)
+    pub saved : HasSaved session.cpu paths
     pub requests : HandlesRequests rules image (keeping_of session) chapters entries recoveries survivor (stands_of session.cpu.slots.saved)
 
   -- as many answers of the allocator are recorded as the oldest checkpoint had used
   abbrev pub IsRecorded : SessionState R → Type 0
-  IsRecorded session = IfSome (slice_get session.cpu.slots.saved 0) (λ oldest. session.recorded ≡ oldest.state.guest.machine.allocations)
+  IsRecorded session = IfSome (oldest_of session.cpu.slots.saved) (λ oldest. session.recorded ≡ oldest.state.guest.machine.allocations)
 
   -- All is given up and recorded that no trial needs: the items from before the oldest checkpoint, and no others; and of the answers of the allocator
   -- those that it had used. No send is given up that came later.
   pub record IsTrimmed (session : SessionState R) : Type 0 where
-    pub items : IfSome (slice_get session.cpu.slots.saved 0) (λ oldest. session.log.first ≡ oldest.state.guest.machine.taken)
+    pub items : IfSome (oldest_of session.cpu.slots.saved) (λ oldest. session.log.first ≡ oldest.state.guest.machine.taken)
     pub recorded : IsRecorded session
-    pub sends : IfSome (slice_get session.cpu.slots.saved 0) (λ oldest. session.replies.first ≤ oldest.state.sends)
+    pub sends : IfSome (oldest_of session.cpu.slots.saved) (λ oldest. session.replies.first ≤ oldest.state.sends)
 
   -- Noting failed before all that was given up and recorded: a call of notes failed that was handed those answers of the allocator that the oldest checkpoint
   -- had used and that aren't recorded. No item is given up that it hadn't taken, and no send that came later.
   pub record IsCutShort (before now : Option Unnoted) (session : SessionState R) : Type 0 where
-    pub items : IfSome (slice_get session.cpu.slots.saved 0) (λ oldest. session.log.first ≤ oldest.state.guest.machine.taken)
-    pub recorded : IfSome (slice_get session.cpu.slots.saved 0) (λ oldest. FailsUpTo before now oldest.state.guest.machine.allocations session.recorded session.choices)
-    pub sends : IfSome (slice_get session.cpu.slots.saved 0) (λ oldest. session.replies.first ≤ oldest.state.sends)
+    pub items : IfSome (oldest_of session.cpu.slots.saved) (λ oldest. session.log.first ≤ oldest.state.guest.machine.taken)
+    pub recorded : IfSome (oldest_of session.cpu.slots.saved) (λ oldest. FailsUpTo before now oldest.state.guest.machine.allocations session.recorded session.choices)
+    pub sends : IfSome (oldest_of session.cpu.slots.saved) (λ oldest. session.replies.first ≤ oldest.state.sends)
 
   -- what is asked for before sends are given up: there is an oldest checkpoint, no trial is under way, and what it had sent was sent
   pub record CanForgetSends (session : SessionState R) : Type 0 where
     pub some : 0 < length session.cpu.slots.saved
     pub trial : session.replies.trial ≡ None
-    pub sends : IfSome (slice_get session.cpu.slots.saved 0) (λ oldest. oldest.state.sends ≤ session.replies.first + length session.replies.kept)
+    pub sends : IfSome (oldest_of session.cpu.slots.saved) (λ oldest. oldest.state.sends ≤ session.replies.first + length session.replies.kept)
 
   -- the oldest checkpoint stands, and nothing more was given up or recorded
   pub record KeepsOldest (old new : SessionState R) : Type 0 where
-    pub oldest : slice_get new.cpu.slots.saved 0 ≡ slice_get old.cpu.slots.saved 0
+    pub oldest : oldest_of new.cpu.slots.saved ≡ oldest_of old.cpu.slots.saved
     pub first : new.log.first ≡ old.log.first
     pub recorded : new.recorded ≡ old.recorded
     pub sends : new.replies.first ≡ old.replies.first

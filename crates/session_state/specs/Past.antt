@@ -4,10 +4,10 @@ use Rattle.std.specs.Coded.{Coded, code_by, coded_bool, coded_list, coded_option
 use Rattle.links.specs.contracts.journal.LinkEvent as link_event
 use Rattle.block_book.specs.contracts.block.Block as block
 use Rattle.block_book.specs.contracts.choice.Choice as choice
+use Rattle.block_book.specs.declared.block.Block.{Block}
 use Rattle.alloc_env.specs.contracts.env.Env as env
 use Rattle.elf_image.specs.Memory.{Area}
-use Rattle.run_history.specs.Machine.{Machine}
-use Rattle.session_state.specs.Terms.{Block, Choice, Env, Heap, State, Override, Path, Send, LinkEvent, Before}
+use Rattle.session_state.specs.Terms.{Send, LinkEvent, Choice, Heap, Env, Machine, State, Override, Path, Before}
 
 abbrev pub send_code : Coded Send
 send_code = code_by (ℕ × (List ℕ × ℕ)) (coded× coded_ℕ (coded× (coded_list coded_ℕ) coded_ℕ)) (λ s. (s.conn, (s.bytes, s.taken))) (λ p. record { conn = p.0; bytes = p.1.0; taken = p.1.1 }) (λ _. refl)

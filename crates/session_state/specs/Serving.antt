@@ -517,7 +517,7 @@ module _ {R : Type 0} where
 
   -- a checkpoint is saved where one is due; guest and rule stay
   pub record KeepsSaving (old new : SessionState R) : Type 0 where
-    pub same : new ≡ record old { cpu = new.cpu; ring = new.ring }
+    pub same : new ≡ record old { cpu = new.cpu }
     pub live : new.cpu.slots.live ≡ old.cpu.slots.live
     pub rule : new.cpu.rule ≡ old.cpu.rule
     pub keeping : keeping_of new ≡ keeping_of old

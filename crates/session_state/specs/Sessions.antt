@@ -1,7 +1,7 @@
 -- What a contract sees of a session.
 use Rattle.std.specs.Prelude.{◌≡◌, ℕ, ◌*◌, ◌/◌, List, [], nat_lt, if◌then◌else◌}
 use Rattle.item_log.specs.Log as logs
-use Rattle.session_state.specs.Terms.{Choice, Env, Plain, Checkpoints, checkpoints, Log, empty_log, Ledger, no_replies, Image, CpuState, IsFreshCpu, Before, nothing_before, Options}
+use Rattle.session_state.specs.Terms.{Choice, Env, Plain, Log, empty_log, Ledger, no_replies, Image, CpuState, IsFreshCpu, Before, nothing_before, Held, Options}
 use Rattle.session_state.specs.Options.{AreInRange}
 
 -- A session: its options, its guest with its checkpoints, the items and the replies; how many events came; of the run that it answers for
@@ -10,7 +10,6 @@ use Rattle.session_state.specs.Options.{AreInRange}
 pub record SessionState (R : Type 0) : Type 0 where
   pub options : Options
   pub cpu : CpuState R
-  pub ring : Checkpoints
   pub log : Log
   pub replies : Ledger
   pub events : ℕ
@@ -27,13 +26,16 @@ pub record SessionState (R : Type 0) : Type 0 where
 abbrev pub env_of : {R : Type 0} → SessionState R → Env
 env_of session = if nat_lt session.taken session.until then session.env else Plain
 
+-- what a recovery takes back of it
+abbrev pub held_in : {R : Type 0} → SessionState R → Held R
+held_in session = record { cpu = session.cpu; log = session.log; replies = session.replies; recorded = session.recorded; choices = session.choices }
+
 -- a session that was begun and hasn't served
 pub record IsBegun {R : Type 0} (image : Image) (options : Options) (rule : R) (session : SessionState R) : Type 0 where
   pub options_are : session.options ≡ options
   pub in_range : AreInRange options
   pub window : options.window ≡ image.window
   pub cpu : IsFreshCpu image options.ring (options.frames * (image.window / 4096)) rule session.cpu
-  pub ring : session.ring ≡ checkpoints options.ring []
   pub log : session.log ≡ empty_log options.frame options.max_items
   pub shows : logs.Shows options.frame [] session.log
   pub replies : session.replies ≡ no_replies

@@ -9,14 +9,12 @@ pub use Rattle.links.specs.declared.journal.Entry.{Entry}
 pub use Rattle.links.specs.declared.journal.LinkEvent.{LinkEvent}
 pub use Rattle.links.specs.Links.{Coming, Counts, Grew, HasEnded, IsFresh, IsNext, Phases, Refuses, Tells, Told, events_in}
 pub use Rattle.links.specs.Seen.{Seen, but_given}
-pub use Rattle.block_book.specs.declared.block.Block.{Block}
 pub use Rattle.block_book.specs.declared.choice.Choice.{Choice}
 pub use Rattle.block_book.specs.Heap.{Heap}
 pub use Rattle.alloc_env.specs.declared.env.Env.{Env}
 pub use Rattle.alloc_env.specs.declared.env.Env.TheVariants.{Plain}
-pub use Rattle.ckpt_ring.specs.Rings.{Checkpoints, checkpoints, from_newest}
-pub use Rattle.ckpt_ring.specs.Slots.{Saved}
-pub use Rattle.page_line.specs.Line.{count_true}
+pub use Rattle.ckpt_ring.specs.Line.{count_true}
+pub use Rattle.ckpt_ring.specs.Slots.{Checkpoint, oldest_of}
 pub use Rattle.msg_frame.specs.declared.framing.Framing.{Framing}
 pub use Rattle.item_log.specs.Heard.{behind_items, brought, hear, hear_parts, items_of}
 unfoldable pub use Rattle.item_log.specs.Heard.{heard_from}
@@ -29,7 +27,7 @@ pub use Rattle.elf_image.specs.declared.image.Image.{Image}
 pub use Rattle.run_history.specs.declared.answer.Answer.{Answer}
 pub use Rattle.run_history.specs.declared.answer.Cause.{Cause}
 pub use Rattle.run_history.specs.Call.{may_send}
-pub use Rattle.run_history.specs.Machine.{Fails, State, Wants}
+pub use Rattle.run_history.specs.Machine.{Fails, Machine, State, Wants}
 unfoldable pub use Rattle.run_history.specs.Machine.{no_connections}
 pub use Rattle.run_history.specs.Run.{after}
 unfoldable pub use Rattle.run_history.specs.Run.{does}
@@ -73,9 +71,9 @@ pub use Rattle.trials.specs.Tables.{Trial, survivor_in, table}
 pub use Rattle.recovery.specs.declared.recovering.Recovered.{Recovered}
 pub use Rattle.recovery.specs.declared.walking.Adopted.{Adopted}
 pub use Rattle.recovery.specs.Handling.{AreRinged, HasHandled, HasRing, HaveRings, Keeping, Stand, alone, handle, is_far, keeping_by, stands_of, starting_stands}
-pub use Rattle.recovery.specs.Recovering.{HasAdoptedRun, HasRecovery, HasToRecover, KeepsSlots, LeavesRun, recovery_of}
+pub use Rattle.recovery.specs.Recovering.{HasAdoptedRun, HasRecovery, HasToRecover, KeepsSlots, LeavesRun, LeavesSession, recovery_of}
 pub use Rattle.recovery.specs.Rings.{AreBehind, Brings, IsInForce, KeepsRing, SavesIf, ring_if}
-pub use Rattle.recovery.specs.Sessions.{CanGoOn, Failure, taken_in}
+pub use Rattle.recovery.specs.Sessions.{CanGoOn, Failure, HasSaved, Held, taken_in}
 pub use Rattle.recovery.specs.Trying.{steps_of}
 pub use Rattle.recovery.specs.Watching.{IsWholeTable, TellsMore, TellsTable}
 pub use Rattle.session_state.specs.declared.options.Options.{Options}

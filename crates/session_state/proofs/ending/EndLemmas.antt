@@ -3,7 +3,7 @@ use Rattle.session_history.specs.declared.ends.Stop.TheVariants as stop
 use Rattle.session_history.specs.Ends.{TakesAtEnd, StaysKnown}
 use Rattle.links.specs.declared.journal.Entry.TheVariants as entry
 use Rattle.session_history.specs.declared.ends.SessionEnd.TheVariants as session_end
-use Rattle.session_state.proofs.Terms.{Bool, List, None, Option, Some, [], ap, append-nil, append_assoc, arith, false, length, map, refl, subst, sym, true, ℕ, ◌++◌, ◌+◌, ◌-◌, ◌∙◌, ◌∷◌, ◌≡◌, ◌≤◌, none-some, IfSome, option_map, Entry, tells_then, Coming, Tells, Told, Seen, but_given, Choice, Image, Cause, SessionBreak, SessionEnd, Stop, broken_account, ending_account, ending_none, ending_piece, serving_account, IsAccount, IsBroken, Session, EndsBy, HandedLast, OwesNothingAtEnd, ShowsSession, StandsAt, WasAsked, AreDuePieces, then_entries, items_in, IsDuePiece, LeavesNothing, Rules, entries_of, then_entry, Moment, OwesNothing, Ending, Serving, ending_at, Noted, steps_later, episode_of, Keeping, steps_of, SessionState, AllAnswered, GivesUpBy, HasGivenUp, HasNoted, HasWatched, IsHandedLast, IsTelling, Telling, Walk, all_steps, episodes_of, spent, starting_path, steps_unanswered, trials_of, HoldsCheckpoints, IsReadFault, keeping_of, AnswersFor, IsBrokenOff, IsEnding, IsTold, Since, Story, entries, moment, sends, then_story, IsFinishing, outcome_of}
+use Rattle.session_state.proofs.Terms.{Bool, List, None, Option, Some, [], ap, append-nil, append_assoc, arith, false, length, map, refl, subst, sym, true, ℕ, ◌++◌, ◌+◌, ◌-◌, ◌∙◌, ◌∷◌, ◌≡◌, ◌≤◌, none-some, IfSome, option_map, Entry, tells_then, Coming, Tells, Told, Seen, but_given, Choice, Image, Cause, SessionBreak, SessionEnd, Stop, broken_account, ending_account, ending_none, ending_piece, serving_account, IsAccount, IsBroken, Session, EndsBy, HandedLast, OwesNothingAtEnd, ShowsSession, StandsAt, WasAsked, AreDuePieces, then_entries, items_in, IsDuePiece, LeavesNothing, Rules, entries_of, then_entry, Moment, OwesNothing, Ending, Serving, ending_at, starting_path, Noted, steps_later, episode_of, Keeping, steps_of, SessionState, AllAnswered, GivesUpBy, HasGivenUp, HasNoted, HasWatched, IsHandedLast, IsTelling, Telling, Walk, all_steps, episodes_of, spent, steps_unanswered, trials_of, HoldsCheckpoints, IsReadFault, keeping_of, AnswersFor, IsBrokenOff, IsEnding, IsTold, Since, Story, entries, moment, sends, then_story, IsFinishing, outcome_of}
 use Rattle.session_state.proofs.recovering.TableLemmas.{tables_here, tables_fault}
 use Rattle.session_state.proofs.guest.GuestLemmas.{notes_here}
 use Rattle.session_state.proofs.standing.HeldLemmas.{held_given, rings_held}

@@ -11,8 +11,10 @@ use Rattle.guest_cpu.specs.declared.marks.Marks.{Marks}
 use Rattle.recovery.proofs.Starting.{kept_at}
 use Rattle.recovery.proofs.Survived.{behind_at}
 use Rattle.link_gate.specs.declared.pass_fault.PassFault.TheVariants as pass_fault
-use Rattle.session_state.proofs.Lemmas.{held_by, between_at, asks_or_fails}
-use Rattle.session_state.proofs.Terms.{Bool, List, None, Option, Some, [], ap, append-nil, append_assoc, arith, cond, drop, false, inl, inr, length, length-drop, max, min, not, refl, subst, suc, sym, true, ℕ, ◌++◌, ◌+◌, ◌-◌, ◌∙◌, ◌∷◌, ◌≡◌, ◌≤◌, ◌⊎◌, none-some, same_Some, IfSome, slice_get, ◌&&◌, Item, Send, Entry, Coming, Choice, Checkpoints, Saved, Log, Connection, Ledger, is_left, next_part, parts_behind, settled, unpassed, waits, Image, Override, Path, CpuState, standing_of, Standing, marks_of, SessionBreak, SessionEnd, StandsAt, before_end, items_in, Chapter, Rules, Survivor, AreBetween, PassFault, Unnoted, Recovery, HasOldest, after_oldest, has_oldest, oldest_of, oldest_used, between_behind, HasHandled, Keeping, Stand, stands_of, AreBehind, KeepsRing, SessionState, FailsUpTo, IsNoteFault, Telling, CanForgetSends, HandledAt, HandlesRequests, HasKept, HasLeft, HoldsCheckpoints, IsAtRequest, IsCutShort, IsReadFault, IsRecorded, IsTrimmed, LeavesBy, UnlessGaveUp, keeping_of, IsAnswerTo, TrimsAt}
+use Rattle.recovery.proofs.Stands.{ring_length}
+use Rattle.session_state.proofs.Lemmas.{held_by, between_at}
+use Rattle.session_state.proofs.Terms.{Bool, List, None, Option, Some, [], ap, append-nil, append_assoc, arith, cond, drop, false, inl, inr, length, length-drop, max, min, not, refl, subst, suc, sym, true, ℕ, ◌++◌, ◌+◌, ◌-◌, ◌∙◌, ◌∷◌, ◌≡◌, ◌≤◌, ◌⊎◌, IfSome_then, none-some, same_Some, IfSome, ◌&&◌, Send, Entry, Coming, Choice, Checkpoint, oldest_of, Log, Connection, Ledger, is_left, next_part, parts_behind, settled, unpassed, waits, Image, Override, Path, CpuState, standing_of, Standing, marks_of, SessionBreak, SessionEnd, StandsAt, before_end, items_in, Chapter, Rules, Survivor, AreBetween, PassFault, Unnoted, Recovery, HasOldest, after_oldest, has_oldest, oldest_kept, oldest_used, between_behind, HasHandled, Keeping, Stand, stands_of, AreBehind, KeepsRing, taken_in, SessionState, FailsUpTo, IsNoteFault, Telling, CanForgetSends, HandledAt, HandlesRequests, HasKept, HasLeft, HoldsCheckpoints, IsAtRequest, IsCutShort, IsReadFault, IsRecorded, IsTrimmed, LeavesBy, UnlessGaveUp, keeping_of, IsAnswerTo, TrimsAt}
+use Rattle.session_state.proofs.recovering.AdoptLemmas.{asks_or_fails}
 
 -- where each send fails a test of its part, none is the first that passes it
 none_passes : (p : Send → Bool) (C : List Connection) (front sends : List Send) → ((x : List Send) (y : Send) (z : List Send) → sends ≡ x ++ y ∷ z → p (unpassed C (front ++ x) y) ≡ false)
@@ -54,157 +56,136 @@ end_requests coming (session_end.Exited code) where_at (inr h) handled = absurd 
 end_requests coming (session_end.GaveUp point cause) where_at (inl h) handled = h
 end_requests coming (session_end.GaveUp point cause) where_at (inr h) handled = absurd (asks_or_fails h.0 where_at.0)
 
+-- what holds of the oldest checkpoint, if there is one, where one is
+at_oldest : {ring : List Path} {saved : List (Checkpoint Standing)} (o : HasOldest ring saved) (P : Checkpoint Standing → Type 0) → IfSome (oldest_of saved) P → P o.checkpoint
+at_oldest o P = subst (λ (s : Option (Checkpoint Standing)). IfSome s P) o.first
+
+of_oldest : {ring : List Path} {saved : List (Checkpoint Standing)} (o : HasOldest ring saved) (P : Checkpoint Standing → Type 0) → P o.checkpoint → IfSome (oldest_of saved) P
+of_oldest o P = subst (λ (s : Option (Checkpoint Standing)). IfSome s P) (sym o.first)
+
 module _ {R : Type 0} where
   -- the oldest of the checkpoints that a session holds
   pub oldest_held : {rules : Rules} {image : Image} {chapters : List Chapter} {entries : List Entry} {recoveries : List Recovery} {survivor : Survivor} {session : SessionState R} (h : HoldsCheckpoints rules image chapters entries recoveries survivor session) → HasOldest h.paths session.cpu.slots.saved
-  oldest_held {session = session} h = has_oldest h.paths session.cpu.slots.saved h.some h.as_many h.saved
+  oldest_held {session = session} h = has_oldest session.cpu.slots.saved h.paths h.some h.saved
 
   -- what is asked for before sends are given up
   pub can_forget_sends : {rules : Rules} {image : Image} {chapters : List Chapter} {entries : List Entry} {recoveries : List Recovery} {survivor : Survivor} {session : SessionState R} (h : HoldsCheckpoints rules image chapters entries recoveries survivor session) {ledger : Ledger}
       → ledger.kept ≡ drop ledger.first survivor.now.state.sends → ledger.first ≤ length survivor.now.state.sends → ledger.trial ≡ None → CanForgetSends (record session { replies = ledger })
-  can_forget_sends {rules = rules} {image = image} {entries = entries} {survivor = survivor} h {ledger = ledger} kept counted none =
+  can_forget_sends {rules = rules} {image = image} {entries = entries} {survivor = survivor} {session = session} h {ledger = ledger} kept counted none =
       let o = oldest_held h in
       let before = (after_oldest rules.limits (items_in rules.bounds entries) survivor.plan image survivor.now h.paths o.oldest h.chained o.last).0 in
       let all : length ledger.kept ≡ length survivor.now.state.sends - ledger.first = ap length kept ∙ length-drop ledger.first survivor.now.state.sends in
-      let there : o.slot.state.sends ≤ ledger.first + length ledger.kept = omega (arith, ap (λ (s : Standing). s.sends) o.stands, before.sends, all, counted) in
       record {
-        some = omega (arith, h.as_many, h.some);
+        some = omega (arith, ring_length session.cpu.slots.saved h.paths h.saved, h.some);
         trial = none;
-        sends = subst (λ (s : Option (Saved Standing)). IfSome s (λ oldest. oldest.state.sends ≤ ledger.first + length ledger.kept)) (sym o.first) there;
+        sends = of_oldest o (λ oldest. oldest.state.sends ≤ ledger.first + length ledger.kept) (omega (arith, ap (λ (s : Standing). s.sends) o.stands, before.sends, all, counted));
       }
 
   -- a session that noted all that no trial can take back
-  pub noted_up : {rules : Rules} {image : Image} {entries : List Entry} {plan : List Override} {now : Path} {ring : List Path} {cpu : CpuState R} {checkpoints : Checkpoints} {log : Log} {ledger : Ledger} (marks : Marks)
-      → IfSome (slice_get cpu.slots.saved 0) (λ one. marks ≡ marks_of one.state) → KeepsRing rules image entries plan now ring cpu checkpoints log ledger → IfSome (slice_get cpu.slots.saved 0) (λ oldest. marks.choices ≡ oldest.state.guest.machine.allocations)
-  noted_up {rules = rules} {image = image} {entries = entries} {plan = plan} {now = now} {ring = ring} {cpu = cpu} {checkpoints = checkpoints} {log = log} {ledger = ledger} marks is k =
-      let o = oldest_of rules image entries plan now ring cpu checkpoints log ledger k in
-      let here : marks ≡ marks_of o.slot.state = subst (λ (s : Option (Saved Standing)). IfSome s (λ one. marks ≡ marks_of one.state)) o.first is in
-      subst (λ (s : Option (Saved Standing)). IfSome s (λ oldest. marks.choices ≡ oldest.state.guest.machine.allocations)) (sym o.first) (ap (λ (m : Marks). m.choices) here)
+  pub noted_up : (cpu : CpuState R) (marks : Marks) → IfSome (oldest_of cpu.slots.saved) (λ one. marks ≡ marks_of one.state) → IfSome (oldest_of cpu.slots.saved) (λ oldest. marks.choices ≡ oldest.state.guest.machine.allocations)
+  noted_up cpu marks is = IfSome_then (oldest_of cpu.slots.saved) is (λ one here. ap (λ (m : Marks). m.choices) here)
 
   -- no more is noted than the oldest checkpoint had used
-  pub noted_low : {rules : Rules} {image : Image} {entries : List Entry} {plan : List Override} {now : Path} {ring : List Path} {cpu : CpuState R} {checkpoints : Checkpoints} {log : Log} {ledger : Ledger} (marks : Marks) {recorded : ℕ}
-      → IfSome (slice_get cpu.slots.saved 0) (λ one. marks ≡ marks_of one.state) → KeepsRing rules image entries plan now ring cpu checkpoints log ledger → AreBehind recorded ring → recorded ≤ marks.choices
-  noted_low {rules = rules} {image = image} {entries = entries} {plan = plan} {now = now} {ring = ring} {cpu = cpu} {checkpoints = checkpoints} {log = log} {ledger = ledger} marks {recorded = recorded} is k early =
-      let o = oldest_of rules image entries plan now ring cpu checkpoints log ledger k in
-      let here : marks ≡ marks_of o.slot.state = subst (λ (s : Option (Saved Standing)). IfSome s (λ one. marks ≡ marks_of one.state)) o.first is in
-      let stands : o.slot.state.guest.machine.allocations ≡ o.oldest.state.machine.allocations = ap (λ (s : Standing). s.guest.machine.allocations) o.stands in
-      let marked : marks.choices ≡ o.slot.state.guest.machine.allocations = ap (λ (m : Marks). m.choices) here in
-      omega (arith, behind_at recorded ring (length ring - 1) o.oldest early o.last, oldest_used rules.limits (items_in rules.bounds entries) plan image now ring o.oldest k.chained o.last, stands, marked)
+  pub noted_low : {rules : Rules} {image : Image} {entries : List Entry} {plan : List Override} {now : Path} {ring : List Path} {cpu : CpuState R} {log : Log} {ledger : Ledger} (marks : Marks) {recorded : ℕ}
+      → IfSome (oldest_of cpu.slots.saved) (λ one. marks ≡ marks_of one.state) → KeepsRing rules image entries plan now ring cpu log ledger → AreBehind recorded ring → recorded ≤ marks.choices
+  noted_low {rules = rules} {image = image} {entries = entries} {plan = plan} {now = now} {ring = ring} marks {recorded = recorded} is k early =
+      let o = oldest_kept k in
+      let marked : marks.choices ≡ o.oldest.state.machine.allocations = ap (λ (m : Marks). m.choices) (at_oldest o (λ one. marks ≡ marks_of one.state) is) ∙ ap (λ (s : Standing). s.guest.machine.allocations) o.stands in
+      omega (arith, behind_at recorded ring (length ring - 1) o.oldest early o.last, oldest_used rules.limits (items_in rules.bounds entries) plan image now ring o.oldest k.chained o.last, marked)
 
   -- a session whose notes failed at those answers of the allocator
   pub cut_short : {rules : Rules} {image : Image} {entries : List Entry} {plan : List Override} {now : Path} {ring : List Path} {session : SessionState R} {before after : Option Unnoted} (marks : Marks)
-      → IfSome (slice_get session.cpu.slots.saved 0) (λ one. marks ≡ marks_of one.state) → KeepsRing rules image entries plan now ring session.cpu session.ring session.log session.replies
+      → IfSome (oldest_of session.cpu.slots.saved) (λ one. marks ≡ marks_of one.state) → KeepsRing rules image entries plan now ring session.cpu session.log session.replies
       → FailsUpTo before after marks.choices session.recorded session.choices → IsCutShort before after session
-  cut_short {rules = rules} {image = image} {entries = entries} {plan = plan} {now = now} {ring = ring} {session = session} {before = before} {after = after} marks is k fails =
-      let o = oldest_of rules image entries plan now ring session.cpu session.ring session.log session.replies k in
+  cut_short {rules = rules} {entries = entries} {ring = ring} {session = session} {before = before} {after = after} marks is k fails =
+      let o = oldest_kept k in
       let kept = kept_at rules entries session.log session.replies ring (length ring - 1) o.oldest k.kept o.last in
-      let here : marks ≡ marks_of o.slot.state = subst (λ (s : Option (Saved Standing)). IfSome s (λ one. marks ≡ marks_of one.state)) o.first is in
-      let taken : o.slot.state.guest.machine.taken ≡ o.oldest.state.machine.taken = ap (λ (s : Standing). s.guest.machine.taken) o.stands in
-      let sent : o.slot.state.sends ≡ length o.oldest.state.sends = ap (λ (s : Standing). s.sends) o.stands in
       record {
-        items = subst (λ (s : Option (Saved Standing)). IfSome s (λ oldest. session.log.first ≤ oldest.state.guest.machine.taken)) (sym o.first) (omega (arith, taken, kept.items));
-        recorded =
-            subst (λ (s : Option (Saved Standing)). IfSome s (λ oldest. FailsUpTo before after oldest.state.guest.machine.allocations session.recorded session.choices)) (sym o.first)
-            (subst (λ n. FailsUpTo before after n session.recorded session.choices) (ap (λ (m : Marks). m.choices) here) fails);
-        sends = subst (λ (s : Option (Saved Standing)). IfSome s (λ oldest. session.replies.first ≤ oldest.state.sends)) (sym o.first) (omega (arith, sent, kept.sends));
+        items = of_oldest o (λ oldest. session.log.first ≤ oldest.state.guest.machine.taken) (omega (arith, ap taken_in o.stands, kept.items));
+        recorded = IfSome_then (oldest_of session.cpu.slots.saved) is (λ one here. subst (λ n. FailsUpTo before after n session.recorded session.choices) (ap (λ (m : Marks). m.choices) here) fails);
+        sends = of_oldest o (λ oldest. session.replies.first ≤ oldest.state.sends) (omega (arith, ap (λ (s : Standing). s.sends) o.stands, kept.sends));
       }
 
   -- it has recorded as many, and has the same others
   pub cut_as : {before after : Option Unnoted} (session : SessionState R) {recorded : ℕ} {choices : List Choice} → recorded ≡ session.recorded → choices ≡ session.choices → IsCutShort before after session
       → IsCutShort before after (record session { recorded = recorded; choices = choices })
-  cut_as {before = before} {after = after} session {recorded = recorded} {choices = choices} same alike cut =
-      subst (λ n. IsCutShort before after (record session { recorded = n; choices = choices })) (sym same)
-      (subst (λ (cs : List Choice). IsCutShort before after (record session { choices = cs })) (sym alike) cut)
+  cut_as {before = before} {after = after} session same alike cut =
+      subst (λ (at : ℕ × List Choice). IsCutShort before after (record session { recorded = at.0; choices = at.1 })) (λ i. (sym same i, sym alike i)) cut
 
   -- a session that gave up what lies before its oldest checkpoint
   pub forgot_up : {rules : Rules} {image : Image} {entries : List Entry} {plan : List Override} {now : Path} {ring : List Path} {old : SessionState R} {log : Log} {ledger : Ledger}
-      → KeepsRing rules image entries plan now ring old.cpu old.ring old.log old.replies
-      → IfSome (slice_get old.cpu.slots.saved 0) (λ oldest. log ≡ logs.trimmed old.log oldest.state.guest.machine.taken) → IfSome (slice_get old.cpu.slots.saved 0) (λ oldest. ledger ≡ ledgers.trimmed old.replies oldest.state.sends)
+      → KeepsRing rules image entries plan now ring old.cpu old.log old.replies
+      → IfSome (oldest_of old.cpu.slots.saved) (λ oldest. log ≡ logs.trimmed old.log oldest.state.guest.machine.taken) → IfSome (oldest_of old.cpu.slots.saved) (λ oldest. ledger ≡ ledgers.trimmed old.replies oldest.state.sends)
       → IsRecorded old → IsTrimmed (record old { log = log; replies = ledger })
-  forgot_up {rules = rules} {image = image} {entries = entries} {plan = plan} {now = now} {ring = ring} {old = old} {log = log} {ledger = ledger} k cut less recorded =
-      let o = oldest_of rules image entries plan now ring old.cpu old.ring old.log old.replies k in
+  forgot_up {rules = rules} {entries = entries} {ring = ring} {old = old} {log = log} {ledger = ledger} k cut less recorded =
+      let o = oldest_kept k in
       let kept = kept_at rules entries old.log old.replies ring (length ring - 1) o.oldest k.kept o.last in
-      let here : log ≡ logs.trimmed old.log o.slot.state.guest.machine.taken = subst (λ (s : Option (Saved Standing)). IfSome s (λ oldest. log ≡ logs.trimmed old.log oldest.state.guest.machine.taken)) o.first cut in
-      let left : ledger ≡ ledgers.trimmed old.replies o.slot.state.sends = subst (λ (s : Option (Saved Standing)). IfSome s (λ oldest. ledger ≡ ledgers.trimmed old.replies oldest.state.sends)) o.first less in
-      let first : log.first ≡ max old.log.first o.slot.state.guest.machine.taken = ap (λ (l : Log). l.first) here in
-      let taken : o.slot.state.guest.machine.taken ≡ o.oldest.state.machine.taken = ap (λ (s : Standing). s.guest.machine.taken) o.stands in
-      let sent : o.slot.state.sends ≡ length o.oldest.state.sends = ap (λ (s : Standing). s.sends) o.stands in
+      let first : log.first ≡ max old.log.first o.checkpoint.state.guest.machine.taken = ap (λ (l : Log). l.first) (at_oldest o (λ oldest. log ≡ logs.trimmed old.log oldest.state.guest.machine.taken) cut) in
+      let left : ledger ≡ ledgers.trimmed old.replies o.checkpoint.state.sends = at_oldest o (λ oldest. ledger ≡ ledgers.trimmed old.replies oldest.state.sends) less in
       record {
-        items = subst (λ (s : Option (Saved Standing)). IfSome s (λ oldest. log.first ≡ oldest.state.guest.machine.taken)) (sym o.first) (omega (arith, first, taken, kept.items));
+        items = of_oldest o (λ oldest. log.first ≡ oldest.state.guest.machine.taken) (omega (arith, first, ap taken_in o.stands, kept.items));
         recorded = recorded;
-        sends = subst (λ (s : Option (Saved Standing)). IfSome s (λ oldest. ledger.first ≤ oldest.state.sends)) (sym o.first) (omega (arith, ap (λ (l : Ledger). l.first) left, sent, kept.sends));
+        sends = of_oldest o (λ oldest. ledger.first ≤ oldest.state.sends) (omega (arith, ap (λ (l : Ledger). l.first) left, ap (λ (s : Standing). s.sends) o.stands, kept.sends));
       }
 
   -- at the start all is given up that lies before it: nothing
-  pub start_trimmed : {rules : Rules} {image : Image} {entries : List Entry} {plan : List Override} {now : Path} {ring : List Path} {session : SessionState R} → KeepsRing rules image entries plan now ring session.cpu session.ring session.log session.replies
-      → (oldest : Path) → slice_get ring (length ring - 1) ≡ Some oldest → session.log.first ≡ oldest.state.machine.taken → session.recorded ≡ oldest.state.machine.allocations → session.replies.first ≤ length oldest.state.sends → IsTrimmed session
-  start_trimmed {rules = rules} {image = image} {entries = entries} {plan = plan} {now = now} {ring = ring} {session = session} k oldest last items recorded sends =
-      let o = oldest_of rules image entries plan now ring session.cpu session.ring session.log session.replies k in
-      let stands : o.slot.state ≡ standing_of oldest = o.stands ∙ ap standing_of (same_Some o.oldest oldest (sym o.last ∙ last)) in
+  pub start_trimmed : {ring : List Path} {session : SessionState R} → HasOldest ring session.cpu.slots.saved → (oldest : Path) → oldest_of ring ≡ Some oldest
+      → session.log.first ≡ oldest.state.machine.taken → session.recorded ≡ oldest.state.machine.allocations → session.replies.first ≤ length oldest.state.sends → IsTrimmed session
+  start_trimmed {session = session} o oldest last items recorded sends =
+      let stands : o.checkpoint.state ≡ standing_of oldest = o.stands ∙ ap standing_of (same_Some o.oldest oldest (sym o.last ∙ last)) in
       record {
-        items = subst (λ (s : Option (Saved Standing)). IfSome s (λ oldest. session.log.first ≡ oldest.state.guest.machine.taken)) (sym o.first) (items ∙ sym (ap (λ (s : Standing). s.guest.machine.taken) stands));
-        recorded = subst (λ (s : Option (Saved Standing)). IfSome s (λ oldest. session.recorded ≡ oldest.state.guest.machine.allocations)) (sym o.first) (recorded ∙ sym (ap (λ (s : Standing). s.guest.machine.allocations) stands));
-        sends = subst (λ (s : Option (Saved Standing)). IfSome s (λ oldest. session.replies.first ≤ oldest.state.sends)) (sym o.first) (let sent : o.slot.state.sends ≡ length oldest.state.sends = ap (λ (s : Standing). s.sends) stands in omega (arith, sent, sends));
+        items = of_oldest o (λ oldest. session.log.first ≡ oldest.state.guest.machine.taken) (items ∙ sym (ap taken_in stands));
+        recorded = of_oldest o (λ oldest. session.recorded ≡ oldest.state.guest.machine.allocations) (recorded ∙ sym (ap (λ (s : Standing). s.guest.machine.allocations) stands));
+        sends = of_oldest o (λ oldest. session.replies.first ≤ oldest.state.sends) (omega (arith, ap (λ (s : Standing). s.sends) stands, sends));
       }
+
+  -- the oldest checkpoint used the answers of the allocator that its run has
+  used_there : {rules : Rules} {image : Image} {chapters : List Chapter} {entries : List Entry} {recoveries : List Recovery} {survivor : Survivor} {session : SessionState R} (h : HoldsCheckpoints rules image chapters entries recoveries survivor session)
+      → (oldest_held h).checkpoint.state.guest.machine.allocations ≡ length (oldest_held h).oldest.choices
+  used_there {rules = rules} {image = image} {entries = entries} {survivor = survivor} h =
+      let o = oldest_held h in
+      ap (λ (s : Standing). s.guest.machine.allocations) o.stands ∙ oldest_used rules.limits (items_in rules.bounds entries) survivor.plan image survivor.now h.paths o.oldest h.chained o.last
+
+  -- what a session gave up and recorded, by the run of its oldest checkpoint
+  trimmed_there : {rules : Rules} {image : Image} {chapters : List Chapter} {entries : List Entry} {recoveries : List Recovery} {survivor : Survivor} {session : SessionState R} → IsTrimmed session → (h : HoldsCheckpoints rules image chapters entries recoveries survivor session)
+      → (session.log.first ≡ (oldest_held h).oldest.state.machine.taken) × (session.recorded ≡ length (oldest_held h).oldest.choices) × (session.replies.first ≤ length (oldest_held h).oldest.state.sends)
+  trimmed_there {session = session} trimmed h =
+      let o = oldest_held h in
+      let sends : session.replies.first ≤ o.checkpoint.state.sends = at_oldest o (λ oldest. session.replies.first ≤ oldest.state.sends) trimmed.sends in (
+        at_oldest o (λ oldest. session.log.first ≡ oldest.state.guest.machine.taken) trimmed.items ∙ ap taken_in o.stands,
+        at_oldest o (λ oldest. session.recorded ≡ oldest.state.guest.machine.allocations) trimmed.recorded ∙ used_there h,
+        omega (arith, sends, ap (λ (s : Standing). s.sends) o.stands),
+      )
 
   -- what a session that was broken off leaves
   pub left_off : {rules : Rules} {image : Image} {telling : Telling} {session : SessionState R} {why : SessionBreak} → IsTrimmed session → HoldsCheckpoints rules image telling.account.earlier (before_end telling.account) telling.recoveries telling.account.survivor session
       → HandledAt (stop.Breaks why) rules image (keeping_of session) telling.account.earlier (before_end telling.account) telling.recoveries telling.account.survivor (stands_of session.cpu.slots.saved)
       → HasLeft rules image telling session (stop.Breaks why)
-  left_off {rules = rules} {image = image} {telling = telling} {session = session} trimmed h requests =
-      let o = oldest_held h in
-      let used : o.oldest.state.machine.allocations ≡ length o.oldest.choices = oldest_used rules.limits (items_in rules.bounds (before_end telling.account)) telling.account.survivor.plan image telling.account.survivor.now h.paths o.oldest h.chained o.last in
-      let items : session.log.first ≡ o.slot.state.guest.machine.taken = subst (λ (s : Option (Saved Standing)). IfSome s (λ oldest. session.log.first ≡ oldest.state.guest.machine.taken)) o.first trimmed.items in
-      let recorded : session.recorded ≡ o.slot.state.guest.machine.allocations = subst (λ (s : Option (Saved Standing)). IfSome s (λ oldest. session.recorded ≡ oldest.state.guest.machine.allocations)) o.first trimmed.recorded in
-      record {
-        holds = h;
-        oldest = o.oldest;
-        oldest_is = o.last;
-        items = items ∙ ap (λ (s : Standing). s.guest.machine.taken) o.stands;
-        sends = tt;
-        stands = tt;
-        recorded = recorded ∙ (ap (λ (s : Standing). s.guest.machine.allocations) o.stands ∙ used);
-        requests = requests;
-      }
+  left_off trimmed h requests =
+      let there = trimmed_there trimmed h in
+      record { holds = h; oldest = (oldest_held h).oldest; oldest_is = (oldest_held h).last; items = there.0; sends = tt; stands = tt; recorded = there.1; requests = requests }
 
   -- so it is at a fault of its notes and at want of memory, where all was given up and recorded
   kept_whole : {rules : Rules} {image : Image} {before now : Option Unnoted} {telling : Telling} {session : SessionState R} → IsTrimmed session → HoldsCheckpoints rules image telling.account.earlier (before_end telling.account) telling.recoveries telling.account.survivor session
       → HasKept rules image before now telling session
-  kept_whole {rules = rules} {image = image} {telling = telling} {session = session} trimmed h =
-      let o = oldest_held h in
-      let used : o.oldest.state.machine.allocations ≡ length o.oldest.choices = oldest_used rules.limits (items_in rules.bounds (before_end telling.account)) telling.account.survivor.plan image telling.account.survivor.now h.paths o.oldest h.chained o.last in
-      let items : session.log.first ≡ o.slot.state.guest.machine.taken = subst (λ (s : Option (Saved Standing)). IfSome s (λ oldest. session.log.first ≡ oldest.state.guest.machine.taken)) o.first trimmed.items in
-      let recorded : session.recorded ≡ o.slot.state.guest.machine.allocations = subst (λ (s : Option (Saved Standing)). IfSome s (λ oldest. session.recorded ≡ oldest.state.guest.machine.allocations)) o.first trimmed.recorded in
-      let sends : session.replies.first ≤ o.slot.state.sends = subst (λ (s : Option (Saved Standing)). IfSome s (λ oldest. session.replies.first ≤ oldest.state.sends)) o.first trimmed.sends in
-      let all_items : session.log.first ≡ o.oldest.state.machine.taken = items ∙ ap (λ (s : Standing). s.guest.machine.taken) o.stands in
-      let all_recorded : session.recorded ≡ length o.oldest.choices = recorded ∙ (ap (λ (s : Standing). s.guest.machine.allocations) o.stands ∙ used) in
-      record {
-        holds = h;
-        oldest = o.oldest;
-        oldest_is = o.last;
-        items = omega (arith, all_items);
-        sends = omega (arith, sends, ap (λ (s : Standing). s.sends) o.stands);
-        recorded = omega (arith, all_recorded);
-        up_to = inl (all_items, all_recorded);
-      }
+  kept_whole trimmed h =
+      let there = trimmed_there trimmed h in
+      record { holds = h; oldest = (oldest_held h).oldest; oldest_is = (oldest_held h).last; items = omega (arith, there.0); sends = there.2; recorded = omega (arith, there.1); up_to = inl (there.0, there.1) }
 
   -- and where noting failed before that
   kept_short : {rules : Rules} {image : Image} {before now : Option Unnoted} {telling : Telling} {session : SessionState R} → IsCutShort before now session → HoldsCheckpoints rules image telling.account.earlier (before_end telling.account) telling.recoveries telling.account.survivor session
       → HasKept rules image before now telling session
-  kept_short {rules = rules} {image = image} {before = before} {now = now} {telling = telling} {session = session} cut h =
+  kept_short {before = before} {now = now} {session = session} cut h =
       let o = oldest_held h in
-      let used : o.oldest.state.machine.allocations ≡ length o.oldest.choices = oldest_used rules.limits (items_in rules.bounds (before_end telling.account)) telling.account.survivor.plan image telling.account.survivor.now h.paths o.oldest h.chained o.last in
-      let items : session.log.first ≤ o.slot.state.guest.machine.taken = subst (λ (s : Option (Saved Standing)). IfSome s (λ oldest. session.log.first ≤ oldest.state.guest.machine.taken)) o.first cut.items in
-      let sends : session.replies.first ≤ o.slot.state.sends = subst (λ (s : Option (Saved Standing)). IfSome s (λ oldest. session.replies.first ≤ oldest.state.sends)) o.first cut.sends in
-      let fails : FailsUpTo before now o.slot.state.guest.machine.allocations session.recorded session.choices =
-      subst (λ (s : Option (Saved Standing)). IfSome s (λ oldest. FailsUpTo before now oldest.state.guest.machine.allocations session.recorded session.choices)) o.first cut.recorded in
+      let items : session.log.first ≤ o.checkpoint.state.guest.machine.taken = at_oldest o (λ oldest. session.log.first ≤ oldest.state.guest.machine.taken) cut.items in
+      let sends : session.replies.first ≤ o.checkpoint.state.sends = at_oldest o (λ oldest. session.replies.first ≤ oldest.state.sends) cut.sends in
       let up_to : FailsUpTo before now (length o.oldest.choices) session.recorded session.choices =
-      subst (λ n. FailsUpTo before now n session.recorded session.choices) (ap (λ (s : Standing). s.guest.machine.allocations) o.stands ∙ used) fails in
+      subst (λ n. FailsUpTo before now n session.recorded session.choices) (used_there h) (at_oldest o (λ oldest. FailsUpTo before now oldest.state.guest.machine.allocations session.recorded session.choices) cut.recorded) in
       record {
         holds = h;
         oldest = o.oldest;
         oldest_is = o.last;
-        items = omega (arith, items, ap (λ (s : Standing). s.guest.machine.taken) o.stands);
+        items = omega (arith, items, ap taken_in o.stands);
         sends = omega (arith, sends, ap (λ (s : Standing). s.sends) o.stands);
         recorded = let more = up_to.more in omega (arith, more);
         up_to = inr up_to;
@@ -246,26 +227,25 @@ module _ {R : Type 0} where
       → HandledAt (stop.Ends end) rules image (keeping_of new) telling.account.earlier (before_end telling.account) telling.recoveries telling.account.survivor (stands_of new.cpu.slots.saved)
       → UnlessGaveUp end (old.cpu.slots.live ≡ standing_of telling.account.survivor.now) → new.cpu ≡ old.cpu → keeping_of new ≡ keeping_of old → new.log ≡ old.log → ledger.first ≡ old.replies.first
       → ledger.kept ≡ drop ledger.first telling.account.survivor.now.state.sends → ledger.first ≤ length telling.account.survivor.now.state.sends → AreBetween 0 telling.account.survivor.now.state.machine.taken telling.account.survivor.now.state.sends → telling.account.survivor.now.state.machine.taken ≤ until → next_part ledger until ≡ None
-      → IfSome (slice_get old.cpu.slots.saved 0) (λ oldest. new.replies ≡ ledgers.trimmed ledger oldest.state.sends) → HasLeft rules image telling new (stop.Ends end)
+      → IfSome (oldest_of old.cpu.slots.saved) (λ oldest. new.replies ≡ ledgers.trimmed ledger oldest.state.sends) → HasLeft rules image telling new (stop.Ends end)
   left_end {rules = rules} {image = image} {telling = telling} {old = old} {new = new} ledger {end = end} trimmed h requests live guest keeping log first kept counted timed low none less =
-      let items : List Item = items_in rules.bounds (before_end telling.account) in
+      let now : Path = telling.account.survivor.now in
       let o = oldest_held h in
-      let before = (after_oldest rules.limits items telling.account.survivor.plan image telling.account.survivor.now h.paths o.oldest h.chained o.last).0 in
-      let whole : old.log.first ≡ o.slot.state.guest.machine.taken = subst (λ (s : Option (Saved Standing)). IfSome s (λ oldest. old.log.first ≡ oldest.state.guest.machine.taken)) o.first trimmed.items in
-      let early : old.replies.first ≤ o.slot.state.sends = subst (λ (s : Option (Saved Standing)). IfSome s (λ oldest. old.replies.first ≤ oldest.state.sends)) o.first trimmed.sends in
-      let left : new.replies ≡ ledgers.trimmed ledger o.slot.state.sends = subst (λ (s : Option (Saved Standing)). IfSome s (λ oldest. new.replies ≡ ledgers.trimmed ledger oldest.state.sends)) o.first less in
-      let first_send : new.replies.first ≡ ledger.first + min (o.slot.state.sends - ledger.first) (settled ledger) = ap (λ (l : Ledger). l.first) left in
-      let all : settled ledger ≡ length ledger.kept = all_settled ledger telling.account.survivor.now.state.sends none kept timed low in
-      let many : length ledger.kept ≡ length telling.account.survivor.now.state.sends - ledger.first = ap length kept ∙ length-drop ledger.first telling.account.survivor.now.state.sends in
-      let sent : o.slot.state.sends ≡ length o.oldest.state.sends = ap (λ (s : Standing). s.sends) o.stands in
+      let before = (after_oldest rules.limits (items_in rules.bounds (before_end telling.account)) telling.account.survivor.plan image now h.paths o.oldest h.chained o.last).0 in
+      let there = trimmed_there trimmed h in
+      let left : new.replies ≡ ledgers.trimmed ledger o.checkpoint.state.sends = at_oldest o (λ oldest. new.replies ≡ ledgers.trimmed ledger oldest.state.sends) less in
+      let first_send : new.replies.first ≡ ledger.first + min (o.checkpoint.state.sends - ledger.first) (settled ledger) = ap (λ (l : Ledger). l.first) left in
+      let all : settled ledger ≡ length ledger.kept = all_settled ledger now.state.sends none kept timed low in
+      let many : length ledger.kept ≡ length now.state.sends - ledger.first = ap length kept ∙ length-drop ledger.first now.state.sends in
+      let early = there.2 in
       let most = before.sends in
       record {
         holds = held_by rules image telling.account.earlier (before_end telling.account) telling.recoveries telling.account.survivor old new (ap (λ (cpu : CpuState R). cpu.slots.saved) guest) keeping h;
         oldest = o.oldest;
         oldest_is = o.last;
-        items = ap (λ (l : Log). l.first) log ∙ (whole ∙ ap (λ (s : Standing). s.guest.machine.taken) o.stands);
-        sends = omega (arith, first, early, first_send, all, many, sent, most);
-        stands = live_by end old.cpu new.cpu telling.account.survivor.now guest live;
+        items = ap (λ (l : Log). l.first) log ∙ there.0;
+        sends = omega (arith, first, early, first_send, all, many, ap (λ (s : Standing). s.sends) o.stands, most);
+        stands = live_by end old.cpu new.cpu now guest live;
         recorded = tt;
         requests = requests;
       }

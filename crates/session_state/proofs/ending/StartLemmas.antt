@@ -9,12 +9,9 @@ use Rattle.std.proofs.lemmas.Nat.{mul-le}
 use Rattle.run_history.specs.Machine as M
 use Rattle.session_history.specs.Heeding as H
 use Rattle.session_history.proofs.Accounts.{nothing_is_sound}
-use Rattle.session_state.specs.declared.options.Options.{Options}
-use Rattle.session_state.proofs.Lemmas.{in_force_by, none_noted, tells_none}
-use Rattle.session_state.proofs.Terms.{Answer, AreTables, Bool, Bounds, CanGive, Checkpoints, CpuState, Framing, GoesFurther, Grew, HasSameFrame, HasServedLink, HasServedOn, HasWatched, Heap, Image, IsBegun, IsBetween, IsCounted, IsFresh, IsTrimmed, KeepsReplies, KeepsRing, LeavesBy, Ledger, List, MayServe, None, Noted, Option, Path, Rules, Seen, Send, SessionState, Shown, Since, Standing, Stands, StaysKnown, Stop, Story, Try, [], alone, ap, arith, drop, false, handled_first, in_force_none, inl, inr, items_in, keeping_by, keeping_for, keeping_of, length, no_connections, no_replies, none_followed, nothing_before, origin, outcome_of, recovered_first, refl, replicate, rules_by, rules_in, rules_of, runs_start, served_same, serving_first, slice_get, standing_of, stands_of, subst, suc, sym, take, tells_nothing, told_since, true, zero, ℕ, ◌*◌, ◌++◌, ◌+◌, ◌-◌, ◌/◌, ◌<◌, ◌^◌, ◌∙◌, ◌∷◌, ◌≡◌, ◌≤◌}
-use Rattle.session_state.proofs.ending.KnownLemmas.{known_same}
+use Rattle.session_state.proofs.Lemmas.{in_force_by, none_noted, tells_none, watched_kept, known_same}
+use Rattle.session_state.proofs.Terms.{Bool, List, None, Option, [], ap, arith, drop, false, inl, inr, length, refl, subst, suc, sym, take, true, zero, ℕ, ◌*◌, ◌++◌, ◌+◌, ◌-◌, ◌/◌, ◌<◌, ◌^◌, ◌∙◌, ◌∷◌, ◌≡◌, ◌≤◌, replicate, slice_get, Send, tells_nothing, Grew, IsFresh, Seen, Heap, Framing, Log, Ledger, no_replies, Image, Answer, no_connections, Path, origin, runs_start, CpuState, standing_of, Standing, served_same, serving_first, items_in, nothing_before, KeepsReplies, Rules, Stands, CanGive, Try, Noted, Shown, recovered_first, in_force_none, oldest_kept, handled_first, none_followed, alone, keeping_by, stands_of, KeepsRing, Options, keeping_for, rules_in, rules_of, IsBegun, SessionState, AreTables, HasWatched, IsTrimmed, LeavesBy, keeping_of, IsBetween, Since, Story, told_since, GoesFurther, HasSameFrame, HasServedLink, HasServedOn, IsCounted, MayServe, StaysKnown, outcome_of, rules_by}
 use Rattle.session_state.proofs.ending.LeavingLemmas.{start_trimmed}
-use Rattle.session_state.proofs.recovering.TableLemmas.{watched_kept}
 use Rattle.session_state.proofs.standing.FrameLemmas.{same_rules}
 
 -- the story of no event
@@ -84,18 +81,18 @@ module _ {R : Type 0} where
   pub begun_keeping : {image : Image} {session : SessionState R} → IsBegun image session.options session.cpu.rule session → keeping_of session ≡ keeping_for session.options
   begun_keeping {image = image} {session = session} begun =
       let same : image.window / 4096 ≡ session.options.window / 4096 = ap (λ n. n / 4096) (sym begun.window) in
-      λ i. record { ring = (begun.ring i).capacity; every = session.options.every; pages = (begun.cpu.pages_are ∙ same) i; frames = (begun.cpu.frames_are ∙ ap (λ n. session.options.frames * n) same) i }
+      λ i. record { ring = begun.cpu.count_is i; every = session.options.every; pages = (begun.cpu.pages_are ∙ same) i; frames = (begun.cpu.frames_are ∙ ap (λ n. session.options.frames * n) same) i }
 
   pub starts_none : {image : Image} {session : SessionState R} → IsBegun image session.options session.cpu.rule session → session.cpu.slots.live.guest.machine.taken ≡ 0
   unfolding M.start M.start_machine
   starts_none begun = ap (λ (s : Standing). s.guest.machine.taken) begun.cpu.live_is
 
   -- it begins with its start as its first checkpoint
-  starts_saved : (permits : R → Heap → ℕ → ℕ → Bool) {image : Image} {seen : Seen} {noted : Noted} {tables : Option (List (List Try))} {session : SessionState R} {cpu : CpuState R} {ring : Checkpoints} → IsBegun image session.options session.cpu.rule session → IsFresh seen.phases
-      → KeepsRing (rules_of session.options (permits session.cpu.rule)) image [] [] (origin image) (origin image ∷ []) cpu ring session.log session.replies → cpu.slots.live ≡ session.cpu.slots.live
-      → stands_of cpu.slots.saved ≡ alone 0 cpu.slots.pages → IsBetween (rules_of session.options (permits session.cpu.rule)) image (told_since seen.told noted noted tables tables 0) seen (record session { cpu = cpu; ring = ring })
+  starts_saved : (permits : R → Heap → ℕ → ℕ → Bool) {image : Image} {seen : Seen} {noted : Noted} {tables : Option (List (List Try))} {session : SessionState R} {cpu : CpuState R} → IsBegun image session.options session.cpu.rule session → IsFresh seen.phases
+      → KeepsRing (rules_of session.options (permits session.cpu.rule)) image [] [] (origin image) (origin image ∷ []) cpu session.log session.replies → cpu.slots.live ≡ session.cpu.slots.live
+      → stands_of cpu.slots.saved ≡ alone 0 cpu.slots.pages → IsBetween (rules_of session.options (permits session.cpu.rule)) image (told_since seen.told noted noted tables tables 0) seen (record session { cpu = cpu })
   unfolding M.start M.start_machine H.heeded_behind
-  starts_saved permits {image = image} {noted = noted} {tables = tables} {session = session} {cpu = cpu} {ring = ring} begun fresh keeps live stands =
+  starts_saved permits {image = image} {noted = noted} {tables = tables} {session = session} {cpu = cpu} begun fresh keeps live stands =
       let rules : Rules = rules_of session.options (permits session.cpu.rule) in
       let start : IsStart image rules.limits.budget = runs_start image rules.limits.budget in
       record {
@@ -128,7 +125,7 @@ module _ {R : Type 0} where
             events = begun.no_events;
             phases_are = fresh;
           };
-          saved = record { paths = origin image ∷ []; ring = keeps; early = (omega (arith, begun.none_recorded), tt); requests = inl (handled_first rules image (keeping_by ring.capacity session.options.every cpu.slots) [] [] (first_story image).survivor (stands_of cpu.slots.saved) (none_followed rules image (keeping_by ring.capacity session.options.every cpu.slots) refl).0 stands); in_force = in_force_by begun.plain begun.until_none (in_force_none 0); past = inl (let none : session.until ≡ 0 = begun.until_none in omega (arith, none)) };
+          saved = record { paths = origin image ∷ []; ring = keeps; early = (omega (arith, begun.none_recorded), tt); requests = inl (handled_first rules image (keeping_by session.options.every cpu.slots) [] [] (first_story image).survivor (stands_of cpu.slots.saved) (none_followed rules image (keeping_by session.options.every cpu.slots) refl).0 stands); in_force = in_force_by begun.plain begun.until_none (in_force_none 0); past = inl (let none : session.until ≡ 0 = begun.until_none in omega (arith, none)) };
           passed = record { replies = subst (λ (ledger : Ledger). KeepsReplies rules.bounds [] None [] ledger) (sym begun.replies) (first_replies session.options.frame session.options.max_items session.options.max_events); no_trial = ap (λ (ledger : Ledger). ledger.trial) begun.replies; done = λ send stands due. absurd due };
           latest = λ last found. absurd (let no : ⊥ = cc in no);
         };
@@ -136,11 +133,11 @@ module _ {R : Type 0} where
       }
 
   pub starts_between : (permits : R → Heap → ℕ → ℕ → Bool) {image : Image} {seen : Seen} {noted : Noted} {tables : Option (List (List Try))} {session after : SessionState R} → IsBegun image session.options session.cpu.rule session → IsFresh seen.phases
-      → ((rules : Rules) → KeepsRing rules image [] [] (origin image) (origin image ∷ []) after.cpu after.ring session.log session.replies) → after ≡ record session { cpu = after.cpu; ring = after.ring } → after.cpu.slots.live ≡ session.cpu.slots.live
+      → ((rules : Rules) → KeepsRing rules image [] [] (origin image) (origin image ∷ []) after.cpu session.log session.replies) → after ≡ record session { cpu = after.cpu } → after.cpu.slots.live ≡ session.cpu.slots.live
       → stands_of after.cpu.slots.saved ≡ alone 0 after.cpu.slots.pages → IsBetween (rules_by permits session) image (told_since seen.told noted noted tables tables 0) seen after
   starts_between permits {image = image} {seen = seen} {noted = noted} {tables = tables} {session = session} {after = after} begun fresh keeps same live stands =
       subst (λ (s : SessionState R). IsBetween (rules_by permits session) image (told_since seen.told noted noted tables tables 0) seen s) (sym same)
-      (subst (λ (rules : Rules). IsBetween rules image (told_since seen.told noted noted tables tables 0) seen (record session { cpu = after.cpu; ring = after.ring })) (sym (begun_rules permits begun))
+      (subst (λ (rules : Rules). IsBetween rules image (told_since seen.told noted noted tables tables 0) seen (record session { cpu = after.cpu })) (sym (begun_rules permits begun))
       (starts_saved permits begun fresh (keeps (rules_of session.options (permits session.cpu.rule))) live stands))
 
   -- the counts of a session between two events are its guest's
@@ -181,18 +178,13 @@ module _ {R : Type 0} where
 
   -- nothing lies before its first checkpoint
   pub starts_trimmed : {rules : Rules} {image : Image} {session after : SessionState R} → IsBegun image session.options session.cpu.rule session
-      → KeepsRing rules image [] [] (origin image) (origin image ∷ []) after.cpu after.ring session.log session.replies → after ≡ record session { cpu = after.cpu; ring = after.ring } → IsTrimmed after
+      → KeepsRing rules image [] [] (origin image) (origin image ∷ []) after.cpu session.log session.replies → after ≡ record session { cpu = after.cpu } → IsTrimmed after
   unfolding M.start M.start_machine
-  starts_trimmed {rules = rules} {image = image} {session = session} {after = after} begun keeps same =
-      let log : after.log ≡ session.log = ap (λ (s : SessionState R). s.log) same in
-      let replies : after.replies ≡ session.replies = ap (λ (s : SessionState R). s.replies) same in
-      let first : after.log.first ≡ 0 = ap (λ (l : logs.Log). l.first) (log ∙ begun.log) in
+  starts_trimmed {image = image} {after = after} begun keeps same =
+      let first : after.log.first ≡ 0 = ap (λ (s : SessionState R). s.log.first) same ∙ ap (λ (l : logs.Log). l.first) begun.log in
       let recorded : after.recorded ≡ 0 = ap (λ (s : SessionState R). s.recorded) same ∙ begun.none_recorded in
-      let sends : after.replies.first ≡ 0 = ap (λ (l : Ledger). l.first) (replies ∙ begun.replies) in
-      start_trimmed
-      (subst (λ (l : logs.Log). KeepsRing rules image [] [] (origin image) (origin image ∷ []) after.cpu after.ring l after.replies) (sym log)
-      (subst (λ (l : Ledger). KeepsRing rules image [] [] (origin image) (origin image ∷ []) after.cpu after.ring session.log l) (sym replies) keeps))
-      (origin image) (ap (slice_get (origin image ∷ [])) (let none : length (origin image ∷ []) - 1 ≡ 0 = omega arith in none)) first recorded (omega (arith, sends))
+      let sends : after.replies.first ≡ 0 = ap (λ (s : SessionState R). s.replies.first) same ∙ ap (λ (l : Ledger). l.first) begun.replies in
+      start_trimmed (oldest_kept keeps) (origin image) (ap (slice_get (origin image ∷ [])) (let none : length (origin image ∷ []) - 1 ≡ 0 = omega arith in none)) first recorded (omega (arith, sends))
 
   pub frame_then : {old mid new : SessionState R} → HasSameFrame old mid → HasSameFrame mid new → HasSameFrame old new
   frame_then first second = record { options = second.options ∙ first.options; rule = second.rule ∙ first.rule; before = second.before ∙ first.before; hold = second.hold ∙ first.hold }

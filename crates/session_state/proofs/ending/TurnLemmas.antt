@@ -4,7 +4,7 @@ use Rattle.session_history.specs.declared.ends.SessionEnd.TheVariants as session
 use Rattle.guest_cpu.specs.declared.event.Event.TheVariants as step
 use Rattle.guest_cpu.specs.Running.{RunsBy}
 use Rattle.session_state.proofs.Lemmas.{held_by, held_of, answers_as, broken_running, run_asks, run_exits, run_fails}
-use Rattle.session_state.proofs.Terms.{AllocError, Bool, Err, List, Ok, Result, ap, arith, cond, inl, inr, ltb, refl, subst, sym, ℕ, ◌+◌, ◌<◌, ◌∙◌, ◌≡◌, ◌≤◌, IfOk, slice_get, Seen, Choice, Heap, Env, Plain, Saved, Image, Cause, Path, env_at, limits_of, Event, runs_serve, runs_write, CpuState, live_of, with_live, Standing, turn, RunsWriting, Stop, items_in, Rules, SessionState, env_of, KeepsOldest, keeping_of, IsBetween, IsBrokenOff, IsEnding, IsFailing, IsWaitingFor, Since, entries, ComesBetween, GoesFurther, HasRun, HasSameFrame, IsAdoptedLater, rules_by}
+use Rattle.session_state.proofs.Terms.{AllocError, Bool, Err, List, Ok, Result, ap, arith, cond, inl, inr, ltb, refl, subst, sym, ℕ, ◌+◌, ◌<◌, ◌∙◌, ◌≡◌, ◌≤◌, IfOk, Seen, Choice, Heap, Env, Plain, Checkpoint, oldest_of, Image, Cause, Path, env_at, limits_of, Event, runs_serve, runs_write, CpuState, live_of, with_live, Standing, turn, RunsWriting, Stop, items_in, Rules, keeping_by, SessionState, env_of, KeepsOldest, keeping_of, IsBetween, IsBrokenOff, IsEnding, IsFailing, IsWaitingFor, Since, entries, ComesBetween, GoesFurther, HasRun, HasSameFrame, IsAdoptedLater, rules_by}
 
 module _ {R : Type 0} where
   -- how a guest runs in an environment, by the session that it is of
@@ -107,9 +107,9 @@ module _ {R : Type 0} where
   pub ran_keeping : {old inside : SessionState R} {cpu : CpuState R} → inside ≡ old → cpu ≡ with_live (live_of cpu) inside.cpu → keeping_of (record inside { cpu = cpu }) ≡ keeping_of old
   ran_keeping {old = old} {cpu = cpu} same kept =
       let whole : cpu ≡ with_live (live_of cpu) old.cpu = kept ∙ ap (λ (s : SessionState R). with_live (live_of cpu) s.cpu) same in
-      λ i. record { ring = (same i).ring.capacity; every = (same i).options.every; pages = (whole i).slots.pages; frames = (whole i).slots.frames }
+      λ i. keeping_by (same i).options.every (whole i).slots
 
-  -- and the saved slots
+  -- and its checkpoints
   pub ran_saved : {old inside : SessionState R} {cpu : CpuState R} → inside ≡ old → cpu ≡ with_live (live_of cpu) inside.cpu → cpu.slots.saved ≡ old.cpu.slots.saved
   ran_saved same kept = ap (λ (one : CpuState R). one.slots.saved) kept ∙ ap (λ (s : SessionState R). s.cpu.slots.saved) same
 
@@ -118,7 +118,7 @@ module _ {R : Type 0} where
   ran_oldest {old = old} {inside = inside} {cpu = cpu} {taken = taken} {steps = steps} same kept is =
       subst (λ (s : SessionState R). KeepsOldest old s) (sym is)
       (record {
-        oldest = ap (λ (saved : List (Saved Standing)). slice_get saved 0) (ran_saved same kept);
+        oldest = ap (λ (saved : List (Checkpoint Standing)). oldest_of saved) (ran_saved same kept);
         first = ap (λ (s : SessionState R). s.log.first) same;
         recorded = ap (λ (s : SessionState R). s.recorded) same;
         sends = ap (λ (s : SessionState R). s.replies.first) same;

@@ -64,7 +64,7 @@ module _ {R : Type 0} where
 
   -- but for its replies, a session is the same
   pub same_run : {old : SessionState R} {replies : Ledger} → HasSameRun old (record old { replies = replies })
-  same_run = record { cpu = refl; recorded = refl; choices = refl; taken = refl; steps = refl; first = refl; ring = refl; env = refl; until = refl; options = refl }
+  same_run = record { cpu = refl; recorded = refl; choices = refl; taken = refl; steps = refl; first = refl; env = refl; until = refl; options = refl }
 
   -- guest, items and phases behind pieces
   pub goes_given : {rules : Rules} {story : Story} {old : SessionState R} {replies : Ledger} {phases later : Phases} (more : List Entry) → AreGiven more → ((conn : ℕ) → later conn ≡ phases conn) → GoesWith rules story old phases

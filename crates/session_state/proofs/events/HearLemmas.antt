@@ -1,8 +1,7 @@
 -- What a session makes of an event that it heard.
 use Rattle.links.specs.declared.journal.Entry.TheVariants as entry
-use Rattle.links.proofs.Journaled.{events_in-append}
-use Rattle.session_state.proofs.Terms.{List, [], ap, append_assoc, arith, length, subst, sym, true, ℕ, ◌++◌, ◌+◌, ◌<◌, ◌∙◌, ◌∷◌, ◌≡◌, ◌≤◌, ◌⊎◌, Item, Entry, LinkEvent, Phases, Tells, events_in, Seen, Checkpoints, Image, AsksFor, Override, Path, CpuState, events_of-append, IsHeard, Bounds, events_of, heeded, items_in, received, KeepsItems, KeepsPhases, Rules, entries_of, opens, ring_more, AreBehind, Brings, KeepsRing, SessionState, keeping_of, AnswersFor, GoesWith, IsTold, IsWaitingFor, KeepsCheckpoints, Since, Story, entries, sends, then_story}
-use Rattle.session_state.proofs.standing.HeldLemmas.{requests_by, requests_more}
+use Rattle.session_state.proofs.Terms.{List, [], ap, append_assoc, arith, length, subst, sym, true, ℕ, ◌++◌, ◌+◌, ◌<◌, ◌∙◌, ◌∷◌, ◌≡◌, ◌≤◌, ◌⊎◌, Item, Entry, LinkEvent, Phases, Tells, events_in, Seen, Image, AsksFor, Path, CpuState, events_of-append, IsHeard, Bounds, events_of, heeded, items_in, received, KeepsItems, KeepsPhases, Rules, entries_of, opens, ring_more, keeping_by, AreBehind, Brings, KeepsRing, SessionState, HandlesRequests, keeping_of, AnswersFor, GoesWith, IsTold, IsWaitingFor, KeepsCheckpoints, Since, Story, entries, sends, then_story}
+use Rattle.session_state.proofs.standing.HeldLemmas.{requests_more, stands_by}
 use Rattle.session_state.proofs.standing.CheckpointLemmas.{in_force_by}
 use Rattle.session_state.proofs.guest.GuestLemmas.{answers_as}
 use Rattle.session_state.proofs.standing.StoryLemmas.{owes_nothing}
@@ -27,7 +26,6 @@ module _ {R : Type 0} where
     pub taken : new.taken ≡ old.taken
     pub steps : new.steps ≡ old.steps
     pub first : new.log.first ≡ old.log.first
-    pub ring : new.ring ≡ old.ring
     pub env : new.env ≡ old.env
     pub until : new.until ≡ old.until
     pub options : new.options ≡ old.options
@@ -53,24 +51,21 @@ module _ {R : Type 0} where
   }
 
   pub run_keeping : {old new : SessionState R} → HasSameRun old new → keeping_of new ≡ keeping_of old
-  run_keeping same = λ i. record { ring = (same.ring i).capacity; every = (same.options i).every; pages = (same.cpu i).slots.pages; frames = (same.cpu i).slots.frames }
+  run_keeping same = λ i. keeping_by (same.options i).every (same.cpu i).slots
 
   -- the checkpoints and the environment behind more entries
   pub saved_then : {rules : Rules} {image : Image} {story : Story} {old new : SessionState R} (more : List Entry) {items : List Item} → HasSameRun old new → new.replies.first ≡ old.replies.first
       → Brings rules (entries story) (entries (then_story story more)) items → KeepsCheckpoints rules image story old → KeepsCheckpoints rules image (then_story story more) new
   saved_then {rules = rules} {image = image} {story = story} {old = old} {new = new} more {items = items} same kept brings k =
-      let plan : List Override = story.survivor.plan in
       let now : Path = story.survivor.now in
       record {
         paths = k.paths;
         ring =
-            subst (λ (c : Checkpoints). KeepsRing rules image (entries (then_story story more)) plan now k.paths new.cpu c new.log new.replies) (sym same.ring)
-            (subst (λ (cpu : CpuState R). KeepsRing rules image (entries (then_story story more)) plan now k.paths cpu old.ring new.log new.replies) (sym same.cpu)
-            (ring_more rules image (entries story) (entries (then_story story more)) items plan now k.paths old.cpu old.ring old.log new.log old.replies new.replies brings same.first kept k.ring));
+            subst (λ (cpu : CpuState R). KeepsRing rules image (entries (then_story story more)) story.survivor.plan now k.paths cpu new.log new.replies) (sym same.cpu) (ring_more k.ring brings same.first kept);
         early = subst (λ n. AreBehind n k.paths) (sym same.recorded) k.early;
         requests =
-            requests_by rules image story.earlier (entries (then_story story more)) story.recoveries story.survivor old new (ap (λ (cpu : CpuState R). cpu.slots.saved) same.cpu) (run_keeping same)
-            (requests_more items brings.items k.requests);
+            stands_by (λ k stands. HandlesRequests rules image k story.earlier (entries (then_story story more)) story.recoveries story.survivor stands) old new (ap (λ (cpu : CpuState R). cpu.slots.saved) same.cpu)
+            (run_keeping same) (requests_more items brings.items k.requests);
         in_force = in_force_by same.env same.until k.in_force;
         past = subst (λ n. (n < now.state.machine.taken + 4) ⊎ ((n ≡ now.state.machine.taken + 4) × AsksFor rules.limits [] now now.state.machine.taken)) (sym same.until) k.past;
       }

@@ -16,7 +16,7 @@ use Rattle.link_gate.proofs.Ordering.{heard_some, rests_by, step_heard}
 use Rattle.link_gate.proofs.Phasing.{closes-last, opens-first, opens-last, opens_by}
 use Rattle.session_history.specs.declared.ends.Stop.TheVariants as stop
 use Rattle.session_state.proofs.Lemmas.{still_takes, received_is, IsQuiet, before_given, before_story, goes_given, hearing_items, latest_story, same_run, saved_given, waits_on, IsNoEnd, HasHeard, HasSameRun, answers_still, has_heard, more_entries, saved_heard, all_due, close_ready, settle_done, settle_ready, latest-given}
-use Rattle.session_state.proofs.Terms.{Bool, Err, List, None, Ok, Option, Result, Some, [], ap, arith, false, inl, inr, length, length-append, refl, subst, sym, true, ℕ, ◌++◌, ◌+◌, ◌<◌, ◌∙◌, ◌∷◌, ◌≡◌, ◌≤◌, ◌⊎◌, cases_lt, eq-eqb, eqb-true, get_or-replicate, get_or-set_other, get_or_past, length-replicate, IfOk, is_some, slice_set, unwrap_or, ◌==◌, ◌||◌, rose_later, Send, Entry, LinkEvent, Counts, Tells, Seen, Heap, from_newest, Framing, behind_items, brought, hear, hear_parts, heard_from, Log, Shows, Ledger, connection_of, Image, SessionEnd, Stop, IsLastRefused, IsWaiting, StandsAt, AreGiven, IsClosing, IsReady, IsHeard, IsUnheeded, closing_of, Bounds, Unheeded, events_of, heeded, received, KeepsItems, KeepsPhases, KeepsReplies, Rules, closes, opens, Latest, HearFault, IsEvent, events_behind, heard_behind, ComesLast, HearsBy, IsShown, Stays, Takes, TakesBehind, is_far, stands_of, rules_in, SessionState, GivesUpBy, IsHandled, HasPassed, HasPassedDue, IsEnding, IsHearing, IsLatestBefore, IsTold, IsWaitingFor, KeepsCheckpoints, Since, Story, entries, moment, sends, then_story, CanPass, HasSameGuest, HasStopCause, IsStopAt, MayServe, PassesDue, PassesStory, StaysKnown, StopsBy, WaitsBy, rules_by}
+use Rattle.session_state.proofs.Terms.{Bool, Err, List, None, Ok, Option, Result, Some, [], ap, arith, false, inl, inr, length, length-append, refl, subst, sym, true, ℕ, ◌++◌, ◌+◌, ◌<◌, ◌∙◌, ◌∷◌, ◌≡◌, ◌≤◌, ◌⊎◌, cases_lt, eq-eqb, eqb-true, get_or-replicate, get_or-set_other, get_or_past, length-replicate, IfOk, is_some, slice_get, slice_set, unwrap_or, ◌==◌, ◌||◌, rose_later, Send, Entry, LinkEvent, Counts, Tells, Seen, Heap, Framing, behind_items, brought, hear, hear_parts, heard_from, Log, Shows, Ledger, connection_of, Image, SessionEnd, Stop, IsLastRefused, IsWaiting, StandsAt, AreGiven, IsClosing, IsReady, IsHeard, IsUnheeded, closing_of, Bounds, Unheeded, events_of, heeded, received, KeepsItems, KeepsPhases, KeepsReplies, Rules, closes, opens, Latest, HearFault, IsEvent, events_behind, heard_behind, ComesLast, HearsBy, IsShown, Stays, Takes, TakesBehind, is_far, stands_of, rules_in, SessionState, GivesUpBy, IsHandled, HasPassed, HasPassedDue, IsEnding, IsHearing, IsLatestBefore, IsTold, IsWaitingFor, KeepsCheckpoints, Since, Story, entries, moment, sends, then_story, CanPass, HasSameGuest, HasStopCause, IsStopAt, MayServe, PassesDue, PassesStory, StaysKnown, StopsBy, WaitsBy, rules_by}
 use Rattle.session_state.proofs.events.StopLemmas.{ending_refused, ending_ended, ending_stopped, off_read, off_memory}
 
 -- one place of the connections' rests is set: the others are as they were
@@ -198,7 +198,7 @@ module _ {R : Type 0} where
       omega (arith, none_left, received_is w.hearing.goes.items, w.hearing.answers.taken)
 
   pub run_of : {old : SessionState R} {log : Log} {ledger : Ledger} {events : ℕ} → log.first ≡ old.log.first → HasSameRun old (with_heard old log ledger events)
-  run_of first = record { cpu = refl; recorded = refl; choices = refl; taken = refl; steps = refl; first = first; ring = refl; env = refl; until = refl; options = refl }
+  run_of first = record { cpu = refl; recorded = refl; choices = refl; taken = refl; steps = refl; first = first; env = refl; until = refl; options = refl }
 
   -- what is known behind an event
   pub story_heard : {rules : Rules} {image : Image} {began : Since} {before seen : Seen} {old : SessionState R} {log : Log} {ledger : Ledger} {events : ℕ} {e : LinkEvent} (w : IsWaitingFor rules image began before old)
@@ -398,7 +398,7 @@ module _ {R : Type 0} where
   -- the same guest, with as many items taken: no checkpoint is due still
   pub handled_same : {old new : SessionState R} → HasSameGuest old new → IsHandled old → IsHandled new
   handled_same {old = old} {new = new} same handled =
-      (λ i. is_far (same.options i).every (same.taken i) (from_newest (stands_of (same.cpu i).slots.saved) 0)) ∙ handled
+      (λ i. is_far (same.options i).every (same.taken i) (slice_get (stands_of (same.cpu i).slots.saved) 0)) ∙ handled
 
   -- one call after another
   pub same_then : {old mid new : SessionState R} → HasSameGuest old mid → HasSameGuest mid new → HasSameGuest old new

@@ -7,8 +7,8 @@ use Rattle.session_history.specs.declared.ends.SessionBreak.TheVariants as sessi
 use Rattle.session_history.specs.declared.ends.SessionEnd.TheVariants as session_end
 use Rattle.link_gate.proofs.Knowing.{gone-took}
 use Rattle.session_history.proofs.Causes.{last_taken-append}
-use Rattle.session_state.proofs.Lemmas.{handled_by, held_as, held_by, held_more, held_of, rings_kept, unless_gave_up, waits_handled, owes_nothing, still_takes, answers_as, broken_off, broken_with, none_lost, none_noted, received_is, IsNoEnd, latest-ended, latest-took, told_event, HasSameRun, answers_still, more_entries, run_keeping, tables_here, told_unwatched}
-use Rattle.session_state.proofs.Terms.{Bool, List, None, Some, [], ap, append-nil, arith, false, inl, inr, length, not, refl, subst, sym, true, ℕ, ◌++◌, ◌+◌, ◌∙◌, ◌∷◌, ◌≡◌, ◌≤◌, ◌⊎◌, eqb-true, true≢false, IfSome, ◌&&◌, ◌==◌, Item, Prefix, Send, sent_to, Entry, LinkEvent, tells_then, HasEnded, IsNext, Refuses, Tells, Told, events_in, Seen, items_of, Log, Ledger, Image, AsksFor, CpuState, standing_of, SessionEnd, passed_in-took, served_same, IsLastRefused, IsWaiting, StandsAt, WasAsked, IsHeard, IsHeeded, IsUnheeded, closing_of, Bounds, Unheeded, events_of, heeded, items_in, received, KeepsReplies, Rules, is_closed_by, is_closing, closes, is_gone, is_open, opens, IsDueBy, Moment, journal, latest, place_at, passed_in, due_by, due_not_gone, IsEvent, events_ended, heeded_without, handled_on, HasHandled, HaveRings, stands_of, SessionState, GivesUpBy, HoldsCheckpoints, IsHandled, keeping_of, AnswersFor, IsAsking, IsBrokenOff, IsEnding, IsLatestDone, IsTold, IsWaitingFor, Since, Story, entries, moment, sends, then_story}
+use Rattle.session_state.proofs.Lemmas.{handled_more, held_as, held_by, held_more, held_of, stands_by, unless_gave_up, waits_handled, owes_nothing, still_takes, answers_as, broken_off, none_lost, none_noted, received_is, IsNoEnd, latest-ended, latest-took, told_event, HasSameRun, answers_still, more_entries, run_keeping, tables_here, told_unwatched}
+use Rattle.session_state.proofs.Terms.{Bool, List, None, Some, [], ap, append-nil, arith, false, inl, inr, length, not, refl, subst, sym, true, ℕ, ◌++◌, ◌+◌, ◌∙◌, ◌∷◌, ◌≡◌, ◌≤◌, ◌⊎◌, eqb-true, true≢false, IfSome, ◌&&◌, ◌==◌, Item, Prefix, Send, sent_to, Entry, LinkEvent, tells_then, HasEnded, IsNext, Refuses, Tells, Told, Seen, items_of, Log, Ledger, Image, AsksFor, CpuState, standing_of, SessionEnd, passed_in-took, IsLastRefused, IsWaiting, StandsAt, WasAsked, IsHeard, IsHeeded, IsUnheeded, closing_of, Bounds, Unheeded, events_of, heeded, items_in, received, KeepsReplies, Rules, is_closed_by, is_closing, closes, is_gone, is_open, opens, IsDueBy, Moment, journal, latest, place_at, passed_in, due_by, due_not_gone, IsEvent, events_ended, heeded_without, HasHandled, stands_of, SessionState, GivesUpBy, HoldsCheckpoints, IsHandled, keeping_of, AnswersFor, IsAsking, IsBrokenOff, IsEnding, IsLatestDone, IsTold, IsWaitingFor, Since, Story, entries, moment, sends, then_story}
 
 -- behind an event that is refused no connection closes
 pub refused_closes : (bounds : Bounds) (story : Story) (e : LinkEvent) → IsNoEnd e → heeded bounds (events_of bounds (entries (then_story story (entry.Took e ∷ [])))) ≡ heeded bounds (events_of bounds (entries story))
@@ -114,17 +114,13 @@ module _ {R : Type 0} where
       → HoldsCheckpoints rules image w.hearing.story.earlier (entries (then_story w.hearing.story (entry.Took e ∷ []))) w.hearing.story.recoveries w.hearing.story.survivor new
   held_took {rules = rules} w e same more brings = held_more more (ap (items_in rules.bounds) (sym (more_entries w.hearing.story (entry.Took e ∷ []))) ∙ brings) (held_here w same)
 
-  rings_here : {rules : Rules} {image : Image} {began : Since} {before : Seen} {old new : SessionState R} (w : IsWaitingFor rules image began before old) → HasSameRun old new → HaveRings rules image (keeping_of new) w.hearing.story.earlier w.hearing.story.recoveries
-  rings_here {new = new} w same = rings_kept new (run_keeping same) w.hearing.saved
-
   handled_here : {rules : Rules} {image : Image} {began : Since} {before : Seen} {old new : SessionState R} (w : IsWaitingFor rules image began before old) {after : List Entry}
       → items_in rules.bounds after ≡ items_in rules.bounds (entries w.hearing.story) → HasSameRun old new → IsHandled old
       → HasHandled rules image (keeping_of new) w.hearing.story.earlier after w.hearing.story.recoveries w.hearing.story.survivor (w.hearing.story.survivor.now.state.machine.taken + 1) (stands_of new.cpu.slots.saved)
   handled_here {rules = rules} {image = image} {old = old} {new = new} w {after = after} none same handled =
       let story : Story = w.hearing.story in
-      handled_by old new (ap (λ (cpu : CpuState R). cpu.slots.saved) same.cpu) (run_keeping same)
-      (handled_on rules image (keeping_of old) story.earlier (entries story) after [] story.recoveries story.survivor story.survivor (story.survivor.now.state.machine.taken + 1) (stands_of old.cpu.slots.saved) refl refl
-      (served_same rules.limits (items_in rules.bounds after) story.survivor.plan story.survivor.now) (none ∙ sym (append-nil (items_in rules.bounds (entries story)))) (waits_handled w handled))
+      stands_by (λ k stands. HasHandled rules image k story.earlier after story.recoveries story.survivor (story.survivor.now.state.machine.taken + 1) stands) old new (ap (λ (cpu : CpuState R). cpu.slots.saved) same.cpu)
+      (run_keeping same) (handled_more [] (none ∙ sym (append-nil (items_in rules.bounds (entries story)))) (waits_handled w handled))
 
   lives_here : {rules : Rules} {image : Image} {began : Since} {before : Seen} {old new : SessionState R} (w : IsWaitingFor rules image began before old) → HasSameRun old new
       → new.cpu.slots.live ≡ standing_of w.hearing.story.survivor.now
@@ -236,23 +232,23 @@ module _ {R : Type 0} where
       → received rules.bounds (entries w.hearing.story) ≤ w.hearing.story.survivor.now.state.machine.taken → Tells before.told seen.told [] → HasSameRun old new → IsBrokenOff rules image began seen new session_break.ReadFault
   off_read {rules = rules} w handled all tells same =
       let story : Story = w.hearing.story in
-      broken_off (told_nothing w.hearing.told tells) (answers_here same w.hearing.answers)
-      ((waits_here w all, owes_nothing rules story w.due w.hearing.passed.done, w.hearing.goes.items.all_heeded), (refl, refl, refl)) tt
-      (rings_here w same) (held_here w same) (λ is. handled_here w refl same handled)
+      broken_off ((waits_here w all, owes_nothing rules story w.due w.hearing.passed.done, w.hearing.goes.items.all_heeded), (refl, refl, refl)) tt (held_here w same) (λ is. handled_here w refl same handled)
+      (told_nothing w.hearing.told tells) (answers_here same w.hearing.answers)
 
   -- memory ran out, before an event was taken or behind one that is heeded
   pub off_memory : {rules : Rules} {image : Image} {began : Since} {before seen : Seen} {old new : SessionState R} (w : IsWaitingFor rules image began before old)
       → received rules.bounds (entries w.hearing.story) ≤ w.hearing.story.survivor.now.state.machine.taken → HasSameRun old new → (Tells before.told seen.told [] ⊎ (seen.takes ≡ true))
       → (Tells before.told seen.told [] ⊎ ((e : LinkEvent) × Tells before.told seen.told (entry.Took e ∷ []) × IsHeeded rules.bounds (entries w.hearing.story) e))
       → (off : IsBrokenOff rules image began seen new session_break.Memory) × (seen.takes ≡ false → WasAsked rules off.telling.account)
-  off_memory {rules = rules} {seen = seen} w all same (inl tells) took =
-      let story : Story = w.hearing.story in
-      broken_with (λ account. seen.takes ≡ false → WasAsked rules account) (told_nothing w.hearing.told tells) (answers_here same w.hearing.answers) tt (λ some. absurd (some refl)) (rings_here w same) (held_here w same) (λ is. absurd is)
-      (λ none. (waits_here w all, owes_nothing rules story w.due w.hearing.passed.done, w.hearing.goes.items.all_heeded))
-  off_memory {rules = rules} {seen = seen} w all same (inr still) (inl tells) =
-      broken_with (λ account. seen.takes ≡ false → WasAsked rules account) (told_nothing w.hearing.told tells) (answers_here same w.hearing.answers) tt (λ some. absurd (some refl)) (rings_here w same) (held_here w same) (λ is. absurd is)
-      (λ none. still_takes _ still none)
-  off_memory {rules = rules} {seen = seen} w all same (inr still) (inr took) =
-      broken_with (λ account. seen.takes ≡ false → WasAsked rules account)
-      (waits_took w all took.1 took.2.more took.2.brings) (answers_still (entry.Took took.0 ∷ []) same w.hearing.answers) tt (λ some. absurd (some refl)) (rings_here w same) (held_took w took.0 same took.2.more took.2.brings) (λ is. absurd is)
-      (λ none. still_takes _ still none)
+  off_memory {rules = rules} w all same (inl tells) took = (
+    broken_off {why = session_break.Memory} tt (λ some. absurd (some refl)) (held_here w same) (λ is. absurd is) (told_nothing w.hearing.told tells) (answers_here same w.hearing.answers),
+    λ none. (waits_here w all, owes_nothing rules w.hearing.story w.due w.hearing.passed.done, w.hearing.goes.items.all_heeded),
+  )
+  off_memory w all same (inr still) (inl tells) = (
+    broken_off {why = session_break.Memory} tt (λ some. absurd (some refl)) (held_here w same) (λ is. absurd is) (told_nothing w.hearing.told tells) (answers_here same w.hearing.answers),
+    λ none. still_takes _ still none,
+  )
+  off_memory w all same (inr still) (inr took) = (
+    broken_off {why = session_break.Memory} tt (λ some. absurd (some refl)) (held_took w took.0 same took.2.more took.2.brings) (λ is. absurd is) (waits_took w all took.1 took.2.more took.2.brings) (answers_still (entry.Took took.0 ∷ []) same w.hearing.answers),
+    λ none. still_takes _ still none,
+  )

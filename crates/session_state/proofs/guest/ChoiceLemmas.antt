@@ -2,7 +2,7 @@
 use Rattle.recovery.specs.Forgetting.{CanForget, Forgets}
 use Rattle.session_history.specs.declared.ends.Stop.TheVariants as stop
 use Rattle.run_history.proofs.Repeats.{repeated_keeps}
-use Rattle.session_state.proofs.Lemmas.{held_of, note_at_none, rings_kept, account_of, still_takes, broken_noting, notes_unhanded, received_is, taken_all, tables_here, told_unwatched, note_ends, note_handed}
+use Rattle.session_state.proofs.Lemmas.{held_of, note_at_none, account_of, still_takes, answers_as, broken_noting, goes_kept, notes_unhanded, received_is, waits_as, taken_all, tables_here, told_unwatched, note_ends, note_handed}
 use Rattle.session_state.proofs.Terms.{Bool, Err, List, None, Option, Some, ap, arith, cond, drop, false, length, length-append, length-drop, map, refl, subst, sym, take, true, ℕ, ◌+◌, ◌-◌, ◌∙◌, ◌≡◌, ◌≤◌, take-add, drop-drop, none-some, same_Some, is_some, option_map, slice_get, Item, grew_more, Grew, Seen, Choice, Log, Ledger, Image, State, after, Grant, Limits, Override, Path, Served, env_at, grant, guest_of, listed, longer, origin, planned_next, served_next, serves, SessionBreak, SessionEnd, Rules, Noted, Shown, noted, episode_of, can_forget, AreBehind, SessionState, FailsAtChoices, IsNoteFault, IsEnding, IsWaitingFor, Since, entries, WaitsBy}
 
 -- a run used no more answers of the allocator than it has instructions
@@ -48,10 +48,9 @@ module _ {R : Type 0} where
       → WaitsBy rules image (record began { noted = now.told }) seen session (Err (stop.Breaks why))
   waits_unnoted {rules = rules} began shown now {session = session} {why = why} w takes note choices episodes fails =
       let h = w.hearing in (
-        (broken_noting (λ account. Unit {0}) {began = record began { noted = now.told }} {before = began.noted_before} {noted = shown.told} (told_unwatched h.told)
-            (tables_here rules h.story (stop.Breaks why) began.tables_before began.tables h.told.tables)
-            (notes_unhanded {began = record began { noted = shown.told }} h.told.episodes h.answers note choices episodes fails) (λ some. absurd (omega (arith, some))) h.answers.taken h.answers.steps
-            (note_ends rules (account_of h.story) why note) (note_handed rules (account_of h.story) _ why refl note) (rings_kept session refl h.saved) (held_of h.saved) (λ is. absurd (note_at_none why note is)) tt).0,
+        broken_noting {began = record began { noted = now.told }} (note_ends rules (account_of h.story) why note) (note_handed rules (account_of h.story) _ why refl note) (held_of h.saved) (λ is. absurd (note_at_none why note is))
+            {before = began.noted_before} {noted = shown.told} (told_unwatched h.told) (tables_here rules h.story (stop.Breaks why) began.tables_before began.tables h.told.tables)
+            (notes_unhanded {began = record began { noted = shown.told }} h.told.episodes h.answers note choices episodes fails) (λ some. absurd (omega (arith, some))) h.answers.taken h.answers.steps,
         λ none. still_takes _ takes none,
       )
 
@@ -65,45 +64,27 @@ module _ {R : Type 0} where
       let all : List Choice = h.story.survivor.now.choices in
       let count : old.recorded + (safe - old.recorded) ≡ safe = omega (arith, more) in
       let grown : Grew before.choices now.choices (take (safe - old.recorded) (drop old.recorded all)) = subst (λ (cs : List Choice). Grew before.choices now.choices (take (safe - old.recorded) cs)) h.answers.choices grew in
-      record {
-        hearing = record {
-          story = h.story;
-          told = record {
-            serving = h.told.serving;
-            way = h.told.way;
-            tells = h.told.tells;
-            counted = h.told.counted;
-            recovered = h.told.recovered;
-            episodes = subst (λ e. Grew began.noted_before.episodes e (map episode_of h.story.recoveries)) (sym alike) h.told.episodes;
-            tables = h.told.tables;
-          };
-          answers = record {
-            low = low;
-            recorded =
-                subst (Grew began.noted_before.choices now.choices) (sym (take-add old.recorded (safe - old.recorded) all) ∙ ap (λ n. take n all) count)
-                (grew_more began.noted_before.choices before.choices now.choices (take old.recorded all) (take (safe - old.recorded) (drop old.recorded all)) h.answers.recorded grown);
-            choices = rest ∙ ap (drop (safe - old.recorded)) h.answers.choices ∙ (drop-drop (safe - old.recorded) old.recorded all ∙ ap (λ n. drop n all) count);
-            unnoted = same ∙ h.answers.unnoted;
-            taken = h.answers.taken;
-            steps = h.answers.steps;
-          };
-          goes = record {
-            lives = h.goes.lives;
-            guest = h.goes.guest;
-            bounded = h.goes.bounded;
-            few = h.goes.few;
-            within = h.goes.within;
-            items = h.goes.items;
-            events = h.goes.events;
-            phases_are = h.goes.phases_are;
-          };
-          saved = record { paths = h.saved.paths; ring = h.saved.ring; early = behind; requests = h.saved.requests; in_force = h.saved.in_force; past = h.saved.past };
-          passed = h.passed;
-          asks = h.asks;
-          latest = h.latest;
-        };
-        due = w.due;
-      }
+      waits_as w
+      (record {
+        serving = h.told.serving;
+        way = h.told.way;
+        tells = h.told.tells;
+        counted = h.told.counted;
+        recovered = h.told.recovered;
+        episodes = subst (λ e. Grew began.noted_before.episodes e (map episode_of h.story.recoveries)) (sym alike) h.told.episodes;
+        tables = h.told.tables;
+      })
+      (record {
+        low = low;
+        recorded =
+            subst (Grew began.noted_before.choices now.choices) (sym (take-add old.recorded (safe - old.recorded) all) ∙ ap (λ n. take n all) count)
+            (grew_more began.noted_before.choices before.choices now.choices (take old.recorded all) (take (safe - old.recorded) (drop old.recorded all)) h.answers.recorded grown);
+        choices = rest ∙ ap (drop (safe - old.recorded)) h.answers.choices ∙ (drop-drop (safe - old.recorded) old.recorded all ∙ ap (λ n. drop n all) count);
+        unnoted = same ∙ h.answers.unnoted;
+        taken = h.answers.taken;
+        steps = h.answers.steps;
+      }) (goes_kept refl h.goes.items refl h.goes)
+      (record { paths = h.saved.paths; ring = h.saved.ring; early = behind; requests = h.saved.requests; in_force = h.saved.in_force; past = h.saved.past }) h.passed
 
   -- how many are left to note
   pub waits_left : {rules : Rules} {image : Image} {began : Since} {seen : Seen} {session : SessionState R} {safe : ℕ} (w : IsWaitingFor rules image began seen session) → safe ≤ length w.hearing.story.survivor.now.choices
@@ -116,37 +97,16 @@ module _ {R : Type 0} where
   pub waits_forgets : {rules : Rules} {image : Image} {began : Since} {seen : Seen} {session : SessionState R} → IsWaitingFor rules image began seen session → CanForget session.cpu session.log session.replies
   waits_forgets {rules = rules} {image = image} {session = session} w =
       let h = w.hearing in
-      can_forget rules image (entries h.story) h.story.survivor.plan h.story.survivor.now h.saved.paths session.cpu session.ring session.log session.replies h.saved.ring h.goes.items h.passed.replies h.passed.no_trial
-      (let taken = h.told.serving.carries.taken in let all = received_is h.goes.items in omega (arith, taken, all))
+      can_forget h.saved.ring h.passed.replies h.passed.no_trial (let taken = h.told.serving.carries.taken in let all = received_is h.goes.items in omega (arith, taken, all))
 
   -- and it waits on
   pub waits_forgot : {rules : Rules} {image : Image} {began : Since} {seen : Seen} {old : SessionState R} {log : Log} {replies : Ledger} (w : IsWaitingFor rules image began seen old)
-      → Forgets rules image (entries w.hearing.story) w.hearing.story.survivor.plan w.hearing.story.survivor.now w.hearing.saved.paths old.cpu old.ring log replies → replies.trial ≡ None
+      → Forgets rules image (entries w.hearing.story) w.hearing.story.survivor.plan w.hearing.story.survivor.now w.hearing.saved.paths old.cpu log replies → replies.trial ≡ None
       → IsWaitingFor rules image began seen (record old { log = log; replies = replies })
-  waits_forgot {replies = replies} w forgets none =
+  waits_forgot w forgets none =
       let h = w.hearing in
-      record {
-        hearing = record {
-          story = h.story;
-          told = h.told;
-          answers = record { low = h.answers.low; recorded = h.answers.recorded; choices = h.answers.choices; unnoted = h.answers.unnoted; taken = h.answers.taken; steps = h.answers.steps };
-          goes = record {
-            lives = h.goes.lives;
-            guest = h.goes.guest;
-            bounded = h.goes.bounded;
-            few = h.goes.few;
-            within = h.goes.within;
-            items = forgets.items;
-            events = h.goes.events;
-            phases_are = h.goes.phases_are;
-          };
-          saved = record { paths = h.saved.paths; ring = forgets.ring; early = h.saved.early; requests = h.saved.requests; in_force = h.saved.in_force; past = h.saved.past };
-          passed = record { replies = forgets.replies; no_trial = none; done = h.passed.done };
-          asks = h.asks;
-          latest = h.latest;
-        };
-        due = w.due;
-      }
+      waits_as w h.told (answers_as refl refl refl refl h.answers) (goes_kept refl forgets.items refl h.goes)
+      (record { paths = h.saved.paths; ring = forgets.ring; early = h.saved.early; requests = h.saved.requests; in_force = h.saved.in_force; past = h.saved.past }) (record { replies = forgets.replies; no_trial = none; done = h.passed.done })
 
   -- the number of all answers of the allocator at an end is one of 64 bits
   pub ending_few : {rules : Rules} {image : Image} {began : Since} {seen : Seen} {session : SessionState R} {end : SessionEnd} → IsEnding rules image began seen session end → session.recorded + length session.choices ≤ session.steps
@@ -161,16 +121,5 @@ module _ {R : Type 0} where
       → IsWaitingFor rules image (record began { noted_before = noted None None told.unnoted; noted = told }) seen session
   waits_untold {told = told} w =
       let h = w.hearing in
-      record {
-        hearing = record {
-          story = h.story;
-          told = record { serving = h.told.serving; way = h.told.way; tells = h.told.tells; counted = h.told.counted; recovered = h.told.recovered; episodes = tt; tables = h.told.tables };
-          answers = record { low = h.answers.low; recorded = tt; choices = h.answers.choices; unnoted = refl; taken = h.answers.taken; steps = h.answers.steps };
-          goes = h.goes;
-          saved = h.saved;
-          passed = h.passed;
-          asks = h.asks;
-          latest = h.latest;
-        };
-        due = w.due;
-      }
+      waits_as w (record { serving = h.told.serving; way = h.told.way; tells = h.told.tells; counted = h.told.counted; recovered = h.told.recovered; episodes = tt; tables = h.told.tables })
+      (record { low = h.answers.low; recorded = tt; choices = h.answers.choices; unnoted = refl; taken = h.answers.taken; steps = h.answers.steps }) h.goes h.saved h.passed

@@ -5,7 +5,7 @@ use Rattle.item_log.proofs.Shown.{shown_items}
 use Rattle.session_history.specs.declared.ends.SessionBreak.TheVariants as session_break
 use Rattle.session_history.specs.declared.ends.SessionEnd.TheVariants as session_end
 use Rattle.guest_cpu.specs.declared.event.Event.TheVariants as event
-use Rattle.session_state.proofs.Terms.{List, None, Ok, [], ap, append-nil, arith, drop, inl, inr, length, length-append, map, refl, subst, sym, take, true, ℕ, ◌++◌, ◌+◌, ◌<◌, ◌∙◌, ◌∷◌, ◌≡◌, ◌≤◌, drop-append-le, take-append-le, ◌≢◌, Send, Entry, LinkEvent, grew_nothing, Grew, Phases, Tells, Told, Seen, Choice, items_of, Log, Ledger, Image, Cause, AsksFor, Path, Served, live_of, standing_of, Standing, GoesOn, IsSilent, RunsWriting, Writes, SessionBreak, SessionEnd, serving_account, Session, EndsBy, HandedLast, StandsAt, Bounds, events_of, items_in, received, KeepsItems, KeepsReplies, Rules, gone_on, is_open, IsPassed, Stands, Episode, Noted, OneEpisode, failed_with, steps_later, episode_of, HasHandled, HaveRings, Keeping, stands_of, steps_of, TellsMore, SessionState, AllAnswered, AreAllTables, FailsAtChoices, GivesUpBy, HasNoted, IsNoteFault, RanOn, spent, starting_path, HoldsCheckpoints, IsAtRequest, IsReadFault, keeping_of, AnswersFor, GoesWith, HasMissed, HasNotedMore, HasPassed, HasPassedDue, HasUnanswered, IsBetween, IsBrokenOff, IsEnding, IsFailing, IsGoing, IsLatestBefore, IsLatestDone, IsTold, IsWaitingFor, Since, Story, entries, moment, unwatched, IsCounted}
+use Rattle.session_state.proofs.Terms.{List, None, Ok, [], ap, append-nil, arith, drop, inl, inr, length, length-append, map, refl, subst, sym, take, true, ℕ, ◌++◌, ◌+◌, ◌<◌, ◌∙◌, ◌∷◌, ◌≡◌, ◌≤◌, drop-append-le, take-append-le, ◌≢◌, Send, Entry, LinkEvent, grew_nothing, Grew, Phases, Tells, Told, Seen, Choice, items_of, Log, Ledger, Image, Cause, AsksFor, Path, Served, live_of, GoesOn, IsSilent, standing_of, Standing, RunsWriting, Writes, SessionBreak, SessionEnd, serving_account, EndsBy, HandedLast, StandsAt, Bounds, events_of, items_in, received, KeepsItems, KeepsReplies, Rules, gone_on, is_open, IsPassed, Stands, starting_path, Episode, Noted, OneEpisode, failed_with, steps_later, episode_of, HasHandled, Keeping, stands_of, steps_of, TellsMore, SessionState, AllAnswered, AreAllTables, FailsAtChoices, GivesUpBy, HasNoted, IsNoteFault, RanOn, spent, HoldsCheckpoints, IsAtRequest, IsReadFault, keeping_of, AnswersFor, GoesWith, HasMissed, HasNotedMore, HasPassed, HasPassedDue, HasUnanswered, IsBetween, IsBrokenOff, IsEnding, IsFailing, IsGoing, IsLatestBefore, IsLatestDone, IsTold, IsWaitingFor, KeepsCheckpoints, Since, Story, entries, moment, unwatched, IsCounted}
 use Rattle.session_state.proofs.guest.NoteLemmas.{grew_same}
 use Rattle.session_state.proofs.standing.StoryLemmas.{on_story, told_on, account_of, journal_of_story, moves_none}
 use Rattle.session_state.proofs.recovering.TableLemmas.{told_unwatched, tables_here}
@@ -108,6 +108,17 @@ module _ {R : Type 0} where
     events = events ∙ with.events;
     phases_are = with.phases_are;
   }
+
+  -- another session whose guest stands there too
+  pub goes_kept : {rules : Rules} {story : Story} {old new : SessionState R} {phases : Phases} → new.cpu.slots.live ≡ old.cpu.slots.live → KeepsItems rules.bounds (entries story) new.log → new.events ≡ old.events → GoesWith rules story old phases → GoesWith rules story new phases
+  goes_kept live items events goes =
+      record { lives = goes.lives; guest = live ∙ goes.guest; bounded = goes.bounded; few = goes.few; within = goes.within; items = items; events = events ∙ goes.events; phases_are = goes.phases_are }
+
+  -- so it waits, where it knows all else of that story
+  pub waits_as : {rules : Rules} {image : Image} {began to : Since} {seen : Seen} {old new : SessionState R} (w : IsWaitingFor rules image began seen old) → IsTold rules image to seen.told w.hearing.story → AnswersFor to w.hearing.story new
+      → GoesWith rules w.hearing.story new seen.phases → KeepsCheckpoints rules image w.hearing.story new → HasPassed rules w.hearing.story new.replies → IsWaitingFor rules image to seen new
+  waits_as w told answers goes saved passed =
+      record { hearing = record { story = w.hearing.story; told = told; answers = answers; goes = goes; saved = saved; passed = passed; asks = w.hearing.asks; latest = w.hearing.latest }; due = w.due }
 
   -- where the survivor goes on, used these answers of the allocator and sent nothing, the session goes on
   pub going_on : {rules : Rules} {image : Image} {began : Since} {seen : Seen} {old new : SessionState R} (g : IsGoing rules image began seen old) {to : Path} (more : List Choice) → HasPassedDue rules g.story → HasSameParts old new
@@ -263,77 +274,67 @@ module _ {R : Type 0} where
     episodes_noted = grew_same began.noted_before.episodes told grew missed.episodes_same;
   }
 
-  -- A session that is broken off where it stood, and has noted so much, has an account, of which holds what holds of its story's. What its
-  -- story was told beside that may be told otherwise. At want of memory more may be counted, for which it doesn't answer.
-  pub broken_counting : (P : Session → Type 0) {rules : Rules} {image : Image} {began : Since} {before noted : Noted} {earlier : ℕ} {seen : Seen} {session : SessionState R} {story : Story} {why : SessionBreak}
-      → IsTold rules image (unwatched (record began { noted_before = before; noted = noted; lost = earlier })) seen.told story → (why ≢ session_break.Memory → earlier ≡ began.lost)
+-- a session that is broken off where it stood
+module _ {R : Type 0} {rules : Rules} {image : Image} {began : Since} {seen : Seen} {session : SessionState R} {story : Story} {why : SessionBreak} (ends : EndsBy rules (account_of story) (stop.Breaks why)) (handed : HandedLast rules (account_of story) seen why)
+    (held : HoldsCheckpoints rules image story.earlier (entries story) story.recoveries story.survivor session)
+    (at_request : IsReadFault why → HasHandled rules image (keeping_of session) story.earlier (entries story) story.recoveries story.survivor (story.survivor.now.state.machine.taken + 1) (stands_of session.cpu.slots.saved)) where
+  -- It has noted so much. What its story was told beside that may be told otherwise. At want of memory more may be counted, for which it doesn't answer.
+  abbrev pub broken_counting : {before noted : Noted} {earlier : ℕ} → IsTold rules image (unwatched (record began { noted_before = before; noted = noted; lost = earlier })) seen.told story → (why ≢ session_break.Memory → earlier ≡ began.lost)
       → (why ≡ session_break.Memory → HasUnanswered rules image (keeping_of session) (record { account = account_of story; recoveries = story.recoveries; walk = None }) began.lost)
       → TellsMore began.tables_before began.tables (AreAllTables rules story None (stop.Breaks why))
       → (notes : HasNoted began.noted_before began.noted (stop.Breaks why) story.survivor.now.choices (map episode_of story.recoveries) session.recorded session.choices) → (0 < length notes.missing → story.since ≡ []) → session.taken ≡ story.survivor.now.state.machine.taken → session.steps ≡ story.survivor.now.steps
-      → EndsBy rules (account_of story) (stop.Breaks why) → HandedLast rules (account_of story) seen why → HaveRings rules image (keeping_of session) story.earlier story.recoveries → HoldsCheckpoints rules image story.earlier (entries story) story.recoveries story.survivor session → (IsReadFault why → HasHandled rules image (keeping_of session) story.earlier (entries story) story.recoveries story.survivor (story.survivor.now.state.machine.taken + 1) (stands_of session.cpu.slots.saved)) → P (account_of story) → (off : IsBrokenOff rules image began seen session why) × P off.telling.account
-  broken_counting P {rules = rules} {image = image} {began = began} {seen = seen} {session = session} {story = story} {why = why} told same unanswered tables notes unnoted taken steps ends handed rings held at_request holds = (
-    record {
-      telling = record { account = account_of story; recoveries = story.recoveries; walk = None };
-      is = record {
-        ended = record { account = serving_account rules image story.earlier story.survivor story.since None told.serving; comes = tt; pieces = tt; ends = ends };
-        recovered = told.recovered;
-        ringed = rings;
-        walked = tt;
-        gave_up = tt;
-      };
-      none_came = refl;
-      tells = subst (Tells began.told seen.told) (sym (journal_of_story story)) told.tells;
-      handed = handed;
-      holds = held;
-      handled = at_request;
-      notes = record {
-        low = notes.low;
-        tail_is = notes.tail_is;
-        all_recorded = notes.all_recorded;
-        choices_noted = notes.choices_noted;
-        told = notes.told;
-        missing = notes.missing;
-        all_told = notes.all_told ∙ sym (append-nil (map episode_of story.recoveries));
-        handed = notes.handed;
-        episodes_noted = notes.episodes_noted;
-      };
-      unnoted = λ some. ((refl, refl, refl), unnoted some);
-      tables = tables;
-      taken = taken;
-      steps = steps;
-      counted = λ others. let none : steps_of [] ≡ 0 = refl in let counts = told.counted in omega (arith, none, counts, same others);
-      unanswered = unanswered;
-      later = steps_later rules.limits (items_in rules.bounds (entries story)) story.survivor.plan story.survivor.begun story.survivor.now told.way;
-    },
-    holds,
-  )
+      → IsBrokenOff rules image began seen session why
+  broken_counting told same unanswered tables notes unnoted taken steps = record {
+    telling = record { account = account_of story; recoveries = story.recoveries; walk = None };
+    is = record {
+      ended = record { account = serving_account rules image story.earlier story.survivor story.since None told.serving; comes = tt; pieces = tt; ends = ends };
+      recovered = told.recovered;
+      ringed = rings_held held;
+      walked = tt;
+      gave_up = tt;
+    };
+    none_came = refl;
+    tells = subst (Tells began.told seen.told) (sym (journal_of_story story)) told.tells;
+    handed = handed;
+    holds = held;
+    handled = at_request;
+    notes = record {
+      low = notes.low;
+      tail_is = notes.tail_is;
+      all_recorded = notes.all_recorded;
+      choices_noted = notes.choices_noted;
+      told = notes.told;
+      missing = notes.missing;
+      all_told = notes.all_told ∙ sym (append-nil (map episode_of story.recoveries));
+      handed = notes.handed;
+      episodes_noted = notes.episodes_noted;
+    };
+    unnoted = λ some. ((refl, refl, refl), unnoted some);
+    tables = tables;
+    taken = taken;
+    steps = steps;
+    counted = λ others. let none : steps_of [] ≡ 0 = refl in let counts = told.counted in omega (arith, none, counts, same others);
+    unanswered = unanswered;
+    later = steps_later rules.limits (items_in rules.bounds (entries story)) story.survivor.plan story.survivor.begun story.survivor.now told.way;
+  }
 
-  pub broken_noting : (P : Session → Type 0) {rules : Rules} {image : Image} {began : Since} {before noted : Noted} {seen : Seen} {session : SessionState R} {story : Story} {why : SessionBreak}
-      → IsTold rules image (unwatched (record began { noted_before = before; noted = noted })) seen.told story
-      → TellsMore began.tables_before began.tables (AreAllTables rules story None (stop.Breaks why))
+  abbrev pub broken_noting : {before noted : Noted} → IsTold rules image (unwatched (record began { noted_before = before; noted = noted })) seen.told story → TellsMore began.tables_before began.tables (AreAllTables rules story None (stop.Breaks why))
       → (notes : HasNoted began.noted_before began.noted (stop.Breaks why) story.survivor.now.choices (map episode_of story.recoveries) session.recorded session.choices) → (0 < length notes.missing → story.since ≡ []) → session.taken ≡ story.survivor.now.state.machine.taken → session.steps ≡ story.survivor.now.steps
-      → EndsBy rules (account_of story) (stop.Breaks why) → HandedLast rules (account_of story) seen why → HaveRings rules image (keeping_of session) story.earlier story.recoveries → HoldsCheckpoints rules image story.earlier (entries story) story.recoveries story.survivor session → (IsReadFault why → HasHandled rules image (keeping_of session) story.earlier (entries story) story.recoveries story.survivor (story.survivor.now.state.machine.taken + 1) (stands_of session.cpu.slots.saved)) → P (account_of story) → (off : IsBrokenOff rules image began seen session why) × P off.telling.account
-  broken_noting P {began = began} {before = before} {noted = noted} {story = story} told tables notes unnoted taken steps ends handed rings held at_request holds =
-      broken_counting P {began = began} {before = before} {noted = noted} {earlier = began.lost} told (λ others. refl) (λ memory. all_answered {story = story} told.counted) tables notes unnoted taken steps ends handed rings held at_request holds
+      → IsBrokenOff rules image began seen session why
+  broken_noting {before = before} {noted = noted} told = broken_counting {before = before} {noted = noted} {earlier = began.lost} told (λ others. refl) (λ memory. all_answered {story = story} told.counted)
 
+  abbrev pub broken_off : IsTold rules image began seen.told story → AnswersFor began story session → IsBrokenOff rules image began seen session why
+  broken_off told answers =
+      broken_noting {before = began.noted_before} {noted = began.noted} (told_unwatched told) (tables_here rules story (stop.Breaks why) began.tables_before began.tables told.tables)
+      (notes_here (map episode_of story.recoveries) told.episodes answers (sym (append-nil (map episode_of story.recoveries)))) (λ some. absurd (omega (arith, some))) answers.taken answers.steps
+
+module _ {R : Type 0} where
   -- memory ran out behind a run of its survivor, for which it doesn't answer
   pub broken_running : {rules : Rules} {image : Image} {began : Since} {seen : Seen} {session : SessionState R} {story : Story} {lost : ℕ} (to : Path) → IsTold rules image began seen.told story → AnswersFor began story session
       → HoldsCheckpoints rules image story.earlier (entries story) story.recoveries story.survivor session → Served rules.limits (items_in rules.bounds (entries story)) story.survivor.plan story.survivor.now to
       → story.survivor.now.steps ≤ to.steps → lost + story.survivor.now.steps ≡ began.lost + to.steps → IsBrokenOff rules image (record began { lost = lost }) seen session session_break.Memory
-  broken_running {rules = rules} {image = image} {began = began} {session = session} {story = story} {lost = lost} to told answers held served later counts =
-      (broken_counting (λ account. Unit {0}) {began = record began { lost = lost }} {before = began.noted_before} {noted = began.noted} {earlier = began.lost} (told_unwatched told) (λ others. absurd (others refl))
+  broken_running {rules = rules} {began = began} {story = story} {lost = lost} to told answers held served later counts =
+      broken_counting {began = record began { lost = lost }} {why = session_break.Memory} tt (λ some. absurd (some refl)) held (λ is. absurd is) {before = began.noted_before} {noted = began.noted} {earlier = began.lost} (told_unwatched told) (λ others. absurd (others refl))
       (λ memory. record { rest = RanOn to; is = served; counted = let none : steps_of [] ≡ 0 = refl in let all = told.counted in omega (arith, none, all, later, counts) })
       (tables_here rules story (stop.Breaks session_break.Memory) began.tables_before began.tables told.tables)
-      (notes_here {began = began} (map episode_of story.recoveries) told.episodes answers (sym (append-nil (map episode_of story.recoveries)))) (λ some. absurd (omega (arith, some))) answers.taken answers.steps tt (λ some. absurd (some refl)) (rings_held held)
-      held (λ is. absurd is) tt).0
-
-  pub broken_with : (P : Session → Type 0) {rules : Rules} {image : Image} {began : Since} {seen : Seen} {session : SessionState R} {story : Story} {why : SessionBreak} → IsTold rules image began seen.told story → AnswersFor began story session
-      → EndsBy rules (account_of story) (stop.Breaks why) → HandedLast rules (account_of story) seen why → HaveRings rules image (keeping_of session) story.earlier story.recoveries → HoldsCheckpoints rules image story.earlier (entries story) story.recoveries story.survivor session → (IsReadFault why → HasHandled rules image (keeping_of session) story.earlier (entries story) story.recoveries story.survivor (story.survivor.now.state.machine.taken + 1) (stands_of session.cpu.slots.saved)) → P (account_of story) → (off : IsBrokenOff rules image began seen session why) × P off.telling.account
-  broken_with P {rules = rules} {image = image} {began = began} {session = session} {story = story} {why = why} told answers ends handed rings held at_request holds =
-      broken_noting P (told_unwatched told)
-      (tables_here rules story (stop.Breaks why) began.tables_before began.tables told.tables)
-      (notes_here (map episode_of story.recoveries) told.episodes answers (sym (append-nil (map episode_of story.recoveries)))) (λ some. absurd (omega (arith, some))) answers.taken answers.steps ends handed rings held at_request holds
-
-  pub broken_off : {rules : Rules} {image : Image} {began : Since} {seen : Seen} {session : SessionState R} {story : Story} {why : SessionBreak} → IsTold rules image began seen.told story → AnswersFor began story session
-      → EndsBy rules (account_of story) (stop.Breaks why) → HandedLast rules (account_of story) seen why → HaveRings rules image (keeping_of session) story.earlier story.recoveries → HoldsCheckpoints rules image story.earlier (entries story) story.recoveries story.survivor session → (IsReadFault why → HasHandled rules image (keeping_of session) story.earlier (entries story) story.recoveries story.survivor (story.survivor.now.state.machine.taken + 1) (stands_of session.cpu.slots.saved)) → IsBrokenOff rules image began seen session why
-  broken_off told answers ends handed rings held at_request = (broken_with (λ account. Unit {0}) told answers ends handed rings held at_request tt).0
+      (notes_here {began = began} (map episode_of story.recoveries) told.episodes answers (sym (append-nil (map episode_of story.recoveries)))) (λ some. absurd (omega (arith, some))) answers.taken answers.steps

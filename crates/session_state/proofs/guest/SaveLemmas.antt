@@ -1,6 +1,6 @@
 -- A checkpoint is saved while the guest waits for an item.
-use Rattle.session_state.proofs.Lemmas.{requests_saved}
-use Rattle.session_state.proofs.Terms.{Bool, List, [], ap, arith, false, length, refl, subst, suc, sym, take, true, zero, ℕ, ◌∙◌, ◌∷◌, ◌≡◌, ◌≤◌, Entry, Seen, Checkpoints, from_newest, count_true, Log, Ledger, Image, AsksFor, Override, Path, CpuState, items_in, Rules, asks_under_all, taken_later, survivor_goes, Keeping, handle, is_far, keeping_by, stands_of, AreBehind, KeepsRing, SavesIf, ring_if, CanGoOn, taken_in, SessionState, HandlesRequests, keeping_of, IsWaitingFor, Since, entries}
+use Rattle.session_state.proofs.Lemmas.{requests_saved, answers_as, goes_kept, waits_as}
+use Rattle.session_state.proofs.Terms.{Bool, List, [], ap, arith, false, length, refl, subst, suc, sym, take, true, zero, ℕ, ◌∙◌, ◌∷◌, ◌≡◌, ◌≤◌, slice_get, Entry, Seen, count_true, Log, Ledger, Image, AsksFor, Override, Path, CpuState, items_in, Rules, asks_under_all, taken_later, survivor_goes, Keeping, handle, is_far, keeping_by, stands_of, AreBehind, KeepsRing, SavesIf, ring_if, CanGoOn, taken_in, SessionState, HandlesRequests, keeping_of, IsWaitingFor, Since, entries}
 
 -- the newest checkpoints of some that used so many answers of the allocator
 behind_take : (count number : ℕ) (ring : List Path) → AreBehind count ring → AreBehind count (take number ring)
@@ -15,8 +15,8 @@ behind_saved number false now ring low behind = behind
 
 module _ {R : Type 0} where
   -- the log has each item that the survivor takes from here on
-  pub kept_first : {rules : Rules} {image : Image} {entries : List Entry} {plan : List Override} {now : Path} (ring : List Path) {cpu : CpuState R} {checkpoints : Checkpoints} {log : Log} {ledger : Ledger}
-      → KeepsRing rules image entries plan now ring cpu checkpoints log ledger → log.first ≤ now.state.machine.taken
+  pub kept_first : {rules : Rules} {image : Image} {entries : List Entry} {plan : List Override} {now : Path} (ring : List Path) {cpu : CpuState R} {log : Log} {ledger : Ledger}
+      → KeepsRing rules image entries plan now ring cpu log ledger → log.first ≤ now.state.machine.taken
   kept_first [] keeps = let some = keeps.some in absurd (omega (arith, some))
   kept_first {rules = rules} {entries = entries} {plan = plan} {now = now} (newest ∷ older) keeps =
       omega (arith, taken_later rules.limits (items_in rules.bounds entries) plan newest now keeps.chained.0, keeps.kept.0.items)
@@ -43,52 +43,32 @@ module _ {R : Type 0} where
   pub waits_counted : {rules : Rules} {image : Image} {began : Since} {seen : Seen} {session : SessionState R} (w : IsWaitingFor rules image began seen session) → session.replies.first ≤ length w.hearing.story.survivor.now.state.sends
   waits_counted w = w.hearing.passed.replies.shows.counted
 
-  -- with another ring of its checkpoints it waits on
-  pub waits_saved : {rules : Rules} {image : Image} {began : Since} {seen : Seen} {old : SessionState R} {cpu : CpuState R} {ring : Checkpoints} {paths : List Path} (w : IsWaitingFor rules image began seen old) → cpu.slots.live ≡ old.cpu.slots.live
-      → KeepsRing rules image (entries w.hearing.story) w.hearing.story.survivor.plan w.hearing.story.survivor.now paths cpu ring old.log old.replies → AreBehind old.recorded paths
-      → keeping_by ring.capacity old.options.every cpu.slots ≡ keeping_of old → count_true old.cpu.written ≡ old.cpu.slots.written → stands_of cpu.slots.saved ≡ handle (keeping_of old) old.taken old.cpu.slots.written (stands_of old.cpu.slots.saved) → is_far old.options.every old.taken (from_newest (stands_of cpu.slots.saved) 0) ≡ false
-      → IsWaitingFor rules image began seen (record old { cpu = cpu; ring = ring })
-  waits_saved {rules = rules} {image = image} {old = old} {cpu = cpu} {ring = ring} {paths = paths} w live keeps early keeping counted handles near =
+  -- with other checkpoints it waits on
+  pub waits_saved : {rules : Rules} {image : Image} {began : Since} {seen : Seen} {old : SessionState R} {cpu : CpuState R} {paths : List Path} (w : IsWaitingFor rules image began seen old) → cpu.slots.live ≡ old.cpu.slots.live
+      → KeepsRing rules image (entries w.hearing.story) w.hearing.story.survivor.plan w.hearing.story.survivor.now paths cpu old.log old.replies → AreBehind old.recorded paths
+      → keeping_by old.options.every cpu.slots ≡ keeping_of old → count_true old.cpu.written ≡ old.cpu.slots.written → stands_of cpu.slots.saved ≡ handle (keeping_of old) old.taken old.cpu.slots.written (stands_of old.cpu.slots.saved) → is_far old.options.every old.taken (slice_get (stands_of cpu.slots.saved) 0) ≡ false
+      → IsWaitingFor rules image began seen (record old { cpu = cpu })
+  waits_saved {rules = rules} {image = image} {old = old} {cpu = cpu} {paths = paths} w live keeps early keeping counted handles near =
       let h = w.hearing in
-      record {
-        hearing = record {
-          story = h.story;
-          told = h.told;
-          answers = record { low = h.answers.low; recorded = h.answers.recorded; choices = h.answers.choices; unnoted = h.answers.unnoted; taken = h.answers.taken; steps = h.answers.steps };
-          goes = record {
-            lives = h.goes.lives;
-            guest = live ∙ h.goes.guest;
-            bounded = h.goes.bounded;
-            few = h.goes.few;
-            within = h.goes.within;
-            items = h.goes.items;
-            events = h.goes.events;
-            phases_are = h.goes.phases_are;
-          };
-          saved = record {
-            paths = paths;
-            ring = keeps;
-            early = early;
-            requests =
-                subst (λ (k : Keeping). HandlesRequests rules image k h.story.earlier (entries h.story) h.story.recoveries h.story.survivor (stands_of cpu.slots.saved)) (sym keeping)
-                (requests_saved refl counted h.saved.ring
-                (asks_under_all rules.limits h.story.survivor.plan [] h.story.survivor.now h.story.survivor.now.state.machine.taken h.asks)
-                (subst (λ n. stands_of cpu.slots.saved ≡ handle (keeping_of old) n old.cpu.slots.written (stands_of old.cpu.slots.saved)) h.answers.taken handles)
-                (subst (λ n. is_far old.options.every n (from_newest (stands_of cpu.slots.saved) 0) ≡ false) h.answers.taken near) h.saved.requests);
-            in_force = h.saved.in_force;
-            past = h.saved.past;
-          };
-          passed = h.passed;
-          asks = h.asks;
-          latest = h.latest;
-        };
-        due = w.due;
-      }
+      waits_as w h.told (answers_as refl refl refl refl h.answers) (goes_kept live h.goes.items refl h.goes)
+      (record {
+        paths = paths;
+        ring = keeps;
+        early = early;
+        requests =
+            subst (λ (k : Keeping). HandlesRequests rules image k h.story.earlier (entries h.story) h.story.recoveries h.story.survivor (stands_of cpu.slots.saved)) (sym keeping)
+            (requests_saved refl counted h.saved.ring
+            (asks_under_all rules.limits h.story.survivor.plan [] h.story.survivor.now h.story.survivor.now.state.machine.taken h.asks)
+            (subst (λ n. stands_of cpu.slots.saved ≡ handle (keeping_of old) n old.cpu.slots.written (stands_of old.cpu.slots.saved)) h.answers.taken handles)
+            (subst (λ n. is_far old.options.every n (slice_get (stands_of cpu.slots.saved) 0) ≡ false) h.answers.taken near) h.saved.requests);
+        in_force = h.saved.in_force;
+        past = h.saved.past;
+      }) h.passed
 
   -- a save changes nothing of how checkpoints are kept
-  pub saves_keeping : (due : Bool) (capacity : ℕ) {ring every : ℕ} (old new : CpuState R) → SavesIf due capacity old new → keeping_by ring every new.slots ≡ keeping_by ring every old.slots
-  saves_keeping true capacity {ring = ring} {every = every} old new saves = ap (keeping_by ring every) saves.1
-  saves_keeping false capacity {ring = ring} {every = every} old new saves = ap (λ (cpu : CpuState R). keeping_by ring every cpu.slots) saves
+  pub saves_keeping : (due : Bool) {every : ℕ} (old new : CpuState R) → SavesIf due old new → keeping_by every new.slots ≡ keeping_by every old.slots
+  saves_keeping true {every = every} old new saves = ap (keeping_by every) saves
+  saves_keeping false {every = every} old new saves = ap (λ (cpu : CpuState R). keeping_by every cpu.slots) saves
 
   -- the guest has taken as many items as the session
   pub waits_live : {rules : Rules} {image : Image} {began : Since} {seen : Seen} {session : SessionState R} → IsWaitingFor rules image began seen session → taken_in session.cpu.slots.live ≡ session.taken

@@ -2,7 +2,7 @@
 use Rattle.links.specs.declared.journal.LinkEvent.TheVariants as event
 use Rattle.run_history.proofs.Connections.{OpenWithin, within_after}
 use Rattle.guest_cpu.specs.declared.event.Event.TheVariants as step
-use Rattle.session_state.proofs.Terms.{List, None, Ok, Option, Some, [], ap, arith, length, length-append, refl, subst, sym, true, ℕ, ◌++◌, ◌<◌, ◌∙◌, ◌∷◌, ◌≡◌, ◌≤◌, slice_get, Item, Send, LinkEvent, Phases, Seen, IsOpened, Ledger, with_send, Image, may_send, Path, live_of, live_with_item, received_range, taken_standing, standing_of, Live, Standing, with_range, takes_write, TakesOn, RunsWriting, Writes, Bounds, events_of, heeded, items_in, received, IsSendable, KeepsItems, KeepsReplies, Rules, opens, IsDueBy, IsMadeDue, IsPassed, Latest, Moment, journal, latest, place_at, received_before, sent_keeps, SessionState, IsHandled, GoesWith, HasPassed, IsBetween, IsGoing, IsLatestBefore, IsLatestDone, IsWaitingFor, Since, Story, entries, moment, sends, IsCounted}
+use Rattle.session_state.proofs.Terms.{List, None, Ok, Option, Some, [], ap, arith, length, length-append, refl, subst, sym, true, ℕ, ◌++◌, ◌<◌, ◌∙◌, ◌∷◌, ◌≡◌, ◌≤◌, slice_get, Item, Send, LinkEvent, Phases, Seen, IsOpened, Ledger, with_send, Image, may_send, Path, takes_write, live_of, live_with_item, received_range, taken_standing, TakesOn, standing_of, Live, Standing, with_range, RunsWriting, Writes, Bounds, events_of, heeded, items_in, received, IsSendable, KeepsItems, KeepsReplies, Rules, opens, IsDueBy, IsMadeDue, IsPassed, Latest, Moment, journal, latest, place_at, received_before, sent_keeps, SessionState, IsHandled, GoesWith, HasPassed, IsBetween, IsGoing, IsLatestBefore, IsLatestDone, IsWaitingFor, Since, Story, entries, moment, sends, IsCounted}
 use Rattle.session_state.proofs.standing.HeldLemmas.{requests_on, requests_taken, waits_handled}
 use Rattle.session_state.proofs.standing.StoryLemmas.{on_story, moves_sent, moves_took, told_on}
 use Rattle.session_state.proofs.standing.CheckpointLemmas.{HasSameSide, saved_on}

@@ -2,7 +2,7 @@
 use Rattle.session_history.specs.declared.ends.SessionBreak.TheVariants as session_break
 use Rattle.session_history.specs.declared.ends.SessionEnd.TheVariants as session_end
 use Rattle.guest_cpu.specs.declared.event.Event.TheVariants as step
-use Rattle.session_state.proofs.Terms.{Bool, List, Ok, [], ap, arith, subst, sym, ℕ, ◌++◌, ◌+◌, ◌∙◌, ◌∷◌, ◌≡◌, Item, Seen, Choice, Ledger, with_send, Image, Cause, Limits, Override, Path, Event, CpuState, live_of, with_live, Live, Standing, RunsWriting, Rules, SessionState, keeping_of, IsBetween, IsBrokenOff, IsEnding, IsFailing, IsGoing, IsWaitingFor, Since, entries, HasRun, IsCounted}
+use Rattle.session_state.proofs.Terms.{Bool, List, Ok, [], ap, arith, subst, sym, ℕ, ◌++◌, ◌+◌, ◌∙◌, ◌∷◌, ◌≡◌, Item, Seen, Choice, Ledger, with_send, Image, Cause, Limits, Override, Path, Event, CpuState, live_of, with_live, Live, Standing, RunsWriting, Rules, keeping_by, SessionState, keeping_of, IsBetween, IsBrokenOff, IsEnding, IsFailing, IsGoing, IsWaitingFor, Since, entries, HasRun, IsCounted}
 use Rattle.session_state.proofs.standing.HeldLemmas.{held_by, held_of}
 use Rattle.session_state.proofs.standing.CheckpointLemmas.{HasSameSide}
 use Rattle.session_state.proofs.guest.GuestLemmas.{HasSameParts, answers_as, broken_running, chooses_between, asks_waits, exits_ending, fails_failing}
@@ -16,10 +16,9 @@ runs_at {limits = limits} {items = items} {plan = plan} {base = base} {first = f
 module _ {R : Type 0} where
   -- a run leaves how a session keeps its checkpoints
   run_kept : {rules : Rules} {image : Image} {began : Since} {seen : Seen} {happened : Event} {session : SessionState R} (h : HasRun rules image began seen happened session) → keeping_of session ≡ keeping_of h.before
-  run_kept h =
-      λ i. record { ring = (h.same i).ring.capacity; every = (h.same i).options.every; pages = (h.cpu i).slots.pages; frames = (h.cpu i).slots.frames }
+  run_kept h = λ i. keeping_by (h.same i).options.every (h.cpu i).slots
 
-  -- and the saved slots
+  -- and its checkpoints
   run_saved : {rules : Rules} {image : Image} {began : Since} {seen : Seen} {happened : Event} {session : SessionState R} (h : HasRun rules image began seen happened session) → session.cpu.slots.saved ≡ h.before.cpu.slots.saved
   run_saved h = ap (λ (cpu : CpuState R). cpu.slots.saved) h.cpu
 
@@ -49,7 +48,6 @@ module _ {R : Type 0} where
         log = ap (λ (s : SessionState R). s.log) same ∙ ap (λ (s : SessionState R). s.log) h.same;
         events = ap (λ (s : SessionState R). s.events) same ∙ ap (λ (s : SessionState R). s.events) h.same;
         cpu = is ∙ (h.cpu ∙ ap (λ (cpu : CpuState R). with_live (live_of cpu) h.before.cpu) (sym is));
-        ring = ap (λ (s : SessionState R). s.ring) same ∙ ap (λ (s : SessionState R). s.ring) h.same;
         env = ap (λ (s : SessionState R). s.env) same ∙ ap (λ (s : SessionState R). s.env) h.same;
         until = ap (λ (s : SessionState R). s.until) same ∙ ap (λ (s : SessionState R). s.until) h.same;
         options = ap (λ (s : SessionState R). s.options) same ∙ ap (λ (s : SessionState R). s.options) h.same;

@@ -3,7 +3,7 @@ use Rattle.item_log.specs.Log as logs
 use Rattle.link_gate.proofs.ItemLemmas.{item_fits, item_is, opened_items}
 use Rattle.recovery.proofs.Few.{few_items}
 use Rattle.session_state.proofs.Lemmas.{received_is, takes_going}
-use Rattle.session_state.proofs.Terms.{None, Some, ap, arith, length, refl, subst, sym, ◌<◌, ◌^◌, ◌∙◌, ◌≡◌, ◌≤◌, slice_get, Item, Seen, IsItemOf, Image, Wants, does, CpuState, live_of, with_live, live_with_item, Standing, asks_wants, events_of, heeded, items_in, received, Rules, SessionState, IsHandled, IsGoing, IsWaitingFor, Since, entries}
+use Rattle.session_state.proofs.Terms.{None, Some, ap, arith, length, refl, subst, sym, ◌<◌, ◌^◌, ◌∙◌, ◌≡◌, ◌≤◌, slice_get, Item, Seen, IsItemOf, Image, Wants, does, asks_wants, CpuState, live_of, with_live, live_with_item, Standing, events_of, heeded, items_in, received, Rules, SessionState, IsHandled, IsGoing, IsWaitingFor, Since, entries}
 
 module _ {R : Type 0} where
   -- its instruction is a recv whose buffer may be written
@@ -38,7 +38,6 @@ module _ {R : Type 0} where
           log = ap (λ (s : SessionState R). s.log) same;
           events = ap (λ (s : SessionState R). s.events) same;
           cpu = kept ∙ ap (λ (s : SessionState R). with_live (live_of cpu) s.cpu) same;
-          ring = ap (λ (s : SessionState R). s.ring) same;
           env = ap (λ (s : SessionState R). s.env) same;
           until = ap (λ (s : SessionState R). s.until) same;
           options = ap (λ (s : SessionState R). s.options) same;

@@ -1,6 +1,6 @@
 -- What stays of a story behind pieces that were given.
 use Rattle.links.specs.declared.journal.Entry.TheVariants as entry
-use Rattle.session_state.proofs.Terms.{Bool, List, [], ap, append-nil, append_assoc, false, refl, subst, sym, ℕ, ◌++◌, ◌∙◌, ◌∷◌, ◌≡◌, Send, Entry, LinkEvent, events_in, Log, events_in-given, AreGiven, then_entries, Bounds, events_of, heeded, KeepsItems, Rules, entries_of, then_entry, closes, is_gone, is_open, IsDueBy, Moment, journal, latest, place_at, closes-gave, due_by, due_not_gone, is_closing-gave, is_open-same, journal-then, latest-gave, not_gone, passed_then, IsCloseDone, IsLatestDone, Story, entries, then_story}
+use Rattle.session_state.proofs.Terms.{Bool, List, [], ap, append-nil, append_assoc, false, refl, subst, sym, ℕ, ◌++◌, ◌∙◌, ◌∷◌, ◌≡◌, Send, Entry, LinkEvent, Log, events_in-given, AreGiven, then_entries, Bounds, events_of, heeded, KeepsItems, Rules, entries_of, then_entry, closes, is_gone, is_open, IsDueBy, Moment, journal, latest, place_at, closes-gave, due_by, due_not_gone, is_closing-gave, is_open-same, journal-then, latest-gave, not_gone, passed_then, IsCloseDone, IsLatestDone, Story, entries, then_story}
 
 -- what the latest event makes owed behind a piece, it made owed before it
 due_before : (bounds : Bounds) (at : Moment) (conn : ℕ) (bytes : List ℕ) (gone : Bool) (to taken : ℕ) → IsDueBy bounds (place_at (then_entry at (entry.Gave conn bytes gone))) to taken (latest (then_entry at (entry.Gave conn bytes gone)).since)

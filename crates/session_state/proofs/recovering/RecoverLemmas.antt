@@ -1,7 +1,7 @@
 -- A failure, and what is due behind an adoption.
 use Rattle.session_history.specs.declared.ends.SessionEnd.TheVariants as session_end
 use Rattle.session_history.specs.declared.ends.Stop.TheVariants as stop
-use Rattle.session_state.proofs.Lemmas.{still_takes, none_noted, off_lost}
+use Rattle.session_state.proofs.Lemmas.{still_takes, none_noted}
 use Rattle.session_state.proofs.Terms.{Bool, Err, List, None, Ok, Option, Result, Some, [], arith, refl, subst, sym, true, ℕ, ◌++◌, ◌+◌, ◌∙◌, ◌∷◌, ◌≡◌, none-some, same_Some, option_map, IoFault, Grew, Seen, Ledger, Image, Cause, SessionEnd, Stop, Rules, CanGive, Episode, Try, EpisodeShows, Noted, Shown, Adopted, SessionState, HasMissed, HasNotedMore, IsEnding, IsFailing, IsGoing, Since, AdoptsTo, ComesBetween, HasSameOpen, TakesAtEnd, end_of}
 
 -- the same connections are given to
@@ -65,9 +65,4 @@ module _ {R : Type 0} where
   -- by another count of instructions that is the same
   pub comes_lost : (rules : Rules) (image : Image) (began : Since) (seen : Seen) (session : SessionState R) (result : Result (Unit {0}) Stop) {lost : ℕ} → lost ≡ began.lost
       → ComesBetween rules image began seen session result → ComesBetween rules image (record began { lost = lost }) seen session result
-  comes_lost rules image began seen session (Ok done) {lost = lost} same comes =
-      subst (λ n. ComesBetween rules image (record began { lost = n }) seen session (Ok done)) (sym same) comes
-  comes_lost rules image began seen session (Err (stop.Ends end)) {lost = lost} same comes =
-      subst (λ n. ComesBetween rules image (record began { lost = n }) seen session (Err (stop.Ends end))) (sym same) comes
-  comes_lost rules image began seen session (Err (stop.Breaks end)) {lost = lost} same comes =
-      (off_lost rules image began seen session end lost same comes.0, comes.1)
+  comes_lost rules image began seen session result same = subst (λ n. ComesBetween rules image (record began { lost = n }) seen session result) (sym same)

@@ -1,5 +1,6 @@
 -- The checkpoints of a session beside its story, as its survivor goes on.
-use Rattle.session_state.proofs.Terms.{List, [], ap, arith, inl, inr, subst, sym, ℕ, ◌+◌, ◌<◌, ◌∙◌, ◌≡◌, ◌≤◌, ◌⊎◌, Item, Env, Checkpoints, Saved, Log, Image, AsksFor, Limits, Override, Path, Served, CpuState, live_of, with_live, Standing, Writes, items_in, Rules, gone_on, past_request, in_force_later, ring_beside, ring_on, Keeping, stands_of, AreBehind, IsInForce, KeepsRing, SessionState, HandlesRequests, keeping_of, KeepsCheckpoints, Story, entries}
+use Rattle.session_state.proofs.Terms.{List, [], ap, arith, inl, inr, subst, sym, ℕ, ◌+◌, ◌<◌, ◌∙◌, ◌≡◌, ◌≤◌, ◌⊎◌, Item, Env, Log, Image, AsksFor, Limits, Override, Path, Served, CpuState, live_of, with_live, Writes, items_in, Rules, gone_on, past_request, in_force_later, ring_beside, ring_on, keeping_by, stands_of, AreBehind, IsInForce, SessionState, HandlesRequests, keeping_of, KeepsCheckpoints, Story, entries}
+use Rattle.session_state.proofs.standing.HeldLemmas.{stands_by}
 use Rattle.session_state.proofs.standing.StoryLemmas.{on_story}
 
 -- an environment and a number that are the same
@@ -23,32 +24,25 @@ module _ {R : Type 0} where
     pub log : new.log ≡ old.log
     pub events : new.events ≡ old.events
     pub cpu : new.cpu ≡ with_live (live_of new.cpu) old.cpu
-    pub ring : new.ring ≡ old.ring
     pub env : new.env ≡ old.env
     pub until : new.until ≡ old.until
     pub options : new.options ≡ old.options
 
   side_keeping : {old new : SessionState R} → HasSameSide old new → keeping_of new ≡ keeping_of old
-  side_keeping side = λ i. record { ring = (side.ring i).capacity; every = (side.options i).every; pages = (side.cpu i).slots.pages; frames = (side.cpu i).slots.frames }
+  side_keeping side = λ i. keeping_by (side.options i).every (side.cpu i).slots
 
   -- the survivor goes on: its checkpoints stay, and its environment
   pub saved_on : {rules : Rules} {image : Image} {story : Story} {old new : SessionState R} {to : Path} → HasSameSide old new → new.replies.first ≡ old.replies.first → Served rules.limits (items_in rules.bounds (entries story)) story.survivor.plan story.survivor.now to
       → Writes rules.limits (items_in rules.bounds (entries story)) old.cpu.base story.survivor.now old.cpu.written to new.cpu.written
       → story.survivor.now.state.machine.taken ≤ to.state.machine.taken → HandlesRequests rules image (keeping_of old) story.earlier (entries story) story.recoveries (gone_on story.survivor to) (stands_of old.cpu.slots.saved) → KeepsCheckpoints rules image story old → KeepsCheckpoints rules image (on_story story to) new
   saved_on {rules = rules} {image = image} {story = story} {old = old} {new = new} {to = to} side first served wrote more requests k =
-      let plan : List Override = story.survivor.plan in
-      let now : Path = story.survivor.now in
       record {
         paths = k.paths;
-        ring =
-            subst (λ (c : Checkpoints). KeepsRing rules image (entries story) plan to k.paths new.cpu c new.log new.replies) (sym side.ring)
-            (ring_beside rules image (entries story) plan to k.paths new.cpu old.ring old.log new.log old.replies new.replies (ap (λ (l : Log). l.first) side.log) first
-            (ring_on rules image (entries story) plan now to k.paths old.cpu new.cpu (live_of new.cpu) old.ring old.log old.replies served wrote side.cpu k.ring));
+        ring = ring_beside (ring_on k.ring (live_of new.cpu) served wrote side.cpu) (ap (λ (l : Log). l.first) side.log) first;
         early = subst (λ n. AreBehind n k.paths) (sym side.recorded) k.early;
         requests =
-            subst (λ (k : Keeping). HandlesRequests rules image k story.earlier (entries story) story.recoveries (gone_on story.survivor to) (stands_of new.cpu.slots.saved)) (sym (side_keeping side))
-            (subst (λ (saved : List (Saved Standing)). HandlesRequests rules image (keeping_of old) story.earlier (entries story) story.recoveries (gone_on story.survivor to) (stands_of saved)) (sym (ap (λ (cpu : CpuState R). cpu.slots.saved) side.cpu)) requests);
-        in_force =
-            in_force_by side.env side.until (in_force_later plan now.state.machine.taken to.state.machine.taken old.env old.until more k.in_force);
+            stands_by (λ k stands. HandlesRequests rules image k story.earlier (entries story) story.recoveries (gone_on story.survivor to) stands) old new (ap (λ (cpu : CpuState R). cpu.slots.saved) side.cpu)
+            (side_keeping side) requests;
+        in_force = in_force_by side.env side.until (in_force_later story.survivor.plan story.survivor.now.state.machine.taken to.state.machine.taken old.env old.until more k.in_force);
         past = past_on served more side.until k.past;
       }

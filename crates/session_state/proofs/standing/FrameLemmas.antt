@@ -8,7 +8,7 @@ module _ {R : Type 0} where
   pub same_rules : (permits : R → Heap → ℕ → ℕ → Bool) {old new : SessionState R} → HasSameFrame old new → rules_by permits new ≡ rules_by permits old
   same_rules permits same = λ i. rules_in (same.options i) (same.before i) (same.hold i) (permits (same.rule i))
 
-  pub saved_frame : {old new : SessionState R} → new ≡ record old { cpu = new.cpu; ring = new.ring } → new.cpu.rule ≡ old.cpu.rule → HasSameFrame old new
+  pub saved_frame : {old new : SessionState R} → new ≡ record old { cpu = new.cpu } → new.cpu.rule ≡ old.cpu.rule → HasSameFrame old new
   saved_frame same rule = record { options = ap (λ (s : SessionState R). s.options) same; rule = rule; before = ap (λ (s : SessionState R). s.before) same; hold = ap (λ (s : SessionState R). s.hold) same }
 
   pub noted_frame : {old new : SessionState R} → new ≡ record old { recorded = new.recorded; choices = new.choices } → HasSameFrame old new

@@ -1,8 +1,8 @@
 -- The checkpoints that a session holds for the run that it answers for, and what it gave up.
 use Rattle.session_history.specs.declared.ends.SessionBreak.TheVariants as session_break
 use Rattle.session_history.specs.declared.ends.SessionEnd.TheVariants as session_end
-use Rattle.circular_buffer.proofs.Places.{slice_get-take}
-use Rattle.session_state.proofs.Terms.{List, None, Option, Some, [], ap, append-nil, arith, false, inl, inr, length, refl, subst, sym, ℕ, ◌++◌, ◌+◌, ◌-◌, ◌∙◌, ◌≡◌, ◌≤◌, IfSome, option_map, slice_get, Item, Entry, LinkEvent, Seen, Checkpoints, from_newest, Saved, count_true, items_of, Log, Ledger, Image, AsksFor, Path, Served, CpuState, Standing, SessionBreak, SessionEnd, served_same, AreGiven, heeded, items_in, Chapter, Rules, Survivor, gone_on, asks_under_all, past_request, AreChained, Recovery, Adopted, chained_with, handled_near, handled_on, handled_save, near_handles, HasHandled, HaveRings, Keeping, Stand, handle, is_far, stands_of, KeepsSlots, KeepsRing, SessionState, IsNoteFault, HandlesRequests, HoldsCheckpoints, IsHandled, IsReadFault, IsTrimmed, KeepsOldest, UnlessGaveUp, keeping_of, IsWaitingFor, KeepsCheckpoints, Since, Story, entries, then_story, HasSameGuest}
+use Rattle.circular_buffer.proofs.Places.{slice_get-drop}
+use Rattle.session_state.proofs.Terms.{List, None, Option, Some, [], ap, append-nil, arith, drop, false, inl, inr, length, length-drop, map, refl, subst, sym, ℕ, ◌++◌, ◌+◌, ◌-◌, ◌∙◌, ◌≡◌, ◌≤◌, IfSome, slice_get, Item, Entry, LinkEvent, Seen, count_true, Checkpoint, oldest_of, items_of, Log, Ledger, Image, AsksFor, Path, Served, CpuState, Standing, SessionBreak, SessionEnd, served_same, AreGiven, heeded, items_in, Chapter, Rules, Survivor, gone_on, asks_under_all, past_request, AreChained, Recovery, Adopted, chained_with, handled_near, handled_on, handled_save, near_handles, HasHandled, HaveRings, Keeping, Stand, handle, is_far, stands_of, KeepsSlots, KeepsRing, SessionState, IsNoteFault, HandlesRequests, HoldsCheckpoints, IsHandled, IsReadFault, IsTrimmed, KeepsOldest, UnlessGaveUp, keeping_of, IsWaitingFor, KeepsCheckpoints, Since, Story, entries, then_story, HasSameGuest}
 use Rattle.session_state.proofs.passing.GivenLemmas.{events_of-story}
 
 -- what holds anyhow, holds unless a session gave up
@@ -18,26 +18,20 @@ note_at_none session_break.Memory note is = is
 note_at_none _ note is = absurd note
 
 -- the journal brings more items
+pub handled_more : {rules : Rules} {image : Image} {keeping : Keeping} {chapters : List Chapter} {before after : List Entry} (more : List Item) {recoveries : List Recovery} {survivor : Survivor} {requests : ℕ} {stands : List Stand}
+    → items_in rules.bounds after ≡ items_in rules.bounds before ++ more → HasHandled rules image keeping chapters before recoveries survivor requests stands → HasHandled rules image keeping chapters after recoveries survivor requests stands
+handled_more {rules = rules} {after = after} more {survivor = survivor} grown h = handled_on h after more survivor refl refl (served_same rules.limits (items_in rules.bounds after) survivor.plan survivor.now) grown
+
 pub requests_more : {rules : Rules} {image : Image} {keeping : Keeping} {chapters : List Chapter} {before after : List Entry} (more : List Item) {recoveries : List Recovery} {survivor : Survivor} {stands : List Stand}
     → items_in rules.bounds after ≡ items_in rules.bounds before ++ more → HandlesRequests rules image keeping chapters before recoveries survivor stands → HandlesRequests rules image keeping chapters after recoveries survivor stands
-requests_more {rules = rules} {image = image} {keeping = keeping} {chapters = chapters} {before = before} {after = after} more {recoveries = recoveries} {survivor = survivor} {stands = stands} grown (inl h) =
-    inl
-    (handled_on rules image keeping chapters before after more recoveries survivor survivor survivor.now.state.machine.taken stands refl refl (served_same rules.limits (items_in rules.bounds after) survivor.plan survivor.now)
-    grown h)
-requests_more {rules = rules} {image = image} {keeping = keeping} {chapters = chapters} {before = before} {after = after} more {recoveries = recoveries} {survivor = survivor} {stands = stands} grown (inr h) =
-    inr (
-      h.0,
-      handled_on rules image keeping chapters before after more recoveries survivor survivor (survivor.now.state.machine.taken + 1) stands refl refl (served_same rules.limits (items_in rules.bounds after) survivor.plan survivor.now)
-          grown h.1,
-      h.2,
-    )
+requests_more more grown (inl h) = inl (handled_more more grown h)
+requests_more more grown (inr h) = inr (h.0, handled_more more grown h.1, h.2)
 
 -- the survivor goes on beside the same journal
 handled_to : {rules : Rules} {image : Image} {keeping : Keeping} {chapters : List Chapter} {entries : List Entry} {recoveries : List Recovery} {survivor : Survivor} {to : Path} {requests : ℕ} {stands : List Stand}
     → Served rules.limits (items_in rules.bounds entries) survivor.plan survivor.now to → HasHandled rules image keeping chapters entries recoveries survivor requests stands
     → HasHandled rules image keeping chapters entries recoveries (gone_on survivor to) requests stands
-handled_to {rules = rules} {image = image} {keeping = keeping} {chapters = chapters} {entries = entries} {recoveries = recoveries} {survivor = survivor} {to = to} {requests = requests} {stands = stands} served h =
-    handled_on rules image keeping chapters entries entries [] recoveries survivor (gone_on survivor to) requests stands refl refl served (sym (append-nil (items_in rules.bounds entries))) h
+handled_to {rules = rules} {entries = entries} {survivor = survivor} {to = to} served h = handled_on h entries [] (gone_on survivor to) refl refl served (sym (append-nil (items_in rules.bounds entries)))
 
 -- and takes no item: its requests so far are those that were
 pub requests_on : {rules : Rules} {image : Image} {keeping : Keeping} {chapters : List Chapter} {entries : List Entry} {recoveries : List Recovery} {survivor : Survivor} {to : Path} {stands : List Stand}
@@ -74,21 +68,19 @@ rings_now (inr h) = rings_of h.1
 
 module _ {R : Type 0} where
   -- at a request that was handled
-  pub requests_handled : {rules : Rules} {image : Image} {keeping : Keeping} {chapters : List Chapter} {entries : List Entry} {recoveries : List Recovery} {survivor : Survivor} {ring : List Path} {cpu : CpuState R} {checkpoints : Checkpoints} {log : Log} {ledger : Ledger}
-      → keeping.pages ≡ cpu.slots.pages → KeepsRing rules image entries survivor.plan survivor.now ring cpu checkpoints log ledger → AsksFor rules.limits [] survivor.now survivor.now.state.machine.taken
-      → is_far keeping.every survivor.now.state.machine.taken (from_newest (stands_of cpu.slots.saved) 0) ≡ false → HandlesRequests rules image keeping chapters entries recoveries survivor (stands_of cpu.slots.saved)
+  pub requests_handled : {rules : Rules} {image : Image} {keeping : Keeping} {chapters : List Chapter} {entries : List Entry} {recoveries : List Recovery} {survivor : Survivor} {ring : List Path} {cpu : CpuState R} {log : Log} {ledger : Ledger}
+      → keeping.pages ≡ cpu.slots.pages → KeepsRing rules image entries survivor.plan survivor.now ring cpu log ledger → AsksFor rules.limits [] survivor.now survivor.now.state.machine.taken
+      → is_far keeping.every survivor.now.state.machine.taken (slice_get (stands_of cpu.slots.saved) 0) ≡ false → HandlesRequests rules image keeping chapters entries recoveries survivor (stands_of cpu.slots.saved)
       → HasHandled rules image keeping chapters entries recoveries survivor (survivor.now.state.machine.taken + 1) (stands_of cpu.slots.saved)
-  requests_handled {rules = rules} {image = image} {keeping = keeping} {chapters = chapters} {entries = entries} {recoveries = recoveries} {survivor = survivor} {ring = ring} {cpu = cpu} {checkpoints = checkpoints} {log = log} {ledger = ledger} pages keeps asks near (inl h) =
-      handled_near rules image keeping chapters entries recoveries survivor survivor.now.state.machine.taken ring cpu checkpoints log ledger pages keeps asks near h
+  requests_handled pages keeps asks near (inl h) = handled_near pages keeps asks near h
   requests_handled pages keeps asks near (inr h) = h.1
 
   -- a request is handled
-  pub requests_saved : {rules : Rules} {image : Image} {keeping : Keeping} {chapters : List Chapter} {entries : List Entry} {recoveries : List Recovery} {survivor : Survivor} {next : List Stand} {ring : List Path} {cpu : CpuState R} {checkpoints : Checkpoints} {log : Log} {ledger : Ledger}
-      → keeping.pages ≡ cpu.slots.pages → count_true cpu.written ≡ cpu.slots.written → KeepsRing rules image entries survivor.plan survivor.now ring cpu checkpoints log ledger → AsksFor rules.limits [] survivor.now survivor.now.state.machine.taken
-      → next ≡ handle keeping survivor.now.state.machine.taken cpu.slots.written (stands_of cpu.slots.saved) → is_far keeping.every survivor.now.state.machine.taken (from_newest next 0) ≡ false
+  pub requests_saved : {rules : Rules} {image : Image} {keeping : Keeping} {chapters : List Chapter} {entries : List Entry} {recoveries : List Recovery} {survivor : Survivor} {next : List Stand} {ring : List Path} {cpu : CpuState R} {log : Log} {ledger : Ledger}
+      → keeping.pages ≡ cpu.slots.pages → count_true cpu.written ≡ cpu.slots.written → KeepsRing rules image entries survivor.plan survivor.now ring cpu log ledger → AsksFor rules.limits [] survivor.now survivor.now.state.machine.taken
+      → next ≡ handle keeping survivor.now.state.machine.taken cpu.slots.written (stands_of cpu.slots.saved) → is_far keeping.every survivor.now.state.machine.taken (slice_get next 0) ≡ false
       → HandlesRequests rules image keeping chapters entries recoveries survivor (stands_of cpu.slots.saved) → HandlesRequests rules image keeping chapters entries recoveries survivor next
-  requests_saved {rules = rules} {image = image} {keeping = keeping} {chapters = chapters} {entries = entries} {recoveries = recoveries} {survivor = survivor} {next = next} {ring = ring} {cpu = cpu} {checkpoints = checkpoints} {log = log} {ledger = ledger} pages counted keeps asks is near (inl h) =
-      inr (asks, handled_save rules image keeping chapters entries recoveries survivor survivor.now.state.machine.taken next ring cpu checkpoints log ledger pages counted keeps asks is h, near)
+  requests_saved pages counted keeps asks is near (inl h) = inr (asks, handled_save pages counted keeps asks is h, near)
   requests_saved {rules = rules} {image = image} {keeping = keeping} {chapters = chapters} {entries = entries} {recoveries = recoveries} {survivor = survivor} {cpu = cpu} pages counted keeps asks is near (inr h) =
       inr (
         asks,
@@ -97,20 +89,11 @@ module _ {R : Type 0} where
         near,
       )
 
-  -- what stands, by a guest with the same saved slots
-  abbrev pub requests_by : (rules : Rules) (image : Image) (chapters : List Chapter) (entries : List Entry) (recoveries : List Recovery) (survivor : Survivor) (old new : SessionState R) → new.cpu.slots.saved ≡ old.cpu.slots.saved → keeping_of new ≡ keeping_of old
-      → HandlesRequests rules image (keeping_of old) chapters entries recoveries survivor (stands_of old.cpu.slots.saved) → HandlesRequests rules image (keeping_of new) chapters entries recoveries survivor (stands_of new.cpu.slots.saved)
-  requests_by rules image chapters entries recoveries survivor old new same keeping h =
-      subst (λ (k : Keeping). HandlesRequests rules image k chapters entries recoveries survivor (stands_of new.cpu.slots.saved)) (sym keeping)
-      (subst (λ (saved : List (Saved Standing)). HandlesRequests rules image (keeping_of old) chapters entries recoveries survivor (stands_of saved)) (sym same) h)
+  -- what holds of how a session keeps its checkpoints, and of those that stand, by a guest with the same ones
+  abbrev pub stands_by : (P : Keeping → List Stand → Type 0) (old new : SessionState R) → new.cpu.slots.saved ≡ old.cpu.slots.saved → keeping_of new ≡ keeping_of old → P (keeping_of old) (stands_of old.cpu.slots.saved) → P (keeping_of new) (stands_of new.cpu.slots.saved)
+  stands_by P old new same keeping holds = subst (λ (at : Keeping × List (Checkpoint Standing)). P at.0 (stands_of at.1)) (λ i. (sym keeping i, sym same i)) holds
 
-  pub handled_by : {rules : Rules} {image : Image} {chapters : List Chapter} {entries : List Entry} {recoveries : List Recovery} {survivor : Survivor} {requests : ℕ} (old new : SessionState R) → new.cpu.slots.saved ≡ old.cpu.slots.saved → keeping_of new ≡ keeping_of old
-      → HasHandled rules image (keeping_of old) chapters entries recoveries survivor requests (stands_of old.cpu.slots.saved) → HasHandled rules image (keeping_of new) chapters entries recoveries survivor requests (stands_of new.cpu.slots.saved)
-  handled_by {rules = rules} {image = image} {chapters = chapters} {entries = entries} {recoveries = recoveries} {survivor = survivor} {requests = requests} old new same keeping h =
-      subst (λ (k : Keeping). HasHandled rules image k chapters entries recoveries survivor requests (stands_of new.cpu.slots.saved)) (sym keeping)
-      (subst (λ (saved : List (Saved Standing)). HasHandled rules image (keeping_of old) chapters entries recoveries survivor requests (stands_of saved)) (sym same) h)
-
-  -- by a guest with the same saved slots
+  -- by a guest with the same checkpoints
   abbrev pub held_by : (rules : Rules) (image : Image) (chapters : List Chapter) (entries : List Entry) (recoveries : List Recovery) (survivor : Survivor) (old new : SessionState R) → new.cpu.slots.saved ≡ old.cpu.slots.saved → keeping_of new ≡ keeping_of old
       → HoldsCheckpoints rules image chapters entries recoveries survivor old → HoldsCheckpoints rules image chapters entries recoveries survivor new
   held_by rules image chapters entries recoveries survivor old new same keeping h = record {
@@ -118,9 +101,8 @@ module _ {R : Type 0} where
     some = h.some;
     chained = h.chained;
     are = h.are;
-    as_many = ap length same ∙ h.as_many;
-    saved = λ index less. ap (λ (saved : List (Saved Standing)). option_map (λ (one : Saved Standing). one.state) (from_newest saved index)) same ∙ h.saved index less;
-    requests = requests_by rules image chapters entries recoveries survivor old new same keeping h.requests;
+    saved = ap (λ (saved : List (Checkpoint Standing)). map (λ (one : Checkpoint Standing). one.state) saved) same ∙ h.saved;
+    requests = stands_by (λ k stands. HandlesRequests rules image k chapters entries recoveries survivor stands) old new same keeping h.requests;
   }
 
   -- behind entries that brought more items
@@ -131,7 +113,6 @@ module _ {R : Type 0} where
     some = h.some;
     chained = subst (λ (items : List Item). AreChained rules.limits items survivor.plan image survivor.now h.paths) (sym grown) (chained_with rules.limits (items_in rules.bounds before) more survivor.plan image survivor.now h.paths h.chained);
     are = h.are;
-    as_many = h.as_many;
     saved = h.saved;
     requests = requests_more more grown h.requests;
   }
@@ -148,24 +129,18 @@ module _ {R : Type 0} where
       let h = w.hearing in
       let path : Path = h.story.survivor.now in
       requests_handled refl h.saved.ring
-      (asks_under_all rules.limits h.story.survivor.plan [] path path.state.machine.taken h.asks) (subst (λ n. is_far session.options.every n (from_newest (stands_of session.cpu.slots.saved) 0) ≡ false) h.answers.taken handled)
+      (asks_under_all rules.limits h.story.survivor.plan [] path path.state.machine.taken h.asks) (subst (λ n. is_far session.options.every n (slice_get (stands_of session.cpu.slots.saved) 0) ≡ false) h.answers.taken handled)
       h.saved.requests
 
   -- a session that keeps its checkpoints holds them
   pub held_of : {rules : Rules} {image : Image} {story : Story} {session : SessionState R} → KeepsCheckpoints rules image story session → HoldsCheckpoints rules image story.earlier (entries story) story.recoveries story.survivor session
   held_of k =
-      record { paths = k.paths; some = k.ring.some; chained = k.ring.chained; are = k.ring.are; as_many = k.ring.as_many; saved = k.ring.saved; requests = k.requests }
+      record { paths = k.paths; some = k.ring.some; chained = k.ring.chained; are = k.ring.are; saved = k.ring.saved; requests = k.requests }
 
   -- each recovery had its ring
   pub rings_held : {rules : Rules} {image : Image} {chapters : List Chapter} {entries : List Entry} {recoveries : List Recovery} {survivor : Survivor} {session : SessionState R} → HoldsCheckpoints rules image chapters entries recoveries survivor session
       → HaveRings rules image (keeping_of session) chapters recoveries
   rings_held h = rings_now h.requests
-
-  -- and it has, whatever becomes of the session
-  pub rings_kept : {rules : Rules} {image : Image} {story : Story} {old : SessionState R} (new : SessionState R) → keeping_of new ≡ keeping_of old → KeepsCheckpoints rules image story old → HaveRings rules image (keeping_of new) story.earlier story.recoveries
-  rings_kept {rules = rules} {image = image} {story = story} new same k =
-      subst (λ (keeping : Keeping). HaveRings rules image keeping story.earlier story.recoveries) (sym same)
-      (rings_now k.requests)
 
   -- behind pieces that were passed
   pub held_given : {rules : Rules} {image : Image} (story : Story) {session : SessionState R} (more : List Entry) → AreGiven more
@@ -176,16 +151,10 @@ module _ {R : Type 0} where
 
   -- where the oldest checkpoint stands and nothing more was given up, all is given up still
   pub trimmed_still : {old new : SessionState R} → KeepsOldest old new → IsTrimmed old → IsTrimmed new
-  trimmed_still {old = old} {new = new} keeps trimmed = record {
-    items =
-        subst (λ (o : Option (Saved Standing)). IfSome o (λ oldest. new.log.first ≡ oldest.state.guest.machine.taken)) (sym keeps.oldest)
-        (subst (λ n. IfSome (slice_get old.cpu.slots.saved 0) (λ oldest. n ≡ oldest.state.guest.machine.taken)) (sym keeps.first) trimmed.items);
-    recorded =
-        subst (λ (o : Option (Saved Standing)). IfSome o (λ oldest. new.recorded ≡ oldest.state.guest.machine.allocations)) (sym keeps.oldest)
-        (subst (λ n. IfSome (slice_get old.cpu.slots.saved 0) (λ oldest. n ≡ oldest.state.guest.machine.allocations)) (sym keeps.recorded) trimmed.recorded);
-    sends =
-        subst (λ (o : Option (Saved Standing)). IfSome o (λ oldest. new.replies.first ≤ oldest.state.sends)) (sym keeps.oldest)
-        (subst (λ n. IfSome (slice_get old.cpu.slots.saved 0) (λ oldest. n ≤ oldest.state.sends)) (sym keeps.sends) trimmed.sends);
+  trimmed_still keeps trimmed = record {
+    items = subst (λ (at : Option (Checkpoint Standing) × ℕ). IfSome at.0 (λ oldest. at.1 ≡ oldest.state.guest.machine.taken)) (λ i. (sym keeps.oldest i, sym keeps.first i)) trimmed.items;
+    recorded = subst (λ (at : Option (Checkpoint Standing) × ℕ). IfSome at.0 (λ oldest. at.1 ≡ oldest.state.guest.machine.allocations)) (λ i. (sym keeps.oldest i, sym keeps.recorded i)) trimmed.recorded;
+    sends = subst (λ (at : Option (Checkpoint Standing) × ℕ). IfSome at.0 (λ oldest. at.1 ≤ oldest.state.sends)) (λ i. (sym keeps.oldest i, sym keeps.sends i)) trimmed.sends;
   }
 
   pub oldest_then : {old mid new : SessionState R} → KeepsOldest old mid → KeepsOldest mid new → KeepsOldest old new
@@ -200,7 +169,7 @@ module _ {R : Type 0} where
   -- the guest is as it was
   pub guest_oldest : {old new : SessionState R} → HasSameGuest old new → KeepsOldest old new
   guest_oldest same = record {
-    oldest = ap (λ (cpu : CpuState R). slice_get cpu.slots.saved 0) same.cpu;
+    oldest = ap (λ (cpu : CpuState R). oldest_of cpu.slots.saved) same.cpu;
     first = same.first;
     recorded = same.recorded;
     sends = same.sends;
@@ -210,7 +179,7 @@ module _ {R : Type 0} where
   -- pieces were passed
   pub passed_oldest : {old new : SessionState R} → new ≡ record old { replies = new.replies } → new.replies.first ≡ old.replies.first → KeepsOldest old new
   passed_oldest same first = record {
-    oldest = ap (λ (s : SessionState R). slice_get s.cpu.slots.saved 0) same;
+    oldest = ap (λ (s : SessionState R). oldest_of s.cpu.slots.saved) same;
     first = ap (λ (s : SessionState R). s.log.first) same;
     recorded = ap (λ (s : SessionState R). s.recorded) same;
     sends = first;
@@ -218,7 +187,7 @@ module _ {R : Type 0} where
   }
 
   -- a recovery leaves the oldest checkpoint
-  pub slots_oldest : (adopted : Option Adopted) (old new : CpuState R) → KeepsSlots adopted old new → slice_get new.slots.saved 0 ≡ slice_get old.slots.saved 0
-  slots_oldest None old new same = ap (λ (saved : List (Saved Standing)). slice_get saved 0) same
-  slots_oldest (Some adopted) old new slots =
-      ap (λ (saved : List (Saved Standing)). slice_get saved 0) slots.1 ∙ slice_get-take (length old.slots.saved - adopted.index) old.slots.saved 0 (omega (arith, slots.0))
+  pub slots_oldest : (adopted : Option Adopted) (old new : CpuState R) → KeepsSlots adopted old new → oldest_of new.slots.saved ≡ oldest_of old.slots.saved
+  slots_oldest None old new same = ap (λ (saved : List (Checkpoint Standing)). oldest_of saved) same
+  slots_oldest (Some adopted) old new slots = ap (λ (saved : List (Checkpoint Standing)). oldest_of saved) slots.1
+      ∙ slice_get-drop adopted.index old.slots.saved (length (drop adopted.index old.slots.saved) - 1) (length old.slots.saved - 1) (omega (arith, length-drop adopted.index old.slots.saved, slots.0))

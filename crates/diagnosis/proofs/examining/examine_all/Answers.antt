@@ -1,4 +1,4 @@
-use Rattle.diagnosis.proofs.Terms.{arith, refl, ◌∙◌, can_still, still_failed, still_same, still_under, still_within, untried_on, untried_same}
+use Rattle.diagnosis.proofs.Terms.{arith, refl, ◌∙◌, can_still, still_failed, still_under, still_within, untried_on, untried_same}
 use Rattle.diagnosis.proofs.ExaminedLemmas.{notes_none, notes_env, notes_envs}
 use Rattle.diagnosis.proofs.examining.examine_all.Goals as goal
 
@@ -13,7 +13,7 @@ environments-init g c = record {
 pub examine_one-requires : goal.examine_one-requires
 examine_one-requires g c =
     let inv = c.environments.invariant in
-    record { failed = can_still g.R.AccessRule.rule inv.kept inv.ledger c.requires.failed; within = still_within inv.kept c.requires.within; same = still_same inv.kept c.requires.same }
+    record { failed = can_still g.R.AccessRule.rule inv.kept inv.ledger c.requires.failed; within = still_within inv.kept c.requires.within }
 
 pub environments-preserved : goal.environments-preserved
 environments-preserved g c =

@@ -1,5 +1,5 @@
 use Rattle.recovery.proofs.Adopting.{is_made}
-use Rattle.diagnosis.proofs.Terms.{still_standing, still_within}
+use Rattle.diagnosis.proofs.Terms.{still_within}
 use Rattle.diagnosis.proofs.ExaminedLemmas.{notes_one, noted_by}
 use Rattle.diagnosis.proofs.examining.examine_one.Goals as goal
 
@@ -10,4 +10,4 @@ pub returns-in-Ok-clause-notes : goal.returns-in-Ok-clause-notes
 returns-in-Ok-clause-notes g c failure checkpoint under failed found =
     let h = c.in-Ok.ensures.tries failure checkpoint under failed found in
     noted_by c.note.result
-    (λ pushed. notes_one (is_made c.args.chance.index c.taken_at-checkpoint.result failed found (still_standing c.in-Ok.ensures.kept c.requires.same) c.taken_at-checkpoint.ensures c.in-Ok.ensures.counts.counted pushed h)) c.note.ensures
+    (λ pushed. notes_one (is_made c.args.chance.index failed found c.taken_at-checkpoint.result c.in-Ok.ensures.kept.saved c.taken_at-checkpoint.ensures.taken c.in-Ok.ensures.counts.counted pushed h)) c.note.ensures

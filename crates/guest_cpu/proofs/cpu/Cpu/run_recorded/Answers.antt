@@ -25,14 +25,14 @@ invariant_of-self g c = ((reaches _ _ _ _ _ _ _ _ _ _ c.in-Ok-Some.question (goe
 pub returns-in-Ok-Some-clause-question : goal.returns-in-Ok-Some-clause-question
 returns-in-Ok-Some-clause-question g c =
     subst (λ (state : CpuState _). Reaches (recorded c.args.until) state.base (live_of state) c.in-Ok-Some.question
-    (live_of (cpu_state c.run.self-inside.rule c.advance_as_recorded.new.core c.advance_as_recorded.new.space c.run.self-inside.saved.items c.run.self-inside.line)))
+    (live_of (cpu_state c.run.self-inside.rule c.advance_as_recorded.new.core c.advance_as_recorded.new.space c.run.self-inside.saved.items c.run.self-inside.ring)))
     (same_cpu _ _ _ c.self.inside.space _ _ _ _ c.run.invariant.3 c.run.invariant.1 c.run.invariant.2 ∙ c.self.view_is)
     (reaches _ _ _ _ _ _ _ _ _ _ c.in-Ok-Some.question (goes_recorded c.args.until _ _ _ _ _ _ _ _ _ _ c.run.invariant.0 c.go_quietly.ensures.ran c.saturating_sub-most.ensures) (rw c.in-Ok-Some.field-0-is at c.in-Ok-Some.ensures.turned) c.advance_as_recorded.ensures.keeps).0
 
 pub returns-in-Ok-Some-clause-kept : goal.returns-in-Ok-Some-clause-kept
 returns-in-Ok-Some-clause-kept g c =
-    subst (λ (state : CpuState _). cpu_state c.run.self-inside.rule c.advance_as_recorded.new.core c.advance_as_recorded.new.space c.run.self-inside.saved.items c.run.self-inside.line
-    ≡ with_live (live_of (cpu_state c.run.self-inside.rule c.advance_as_recorded.new.core c.advance_as_recorded.new.space c.run.self-inside.saved.items c.run.self-inside.line)) state)
+    subst (λ (state : CpuState _). cpu_state c.run.self-inside.rule c.advance_as_recorded.new.core c.advance_as_recorded.new.space c.run.self-inside.saved.items c.run.self-inside.ring
+    ≡ with_live (live_of (cpu_state c.run.self-inside.rule c.advance_as_recorded.new.core c.advance_as_recorded.new.space c.run.self-inside.saved.items c.run.self-inside.ring)) state)
     (same_cpu _ _ _ c.self.inside.space _ _ _ _ c.run.invariant.3 c.run.invariant.1 c.run.invariant.2 ∙ c.self.view_is)
     (reaches _ _ _ _ _ _ _ _ _ _ c.in-Ok-Some.question (goes_recorded c.args.until _ _ _ _ _ _ _ _ _ _ c.run.invariant.0 c.go_quietly.ensures.ran c.saturating_sub-most.ensures) (rw c.in-Ok-Some.field-0-is at c.in-Ok-Some.ensures.turned) c.advance_as_recorded.ensures.keeps).1
 
@@ -50,14 +50,14 @@ invariant_of-self-in-Err g c = ((breaks question.Emits _ _ _ _ _ _ _ _ _ _ (goes
 pub returns-in-Err-clause-question : goal.returns-in-Err-clause-question
 returns-in-Err-clause-question g c =
     subst (λ (state : CpuState _). Breaks question.Emits (recorded c.args.until) state.base (live_of state)
-    (live_of (cpu_state c.run.self-inside.rule c.advance_as_recorded.new.core c.advance_as_recorded.new.space c.run.self-inside.saved.items c.run.self-inside.line)))
+    (live_of (cpu_state c.run.self-inside.rule c.advance_as_recorded.new.core c.advance_as_recorded.new.space c.run.self-inside.saved.items c.run.self-inside.ring)))
     (same_cpu _ _ _ c.self.inside.space _ _ _ _ c.run.invariant.3 c.run.invariant.1 c.run.invariant.2 ∙ c.self.view_is)
     (breaks question.Emits _ _ _ _ _ _ _ _ _ _ (goes_recorded c.args.until _ _ _ _ _ _ _ _ _ _ c.run.invariant.0 c.go_quietly.ensures.ran c.saturating_sub-most.ensures) c.in-Err.ensures.turned.0 c.in-Err.ensures.turned.1 c.in-Err.ensures.turned.2).0
 
 pub returns-in-Err-clause-kept : goal.returns-in-Err-clause-kept
 returns-in-Err-clause-kept g c =
-    subst (λ (state : CpuState _). cpu_state c.run.self-inside.rule c.advance_as_recorded.new.core c.advance_as_recorded.new.space c.run.self-inside.saved.items c.run.self-inside.line
-    ≡ with_live (live_of (cpu_state c.run.self-inside.rule c.advance_as_recorded.new.core c.advance_as_recorded.new.space c.run.self-inside.saved.items c.run.self-inside.line)) state)
+    subst (λ (state : CpuState _). cpu_state c.run.self-inside.rule c.advance_as_recorded.new.core c.advance_as_recorded.new.space c.run.self-inside.saved.items c.run.self-inside.ring
+    ≡ with_live (live_of (cpu_state c.run.self-inside.rule c.advance_as_recorded.new.core c.advance_as_recorded.new.space c.run.self-inside.saved.items c.run.self-inside.ring)) state)
     (same_cpu _ _ _ c.self.inside.space _ _ _ _ c.run.invariant.3 c.run.invariant.1 c.run.invariant.2 ∙ c.self.view_is)
     (breaks question.Emits _ _ _ _ _ _ _ _ _ _ (goes_recorded c.args.until _ _ _ _ _ _ _ _ _ _ c.run.invariant.0 c.go_quietly.ensures.ran c.saturating_sub-most.ensures) c.in-Err.ensures.turned.0 c.in-Err.ensures.turned.1 c.in-Err.ensures.turned.2).1
 

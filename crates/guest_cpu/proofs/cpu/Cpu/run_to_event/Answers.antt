@@ -39,14 +39,14 @@ invariant_of-self g c = ((reaches _ _ _ _ _ _ _ _ _ _ c.in-Ok-Some.event (goes_w
 pub returns-in-Ok-Some-clause-event : goal.returns-in-Ok-Some-clause-event
 returns-in-Ok-Some-clause-event g c =
     subst (λ (state : CpuState _). Reaches (turn (limits_of c.args.budget (g.R.AccessRule.rule state.rule)) c.args.env) state.base (live_of state) c.in-Ok-Some.event
-    (live_of (cpu_state c.run.self-inside.rule c.advance.new.core c.advance.new.space c.run.self-inside.saved.items c.run.self-inside.line)))
+    (live_of (cpu_state c.run.self-inside.rule c.advance.new.core c.advance.new.space c.run.self-inside.saved.items c.run.self-inside.ring)))
     (same_cpu _ _ _ c.self.inside.space _ _ _ _ c.run.invariant.3 c.run.invariant.1 c.run.invariant.2 ∙ c.self.view_is)
     (reaches _ _ _ _ _ _ _ _ _ _ c.in-Ok-Some.event (goes_within c.args.budget _ _ _ _ _ _ _ _ _ _ _ _ _ c.run.invariant.0 c.go_quietly.ensures.ran c.from.ensures c.saturating_sub-most.ensures) (rw c.in-Ok-Some.field-0-is at c.in-Ok-Some.ensures.turned) c.advance.ensures.keeps.keeps).0
 
 pub returns-in-Ok-Some-clause-kept : goal.returns-in-Ok-Some-clause-kept
 returns-in-Ok-Some-clause-kept g c =
-    subst (λ (state : CpuState _). cpu_state c.run.self-inside.rule c.advance.new.core c.advance.new.space c.run.self-inside.saved.items c.run.self-inside.line
-    ≡ with_live (live_of (cpu_state c.run.self-inside.rule c.advance.new.core c.advance.new.space c.run.self-inside.saved.items c.run.self-inside.line)) state)
+    subst (λ (state : CpuState _). cpu_state c.run.self-inside.rule c.advance.new.core c.advance.new.space c.run.self-inside.saved.items c.run.self-inside.ring
+    ≡ with_live (live_of (cpu_state c.run.self-inside.rule c.advance.new.core c.advance.new.space c.run.self-inside.saved.items c.run.self-inside.ring)) state)
     (same_cpu _ _ _ c.self.inside.space _ _ _ _ c.run.invariant.3 c.run.invariant.1 c.run.invariant.2 ∙ c.self.view_is)
     (reaches _ _ _ _ _ _ _ _ _ _ c.in-Ok-Some.event (goes_within c.args.budget _ _ _ _ _ _ _ _ _ _ _ _ _ c.run.invariant.0 c.go_quietly.ensures.ran c.from.ensures c.saturating_sub-most.ensures) (rw c.in-Ok-Some.field-0-is at c.in-Ok-Some.ensures.turned) c.advance.ensures.keeps.keeps).1
 
@@ -64,14 +64,14 @@ invariant_of-self-in-Err g c = ((breaks event.Emits _ _ _ _ _ _ _ _ _ _ (goes_wi
 pub returns-in-Err-clause-event : goal.returns-in-Err-clause-event
 returns-in-Err-clause-event g c =
     subst (λ (state : CpuState _). Breaks event.Emits (turn (limits_of c.args.budget (g.R.AccessRule.rule state.rule)) c.args.env) state.base (live_of state)
-    (live_of (cpu_state c.run.self-inside.rule c.advance.new.core c.advance.new.space c.run.self-inside.saved.items c.run.self-inside.line)))
+    (live_of (cpu_state c.run.self-inside.rule c.advance.new.core c.advance.new.space c.run.self-inside.saved.items c.run.self-inside.ring)))
     (same_cpu _ _ _ c.self.inside.space _ _ _ _ c.run.invariant.3 c.run.invariant.1 c.run.invariant.2 ∙ c.self.view_is)
     (breaks event.Emits _ _ _ _ _ _ _ _ _ _ (goes_within c.args.budget _ _ _ _ _ _ _ _ _ _ _ _ _ c.run.invariant.0 c.go_quietly.ensures.ran c.from.ensures c.saturating_sub-most.ensures) c.in-Err.ensures.turned.0 c.in-Err.ensures.turned.1 c.in-Err.ensures.turned.2).0
 
 pub returns-in-Err-clause-kept : goal.returns-in-Err-clause-kept
 returns-in-Err-clause-kept g c =
-    subst (λ (state : CpuState _). cpu_state c.run.self-inside.rule c.advance.new.core c.advance.new.space c.run.self-inside.saved.items c.run.self-inside.line
-    ≡ with_live (live_of (cpu_state c.run.self-inside.rule c.advance.new.core c.advance.new.space c.run.self-inside.saved.items c.run.self-inside.line)) state)
+    subst (λ (state : CpuState _). cpu_state c.run.self-inside.rule c.advance.new.core c.advance.new.space c.run.self-inside.saved.items c.run.self-inside.ring
+    ≡ with_live (live_of (cpu_state c.run.self-inside.rule c.advance.new.core c.advance.new.space c.run.self-inside.saved.items c.run.self-inside.ring)) state)
     (same_cpu _ _ _ c.self.inside.space _ _ _ _ c.run.invariant.3 c.run.invariant.1 c.run.invariant.2 ∙ c.self.view_is)
     (breaks event.Emits _ _ _ _ _ _ _ _ _ _ (goes_within c.args.budget _ _ _ _ _ _ _ _ _ _ _ _ _ c.run.invariant.0 c.go_quietly.ensures.ran c.from.ensures c.saturating_sub-most.ensures) c.in-Err.ensures.turned.0 c.in-Err.ensures.turned.1 c.in-Err.ensures.turned.2).1
 

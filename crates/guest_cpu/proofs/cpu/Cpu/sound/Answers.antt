@@ -1,10 +1,10 @@
-use Rattle.guest_cpu.proofs.Terms.{length, refl, subst, ◌≡◌, AreSound, count_true, IsLaidOut, AreCounted, marks_of, CpuState}
-use Rattle.guest_cpu.proofs.SavedLemmas.{cpu_sound, written_length}
+use Rattle.guest_cpu.proofs.Terms.{length, refl, subst, ◌≡◌, line_flags, count_true, AreSound, IsLaidOut, AreCounted, marks_of, CpuState}
+use Rattle.guest_cpu.proofs.SavedLemmas.{cpu_sound}
 use Rattle.guest_cpu.proofs.cpu.Cpu.sound.Goals as goal
 
 pub returns-clause-pages : goal.returns-clause-pages
 returns-clause-pages g c =
-    subst (λ (state : CpuState _). length state.written ≡ state.slots.pages) c.self.view_is (written_length c.self.inside.space c.self.inside.line c.sound.ensures c.self.invariant.0.line_is)
+    subst (λ (state : CpuState _). length state.written ≡ state.slots.pages) c.self.view_is (line_flags c.self.inside.space.store c.self.inside.ring c.sound.ensures.store c.self.invariant.0.line_is)
 
 pub returns-clause-written : goal.returns-clause-written
 returns-clause-written g c = subst (λ (state : CpuState _). count_true state.written ≡ state.slots.written) c.self.view_is refl
@@ -15,7 +15,7 @@ returns-clause-laid_out g c =
 
 pub returns-clause-ring : goal.returns-clause-ring
 returns-clause-ring g c =
-    subst (λ (state : CpuState _). AreSound state.slots) c.self.view_is (cpu_sound c.self.inside.core c.self.inside.space c.self.inside.saved.items c.self.inside.line c.self.invariant.0)
+    subst (λ (state : CpuState _). AreSound state.slots) c.self.view_is (cpu_sound c.self.inside.core c.self.inside.space c.self.inside.saved.items c.self.inside.ring c.self.invariant.0)
 
 pub returns-clause-counted : goal.returns-clause-counted
 returns-clause-counted g c =

@@ -12,6 +12,6 @@ invariant_of-self g c = ((moved_cpu c.self.inside.rule _ _ _ _ _ _ _ (received_r
 
 pub returns-clause-live : goal.returns-clause-live
 returns-clause-live g c =
-    subst (λ (state : CpuState _). live_of (cpu_state c.self.inside.rule c.receive.new.core c.receive.new.space c.self.inside.saved.items c.self.inside.line) ≡ live_with_item state.base c.args.item.now (live_of state))
+    subst (λ (state : CpuState _). live_of (cpu_state c.self.inside.rule c.receive.new.core c.receive.new.space c.self.inside.saved.items c.self.inside.ring) ≡ live_with_item state.base c.args.item.now (live_of state))
     c.self.view_is
     (moved_cpu c.self.inside.rule _ _ _ _ _ _ _ (received_range c.args.item.now (machine_of c.self.inside.core (flat c.self.inside.space))) c.self.invariant.0 c.sound.ensures c.receive.ensures.state c.receive.ensures.wrote c.receive.ensures.keeps).0

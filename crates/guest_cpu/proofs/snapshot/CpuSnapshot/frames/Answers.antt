@@ -4,4 +4,4 @@ use Rattle.guest_cpu.proofs.snapshot.CpuSnapshot.frames.Goals as goal
 
 pub returns-clause-sound : goal.returns-clause-sound
 returns-clause-sound g c =
-    subst (λ (state : CpuState _). AreSound state.slots) c.self.view_is (cpu_sound c.self.inside.core c.self.inside.space c.self.inside.saved.items c.self.inside.line c.self.invariant.0)
+    subst (λ (state : CpuState _). AreSound state.slots) c.self.view_is (cpu_sound c.self.inside.core c.self.inside.space c.self.inside.saved.items c.self.inside.ring c.self.invariant.0)

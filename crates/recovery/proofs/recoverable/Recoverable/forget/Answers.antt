@@ -3,9 +3,7 @@ use Rattle.recovery.proofs.ForgetLemmas.{forgets}
 use Rattle.recovery.proofs.recoverable.Recoverable.forget.Goals as goal
 
 pub returns-clause-forgets : goal.returns-clause-forgets
-returns-clause-forgets g c rules image entries plan now paths k items replies =
-    forgets rules image entries plan now paths c.args.self.now.cpu c.args.self.now.ring c.args.self.now.log c.trim.new.self c.args.self.now.replies c.trim-2.new.self c.oldest_marks-oldest.result
-    c.oldest_marks-oldest.ensures c.trim.ensures.trimmed c.trim.ensures.shows c.trim-2.ensures k items replies
+returns-clause-forgets g c rules image entries plan now paths k items replies = forgets k c.oldest_marks-oldest.result c.oldest_marks-oldest.ensures c.trim.ensures.trimmed c.trim.ensures.shows c.trim-2.ensures items replies
 
 pub returns-clause-open : goal.returns-clause-open
 returns-clause-open g c conn =

@@ -1,20 +1,10 @@
-use Rattle.recovery.proofs.Terms.{List, Option, arith, refl, subst, ◌∙◌, take_all, Ok, Env, chances_at, environments, Adopted, FailedSome, LedgerBy, OneBy}
-use Rattle.recovery.proofs.WalkLemmas.{failed_none, failed_env, begun_env, adopted_env}
-use Rattle.recovery.proofs.HeldLemmas.{can_still, still_failed, still_same, still_under, still_within, untried_on, untried_same}
+use Rattle.recovery.proofs.Terms.{List, Option, arith, subst, ◌∙◌, take_all, Ok, Env, chances_at, environments, Adopted, FailedSome, LedgerBy, OneBy}
+use Rattle.recovery.proofs.WalkLemmas.{failed_env, begun_env, adopted_env}
+use Rattle.recovery.proofs.HeldLemmas.{can_still, still_failed, still_under, untried_on}
 use Rattle.recovery.proofs.recoverable.Recoverable.try_all.Goals as goal
 
-pub environments-init : goal.environments-init
-environments-init g c = record {
-  kept = untried_same;
-  ledger = refl;
-  tried = λ failure checkpoint under failed found. failed_none;
-  least = omega arith;
-}
-
-pub try_one-requires : goal.try_one-requires
-try_one-requires g c =
-    let inv = c.environments.invariant in
-    record { failed = can_still g.R.AccessRule.rule inv.kept inv.ledger c.requires.failed; within = still_within inv.kept c.requires.within; same = still_same inv.kept c.requires.same }
+pub try_one-requires-clause-failed : goal.try_one-requires-clause-failed
+try_one-requires-clause-failed g c = can_still g.R.AccessRule.rule c.environments.invariant.kept c.environments.invariant.ledger c.requires.failed
 
 pub environments-preserved : goal.environments-preserved
 environments-preserved g c =
@@ -37,8 +27,11 @@ returns-in-Ok-Some-clause-tries g c failure checkpoint under failed found =
     (subst (λ (o : Option Adopted). OneBy failure c.args.limits.point (record { checkpoint = checkpoint; env = c.environment-env.result }) c.try_one.new.self.cpu c.try_one.new.own.items c.try_one.new.self.replies c.environments.tries.items c.try_one.new.tries.items c.environments.steps c.try_one.new.steps (Ok o)) c.in-Ok-Some.field-0-is
     (c.in-Ok-Some.ensures.tries failure checkpoint (still_under g.R.AccessRule.rule failure inv.kept under) (still_failed inv.kept inv.ledger failed) found))
 
-pub returns-in-Ok-Some-clause-kept : goal.returns-in-Ok-Some-clause-kept
-returns-in-Ok-Some-clause-kept g c = untried_on c.environments.invariant.kept c.in-Ok-Some.ensures.kept
+pub returns-in-Err-clause-tries : goal.returns-in-Err-clause-tries
+returns-in-Err-clause-tries g c failure checkpoint under failed found =
+    let inv = c.environments.invariant in
+    begun_env c.environments.place c.environment-env.ensures (inv.tried failure checkpoint under failed found)
+    (c.in-Err.ensures.tries failure checkpoint (still_under g.R.AccessRule.rule failure inv.kept under) (still_failed inv.kept inv.ledger failed) found)
 
 pub returns-clause-tries : goal.returns-clause-tries
 returns-clause-tries g c failure checkpoint under failed found =
@@ -46,12 +39,3 @@ returns-clause-tries g c failure checkpoint under failed found =
     let most = c.environments.auto.place-end in
     subst (λ (envs : List Env). FailedSome failure c.args.limits.point (chances_at checkpoint envs) c.args.tries.now.items c.environments.tries.items c.args.steps.now c.environments.steps) (take_all c.environments.place environments (omega (arith, past, most)))
     (c.environments.invariant.tried failure checkpoint under failed found)
-
-pub returns-in-Err-clause-tries : goal.returns-in-Err-clause-tries
-returns-in-Err-clause-tries g c failure checkpoint under failed found =
-    let inv = c.environments.invariant in
-    begun_env c.environments.place c.environment-env.ensures (inv.tried failure checkpoint under failed found)
-    (c.in-Err.ensures.tries failure checkpoint (still_under g.R.AccessRule.rule failure inv.kept under) (still_failed inv.kept inv.ledger failed) found)
-
-pub returns-in-Err-clause-kept : goal.returns-in-Err-clause-kept
-returns-in-Err-clause-kept g c = untried_on c.environments.invariant.kept c.in-Err.ensures.kept

@@ -9,7 +9,6 @@ returns g c =
       in_range = c.requires.in_range;
       window = c.requires.window;
       cpu = fresh.cpu;
-      ring = fresh.ring;
       log = fresh.log;
       shows = fresh.shows;
       replies = fresh.replies;

@@ -1,4 +1,4 @@
-use Rattle.rx_engine.proofs.Terms.{ap, ◌∙◌, slice_get, starts_trimmed, trimmed_still, keeping_of, rules_by, SessionState, begins_on, before_begun}
+use Rattle.rx_engine.proofs.Terms.{ap, subst, sym, ◌∙◌, starts_trimmed, IsTrimmed, keeping_of, rules_by, SessionState, begins_on, before_begun}
 use Rattle.rx_engine.proofs.session.Session.begin_following.Goals as goal
 
 pub returns-clause-follows : goal.returns-clause-follows
@@ -14,12 +14,6 @@ returns-clause-keeps g c =
 
 pub returns-clause-trimmed : goal.returns-clause-trimmed
 returns-clause-trimmed g c =
-    trimmed_still
-    (record {
-      oldest = ap (λ (s : SessionState _). slice_get s.cpu.slots.saved 0) c.self.view_is;
-      first = ap (λ (s : SessionState _). s.log.first) c.self.view_is;
-      recorded = ap (λ (s : SessionState _). s.recorded) c.self.view_is;
-      sends = ap (λ (s : SessionState _). s.replies.first) c.self.view_is;
-      keeping = ap (λ (s : SessionState _). keeping_of s) c.self.view_is;
-    })
-    (starts_trimmed {rules = rules_by g.R.AccessRule.rule c.args.self.now} c.requires.begun (c.save_start.ensures.rings _ c.requires.image c.requires.begun) c.save_start.ensures.keeps.same)
+    let trimmed = subst (λ (s : SessionState _). IsTrimmed s) (sym c.self.view_is)
+    (starts_trimmed {rules = rules_by g.R.AccessRule.rule c.args.self.now} c.requires.begun (c.save_start.ensures.rings _ c.requires.image c.requires.begun) c.save_start.ensures.keeps.same) in
+    record { items = trimmed.items; recorded = trimmed.recorded; sends = trimmed.sends }

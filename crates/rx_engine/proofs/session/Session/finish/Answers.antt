@@ -1,6 +1,6 @@
 use Rattle.session_history.specs.declared.ends.Stop.TheVariants as stop
 use Rattle.reply_ledger.specs.Trimming as ledgers
-use Rattle.rx_engine.proofs.Terms.{ap, arith, length, refl, subst, sym, ◌+◌, ◌∙◌, ◌≡◌, ◌≤◌, IfSome, slice_get, stands_of, end_of, ending_moved, can_forget_sends, end_requests, left_end, left_noting, left_passing, finish_broken, finish_unnoted_link, finish_well, notes_passing, notes_rest_done, notes_rest_failed, ending_few, may_pass, ending_can, ending_ready, finish_fault, finish_ok, finish_unnoted, held_by, trimmed_still, CanForgetSends, HandledAt, HasLeft, IsTrimmed, LeavesBy, keeping_of, HasWatched, StandsEnding, outcome_of, rules_by, SessionState, IsEnding, entries, sends}
+use Rattle.rx_engine.proofs.Terms.{ap, arith, length, refl, subst, sym, ◌+◌, ◌∙◌, ◌≡◌, ◌≤◌, IfSome, oldest_of, stands_of, end_of, ending_moved, can_forget_sends, end_requests, left_end, left_noting, left_passing, finish_broken, finish_unnoted_link, finish_well, notes_passing, notes_rest_done, notes_rest_failed, ending_few, may_pass, ending_can, ending_ready, finish_fault, finish_ok, finish_unnoted, held_by, trimmed_still, CanForgetSends, HandledAt, HasLeft, IsTrimmed, LeavesBy, keeping_of, HasWatched, StandsEnding, outcome_of, rules_by, SessionState, IsEnding, entries, sends}
 use Rattle.rx_engine.proofs.session.Session.finish.Goals as goal
 
 pub pass_until-requires : goal.pass_until-requires
@@ -18,7 +18,7 @@ returns-in-Err-clause-served g c image since first ends finishing trimmed =
     finish_fault (λ telling. LeavesBy the_rules image since.noted_before.unnoted here.unnoted telling _ (stop.Breaks c.answer_to.result)) (record since { noted = here }) 18446744073709551615 c.pass_until.new.replies c.in-Err.fault e c.in-Err.ensures.keeps.shows.rest c.answer_to.ensures c.in-Err.ensures.keeps.shows.stops
     (c.in-Err.ensures.passes the_rules (sends e.story) (end_of e.story) (sym e.received_are ∙ sym c.received-stamp.ensures.count) (ending_ready e)) both.1 here refl refl refl counts
     (λ more broken. left_passing since.noted_before.unnoted here.unnoted _ c.in-Err.fault c.answer_to.result c.answer_to.ensures
-    (trimmed_still (record { oldest = ap (λ (t : SessionState _). slice_get t.cpu.slots.saved 0) c.self.view_is; first = ap (λ (t : SessionState _). t.log.first) c.self.view_is; recorded = ap (λ (t : SessionState _). t.recorded) c.self.view_is; sends = c.in-Err.ensures.keeps.sends.first ∙ ap (λ (t : SessionState _). t.replies.first) c.self.view_is; keeping = ap (λ (t : SessionState _). keeping_of t) c.self.view_is }) trimmed)
+    (trimmed_still (record { oldest = ap (λ (t : SessionState _). oldest_of t.cpu.slots.saved) c.self.view_is; first = ap (λ (t : SessionState _). t.log.first) c.self.view_is; recorded = ap (λ (t : SessionState _). t.recorded) c.self.view_is; sends = c.in-Err.ensures.keeps.sends.first ∙ ap (λ (t : SessionState _). t.replies.first) c.self.view_is; keeping = ap (λ (t : SessionState _). keeping_of t) c.self.view_is }) trimmed)
     (held_by the_rules image e.story.earlier (entries e.story) e.story.recoveries e.story.survivor _ _ refl refl e.holds))
 
 pub note_rest-requires : goal.note_rest-requires
@@ -38,7 +38,7 @@ returns-in-Err-note_rest-clause-served g c image since first ends finishing trim
     × LeavesBy the_rules image since.noted_before.unnoted told.unnoted watched.recovered.telling s (stop.Breaks c.in-Err-note_rest.fault)) (sym c.in-Err-note_rest.ensures.noted.1)
     (finish_unnoted (λ telling. LeavesBy the_rules image since.noted_before.unnoted told.unnoted telling _ (stop.Breaks c.in-Err-note_rest.fault)) (record since { noted = here }) 18446744073709551615 e c.in_default.ensures.keeps.shows.rest
     passes both.1 c.in-Err-note_rest.ensures.noted.2 told c.in-Err-note_rest.ensures.noted.0 c.in-Err-note_rest.ensures.shows.episodes c.in-Err-note_rest.ensures.noted.3 counts (λ more broken. left_noting since.noted_before.unnoted told.unnoted _ c.in-Err-note_rest.fault c.in-Err-note_rest.ensures.noted.2
-    (trimmed_still (record { oldest = ap (λ (t : SessionState _). slice_get t.cpu.slots.saved 0) c.self.view_is; first = ap (λ (t : SessionState _). t.log.first) c.self.view_is; recorded = ap (λ (t : SessionState _). t.recorded) c.self.view_is; sends = c.in_default.ensures.keeps.sends.first ∙ ap (λ (t : SessionState _). t.replies.first) c.self.view_is; keeping = ap (λ (t : SessionState _). keeping_of t) c.self.view_is }) trimmed)
+    (trimmed_still (record { oldest = ap (λ (t : SessionState _). oldest_of t.cpu.slots.saved) c.self.view_is; first = ap (λ (t : SessionState _). t.log.first) c.self.view_is; recorded = ap (λ (t : SessionState _). t.recorded) c.self.view_is; sends = c.in_default.ensures.keeps.sends.first ∙ ap (λ (t : SessionState _). t.replies.first) c.self.view_is; keeping = ap (λ (t : SessionState _). keeping_of t) c.self.view_is }) trimmed)
     (held_by the_rules image e.story.earlier (entries e.story) e.story.recoveries e.story.survivor _ _ refl refl e.holds)))
 
 pub returns-clause-served : goal.returns-clause-served
@@ -68,7 +68,7 @@ returns-clause-served g c image since first ends finishing trimmed =
     (ap (λ (s : SessionState _). keeping_of s) c.forget_sends.ensures.same ∙ ap (λ (s : SessionState _). keeping_of s) c.in_default-note_rest.ensures.noted.1)
     (ap (λ (s : SessionState _). s.log) c.forget_sends.ensures.same ∙ ap (λ (s : SessionState _). s.log) c.in_default-note_rest.ensures.noted.1)
     c.in_default.ensures.keeps.sends.first passes.3.0.shows.kept passes.3.0.shows.counted e.told.serving.carries.timed (let same = e.answers.taken in omega (arith, low, same)) passes.3.1
-    (subst (λ (s : SessionState _). IfSome (slice_get s.cpu.slots.saved 0) (λ oldest. last_session.replies ≡ ledgers.trimmed s.replies oldest.state.sends)) c.in_default-note_rest.ensures.noted.1 c.forget_sends.ensures.trimmed))))
+    (subst (λ (s : SessionState _). IfSome (oldest_of s.cpu.slots.saved) (λ oldest. last_session.replies ≡ ledgers.trimmed s.replies oldest.state.sends)) c.in_default-note_rest.ensures.noted.1 c.forget_sends.ensures.trimmed))))
 
 pub forget_sends-requires : goal.forget_sends-requires
 forget_sends-requires g c =

@@ -1,4 +1,4 @@
-use Rattle.rx_engine.proofs.Terms.{[], ap, arith, length, refl, sym, ◌+◌, ◌∙◌, false≢true, items_in, heard_alone, AtExit, plan_of, SessionState, chosen_fits, before_moved, before_released}
+use Rattle.rx_engine.proofs.Terms.{[], ap, arith, length, sym, ◌+◌, ◌∙◌, false≢true, items_in, heard_alone, AtExit, plan_of, SessionState, chosen_fits, before_moved, before_released}
 use Rattle.rx_engine.proofs.EndingOn.{ended_exit, judged_ended, released_exit, short_exit, unlike_exit}
 use Rattle.rx_engine.proofs.session.Session.follow_exit.Goals as goal
 

@@ -1,4 +1,4 @@
-use Rattle.rx_engine.proofs.Terms.{ap, arith, sym, ◌+◌, ◌∙◌, false≢true, items_in, Rules, heard_alone, AtFailure, SessionState, chosen_fits}
+use Rattle.rx_engine.proofs.Terms.{ap, arith, sym, false≢true, items_in, Rules, heard_alone, AtFailure, SessionState, chosen_fits}
 use Rattle.rx_engine.proofs.EndingOn.{fails_whole, few_taken, judged_failure, reached_failure, short_failure, unlike_failure}
 use Rattle.rx_engine.proofs.session.Session.follow_failure.Goals as goal
 

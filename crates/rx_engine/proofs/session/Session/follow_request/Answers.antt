@@ -1,4 +1,4 @@
-use Rattle.rx_engine.proofs.Terms.{List, ap, arith, refl, subst, sym, ℕ, ◌+◌, ◌∙◌, ◌≡◌, Rules, AtRequest, rules_by, SessionState, chosen_fits, enough, handed_of, TurnsTo, WaitsOn}
+use Rattle.rx_engine.proofs.Terms.{List, ap, arith, refl, subst, sym, ℕ, ◌≡◌, Rules, AtRequest, rules_by, SessionState, chosen_fits, enough, handed_of, TurnsTo, WaitsOn}
 use Rattle.rx_engine.proofs.StoppingAsked.{taking_still}
 use Rattle.session_following.specs.declared.unfollowed.Unfollowed.TheVariants as unfollowed
 use Rattle.rx_engine.proofs.RequestKeeping.{asks_marked, judged_keeps, release_keeps}

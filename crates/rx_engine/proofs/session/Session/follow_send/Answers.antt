@@ -1,4 +1,4 @@
-use Rattle.rx_engine.proofs.Terms.{List, ap, length, min, subst, sym, ℕ, ◌∙◌, ◌≡◌, slice_get, Send, IsOpened, Ledger, NotBefore, is_open, stamped_to, stamps_of, times_of, keeping_of, SessionState, later_following, opened_following, stamped_following, memory_run, sends_on, before_sent, held_count, with_held}
+use Rattle.rx_engine.proofs.Terms.{List, ap, length, min, subst, sym, ℕ, ◌∙◌, ◌≡◌, Send, oldest_of, IsOpened, Ledger, NotBefore, is_open, stamped_to, stamps_of, times_of, keeping_of, SessionState, later_following, opened_following, stamped_following, memory_run, sends_on, before_sent, held_count, with_held}
 use Rattle.rx_engine.proofs.StepKeeping.{first_failed, first_held, open_failed, open_held}
 use Rattle.session_following.proofs.Held.{held_is_least}
 use Rattle.rx_engine.proofs.session.Session.follow_send.Goals as goal
@@ -39,7 +39,7 @@ returns-clause-turns g c taken image handed before seen noted_before noted h =
 pub returns-in-Err-clause-keeps : goal.returns-in-Err-clause-keeps
 returns-in-Err-clause-keeps g c = let send : Send = record { conn = c.args.conn; bytes = c.args.bytes; taken = c.self.inside.taken } in (
   record {
-    oldest = ap (λ (s : SessionState _). slice_get s.cpu.slots.saved 0) c.self.view_is;
+    oldest = ap (λ (s : SessionState _). oldest_of s.cpu.slots.saved) c.self.view_is;
     first = ap (λ (s : SessionState _). s.log.first) c.self.view_is;
     recorded = ap (λ (s : SessionState _). s.recorded) c.self.view_is;
     sends = first_failed send c.in-Err.ensures.err ∙ ap (λ (s : SessionState _). s.replies.first) c.self.view_is;
@@ -56,7 +56,7 @@ returns-clause-keeps g c =
     let send : Send = record { conn = c.args.conn; bytes = c.args.bytes; taken = c.self.inside.taken } in
     let count = min c.left-left.result (length c.args.bytes) in (
       record {
-        oldest = ap (λ (s : SessionState _). slice_get s.cpu.slots.saved 0) here ∙ ap (λ (s : SessionState _). slice_get s.cpu.slots.saved 0) c.self.view_is;
+        oldest = ap (λ (s : SessionState _). oldest_of s.cpu.slots.saved) here ∙ ap (λ (s : SessionState _). oldest_of s.cpu.slots.saved) c.self.view_is;
         first = ap (λ (s : SessionState _). s.log.first) here ∙ ap (λ (s : SessionState _). s.log.first) c.self.view_is;
         recorded = ap (λ (s : SessionState _). s.recorded) here ∙ ap (λ (s : SessionState _). s.recorded) c.self.view_is;
         sends = ap (λ (s : SessionState _). s.replies.first) here ∙ (ap (λ (l : Ledger). l.first) c.in_default.ensures.ok ∙ (first_held c.self.inside.held.replies send count ∙ ap (λ (s : SessionState _). s.replies.first) c.self.view_is));

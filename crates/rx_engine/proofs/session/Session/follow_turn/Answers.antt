@@ -1,7 +1,7 @@
 use Rattle.session_history.specs.declared.ends.SessionBreak.TheVariants as session_break
 use Rattle.session_history.specs.declared.ends.Stop.TheVariants as stop
 use Rattle.session_following.specs.declared.unfollowed.Unfollowed.TheVariants as unfollowed
-use Rattle.rx_engine.proofs.Terms.{Err, List, ap, arith, inl, refl, rules, subst, sym, ℕ, ◌<◌, ◌∙◌, Ledger, CpuState, Standing, memory_serves, unnoted_serves, ran_keeping, ran_oldest, trimmed_still, MayServe, rules_by, SessionState, memory_of, handed_of, TurnsTo}
+use Rattle.rx_engine.proofs.Terms.{Err, List, ap, arith, inl, refl, subst, sym, ℕ, ◌<◌, ◌∙◌, Ledger, CpuState, Standing, memory_serves, unnoted_serves, ran_keeping, ran_oldest, trimmed_still, MayServe, rules_by, SessionState, memory_of, handed_of, TurnsTo}
 use Rattle.rx_engine.proofs.TurnFollowed.{asks_on, chose_more, fails_on, follows_fits, if_follows, keeps_step, later_follows, moved_oldest, never_follows, ran_least, run_on, sent_more, stopped_still}
 use Rattle.rx_engine.proofs.session.Session.follow_turn.Goals as goal
 

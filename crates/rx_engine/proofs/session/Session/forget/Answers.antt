@@ -1,5 +1,6 @@
-use Rattle.rx_engine.proofs.Terms.{rules, subst, sym, forgot_up, moved, waits_forgets, waits_forgot, IsRecorded, IsTrimmed, rules_by, SessionState, entries}
-use Rattle.rx_engine.proofs.HeldLemmas.{forgets_as, forgot_as, session_of}
+use Rattle.recovery.specs.Forgetting.{Forgets}
+use Rattle.rx_engine.proofs.Terms.{rules, subst, sym, Recoverable, forgot_up, moved, waits_forgets, waits_forgot, IsRecorded, IsTrimmed, rules_by, SessionState, entries}
+use Rattle.rx_engine.proofs.HeldLemmas.{held_as, session_of}
 use Rattle.rx_engine.proofs.session.Session.forget.Goals as goal
 
 pub forget-requires : goal.forget-requires
@@ -10,9 +11,9 @@ returns-clause-waits g c image began seen waits =
     let the_rules = rules_by g.R.AccessRule.rule c.args.self.now in
     let w = moved (sym c.self.view_is) waits in
     let story = w.hearing.story in
-    moved (forgot_as c.self.inside c.forget.new.self c.forget.ensures.rest)
+    moved (held_as c.self.inside c.forget.ensures.rest)
     (waits_forgot w
-    (forgets_as c.self.inside.held c.forget.new.self c.forget.ensures.rest
+    (subst (λ (held : Recoverable _). Forgets the_rules image (entries story) story.survivor.plan story.survivor.now w.hearing.saved.paths held.cpu c.forget.new.self.log c.forget.new.self.replies) c.forget.ensures.rest
     (c.forget.ensures.forgets the_rules image (entries story) story.survivor.plan story.survivor.now w.hearing.saved.paths w.hearing.saved.ring w.hearing.goes.items w.hearing.passed.replies)) c.forget.ensures.trial)
 
 pub returns-clause-keeps : goal.returns-clause-keeps
@@ -22,7 +23,7 @@ returns-clause-keeps g c =
     record {
       same = search rules;
       trimmed = λ recorded.
-          subst (λ (s : SessionState _). IsTrimmed s) (forgot_as c.self.inside c.forget.new.self c.forget.ensures.rest)
+          subst (λ (s : SessionState _). IsTrimmed s) (held_as c.self.inside c.forget.ensures.rest)
           (forgot_up {old = session_of c.self.inside} w.hearing.saved.ring c.forget.ensures.first c.forget.ensures.first_send (subst (λ (s : SessionState _). IsRecorded s) (sym c.self.view_is) recorded));
       opened = search rules;
     }

@@ -1,4 +1,4 @@
-use Rattle.rx_engine.proofs.Terms.{Err, None, Ok, ap, arith, refl, rules, subst, sym, ℕ, ◌+◌, ◌-◌, ◌∙◌, ◌≡◌, Seen, Stop, Keeping, known_same, between_under, comes_between, passed_frame, same_rules, passed_oldest, trimmed_still, going_can, going_told, keeping_of, AreInRange, rules_by, SessionState, Since, told_since, released_goes, took_off, TookOver}
+use Rattle.rx_engine.proofs.Terms.{Err, None, Ok, ap, arith, refl, subst, sym, ℕ, ◌+◌, ◌-◌, ◌∙◌, Seen, Keeping, known_same, between_under, comes_between, passed_frame, same_rules, passed_oldest, trimmed_still, going_can, going_told, keeping_of, AreInRange, rules_by, SessionState, Since, told_since, released_goes, took_off, TookOver}
 use Rattle.rx_engine.proofs.ReleaseLemmas.{answers_later, passing_answers, passing_notes, took_on_served}
 use Rattle.rx_engine.proofs.session.Session.serve_released.Goals as goal
 
