@@ -30,6 +30,7 @@ pub fn drop_newer<T: Snapshot>(t: &mut T, newer: u32)
     ensures fixed { T.fixed t.new ≡ T.fixed t.old }
     ensures sound { AreSound (T.slots t.new) }
 {
+    // Its answer says that the checkpoints are sound, before any goes.
     let _frames = t.frames();
     for _ in 0..newer {
         t.drop_newest();

@@ -72,6 +72,7 @@ impl<R: AccessRule> Session<R> {
         ensures counted { steps.new + self.old.cpu.slots.live.steps ≡ steps.old + self.new.cpu.slots.live.steps }
         ensures outside { K.Went link.old link.new × (N.fixed notes.new ≡ N.fixed notes.old) }
     {
+        // What holds of every session is known from here on.
         let _ = &self.options;
         if let Err(stop) = self.handle(notes) {
             return Err(Unfollowed::Stops(stop));
