@@ -3,7 +3,8 @@ ghost use Rattle.std.specs.Prelude.{◌≡◌, ◌<◌, ◌≤◌, ◌^◌, List
 ghost use Rattle.block_book.specs.declared.choice.Choice.{Choice};
 ghost use Rattle.block_book.specs.Answer.{bytes_asked, is_calloc, same_ask};
 
-use std::marker::Model;
+use rx_base::Listed;
+
 
 /// What a program asks for: a block of so many bytes, and how it asks.
 #[derive(Clone, Copy, Debug, PartialEq, Eq)]
@@ -72,29 +73,4 @@ pub struct Choice {
 }
 
 /// The answers of the allocator, in the order of the calls.
-#[derive(Debug, Drop)]
-pub struct Choices {
-    choices: Vec<Choice>,
-}
-
-impl Model for Choices {
-    ghost Value = { List Choice };
-
-    ghost view = { λ c. c.choices.items };
-}
-
-impl Choices {
-    /// The choices of a vector, in its order.
-    pub fn from_vec(v: Vec<Choice>) -> Choices
-        ensures { result ≡ v.items }
-    {
-        Choices { choices: v }
-    }
-
-    /// The choices, in their order.
-    pub fn as_slice(&self) -> &[Choice]
-        ensures { result.now ≡ self.now }
-    {
-        &self.choices
-    }
-}
+pub type Choices = Listed<Choice>;

@@ -3,14 +3,14 @@ use Rattle.std.proofs.Common.{Bool, Err, List, None, Ok, Option, Result, Some, a
 use Rattle.std.proofs.lemmas.Bool.{cases_Bool, cond_both, eqb-true, true≢false}
 use Rattle.std.proofs.lemmas.Option.{none-some}
 use Rattle.std.specs.Prelude.{◌&&◌, ◌||◌, ◌⊎◌}
-use Rattle.rx_io.specs.declared.bytes.Item.{Item}
+use Rattle.rx_base.specs.declared.item.Item.{Item}
 use Rattle.block_book.specs.declared.choice.Ask.TheVariants.{Calloc, Malloc, Realloc}
 use Rattle.block_book.specs.declared.choice.Choice.{Choice}
 use Rattle.block_book.specs.Heap.{Heap}
 use Rattle.rv_isa.specs.declared.instr.Instr.{Instr}
 use Rattle.rv_isa.specs.declared.instr.Instr.TheVariants.{Ecall}
 use Rattle.rv_isa.specs.Table.{row}
-use Rattle.elf_image.specs.Memory.{Area, bytes_at, execute, permitted, read, write}
+use Rattle.guest_image.specs.Memory.{Area, bytes_at, execute, permitted, read, write}
 use Rattle.run_history.specs.Run.{does, executed, instruction, word_at}
 use Rattle.run_history.specs.declared.answer.Cause.{Cause}
 use Rattle.run_history.specs.declared.answer.Cause.TheVariants.{AssertFailed, BadAccess, BadCall}

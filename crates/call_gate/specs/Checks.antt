@@ -1,7 +1,7 @@
 -- Which bytes a call looks at, and whether they may be touched.
 use Rattle.std.specs.Prelude.{ℕ, Bool, true, false, not, ◌&&◌, ◌||◌, List, Option, Some, None, Result, Ok, Err, slice_get, unwrap_or, nat_lt, if◌then◌else◌, ◌==◌}
 use Rattle.block_book.specs.Heap.{Heap}
-use Rattle.elf_image.specs.Memory.{Area, read, write, permitted}
+use Rattle.guest_image.specs.Memory.{Area, read, write, permitted}
 use Rattle.run_history.specs.declared.answer.Cause.{Cause}
 use Rattle.run_history.specs.declared.answer.Cause.TheVariants.{BadAccess}
 use Rattle.call_gate.specs.declared.call.Call.{Call}

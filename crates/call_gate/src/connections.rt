@@ -3,7 +3,7 @@ ghost use Rattle.std.specs.Prelude.{◌≡◌, ◌<◌, Bool, false, true, List,
 ghost use Rattle.run_history.specs.Machine.{no_connections};
 ghost use Rattle.run_history.specs.Call.{connections_after};
 
-use rx_io::Item;
+use rx_base::Item;
 use std::alloc::{AllocError, Global};
 use std::marker::Model;
 

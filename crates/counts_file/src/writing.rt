@@ -5,7 +5,7 @@ ghost use Rattle.counts_file.specs.declared.counts.TheConstants.{CONNECTIONS};
 ghost use Rattle.counts_file.specs.Lines.{count_line};
 
 use crate::counts::CONNECTIONS;
-use rx_io::Bytes;
+use rx_base::Bytes;
 use std::alloc::{AllocError, Global};
 
 /// The line of a connection, with its line feed: `CONN COUNT`. Connections have to rise from line to line.

@@ -1,6 +1,6 @@
 -- Crowds in memory of which certain calls are to fail.
 use Rattle.std.specs.Prelude.{◌≡◌, ℕ, ◌==◌, ◌&&◌, Bool, true, false, List, [], ◌∷◌, Result, Ok, Err, if◌then◌else◌}
-use Rattle.rx_io.specs.Planned.{one_more}
+use Rattle.rx_base.specs.Planned.{one_more}
 use Rattle.crowd.specs.Terms.{IoFault, Failed, Memory}
 use Rattle.crowd.specs.declared.crowd_calls.CrowdCall.{CrowdCall}
 use Rattle.crowd.specs.declared.crowd_calls.CrowdCall.TheVariants as call

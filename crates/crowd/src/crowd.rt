@@ -3,11 +3,11 @@ ghost use Rattle.std.specs.Prelude.{◌≡◌, ◌^◌, ◌<◌, ◌≤◌, ℕ,
 ghost use Rattle.crowd.specs.declared.crowd_calls.CrowdEntry.{CrowdEntry};
 ghost use Rattle.crowd.specs.Connections.{accepted, is_open, open_count, without, IsBoundAfter, IsConnectedAfter, IsReady};
 ghost use Rattle.crowd.specs.Crowding.{CrowdBinds, CrowdWaits, CrowdAccepts, CrowdTakes, CrowdGives, Logs, closed};
-ghost use Rattle.rx_io.specs.Faults.{HasCause};
-ghost use Rattle.rx_io.specs.Listening.{IsPart};
+ghost use Rattle.rx_base.specs.Faults.{HasCause};
+ghost use Rattle.rx_base.specs.Taking.{IsPart};
 
 use crate::{CrowdEntry, Ready};
-use rx_io::IoFault;
+use rx_base::IoFault;
 
 /// A port at which connections are accepted, of which several are open at the same time. They are numbered from 0 in the order in
 /// which they are accepted, anew behind each bind.

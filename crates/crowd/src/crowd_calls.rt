@@ -1,5 +1,5 @@
 // What a crowd was asked and what it answered, as plain data.
-use rx_io::Bytes;
+use rx_base::Bytes;
 
 /// What can be done without waiting: a client can be accepted, or a connection be read of.
 #[derive(Clone, Copy, Debug, PartialEq, Eq)]

@@ -12,7 +12,7 @@ pub struct Input {
 impl Input {
     ghost use Rattle.crowd.specs.Inputs.{input_stream};
     ghost use Rattle.crowd.specs.Streams.{after_taken};
-    ghost use Rattle.rx_io.specs.Sources.{fresh, piece_len};
+    ghost use Rattle.rx_base.specs.Outside.{fresh, piece_len};
 
     /// None of these bytes was taken.
     pub fn make(bytes: Vec<u8>) -> Input

@@ -2,7 +2,7 @@
 ghost use Rattle.std.specs.Borrow.{GName};
 
 use crate::{Crowd, Ready};
-use rx_io::IoFault;
+use rx_base::IoFault;
 
 impl<T: Crowd> Crowd for &mut T {
     ghost told = { λ s. T.told s.now };

@@ -8,13 +8,13 @@ ghost use Rattle.crowd.specs.Streams.{TakesAt, stream_at};
 ghost use Rattle.crowd.specs.MemoryCrowds.{clients_of, memory_calls, memory_connections, crowd_plan, accept_fails};
 ghost use Rattle.crowd.specs.TameCrowds.{tame_inputs, tame_script, tame_streams, crowd_most, contents_of_all, AcceptsNext, BindsInputs, KeepsInputs};
 ghost use Rattle.crowd.specs.declared.crowd_calls.CrowdCall.TheVariants as call;
-ghost use Rattle.rx_io.specs.Faults.{HasCause};
-ghost use Rattle.rx_io.specs.Listening.{IsPart};
-ghost use Rattle.rx_io.specs.Sources.{piece_len};
+ghost use Rattle.rx_base.specs.Faults.{HasCause};
+ghost use Rattle.rx_base.specs.Taking.{IsPart};
+ghost use Rattle.rx_base.specs.Outside.{piece_len};
 
 use crate::crowd_fails::CrowdFails;
 use crate::{Crowd, CrowdCall, CrowdEntry, FailedCall, Ready, TameCrowd};
-use rx_io::IoFault;
+use rx_base::IoFault;
 use std::alloc::Global;
 
 /// Connections whose inputs are prepared, a script of what is ready, and calls that fail. An accept past the last input fails too.

@@ -4,15 +4,15 @@ ghost use Rattle.crowd.specs.Connections.{accepted, is_open, open_count, without
 ghost use Rattle.crowd.specs.Crowding.{CrowdBinds, CrowdWaits, CrowdAccepts, CrowdTakes, CrowdGives, Logs, closed, fault_entry};
 ghost use Rattle.crowd.specs.Streams.{TakesAt, stream_at};
 ghost use Rattle.crowd.specs.Scripts.{no_input, first_open, first_ready, is_ready, next_ready, script_rest, WaitsNext};
-ghost use Rattle.rx_io.specs.Faults.{HasCause};
-ghost use Rattle.rx_io.specs.Listening.{IsPart};
-ghost use Rattle.rx_io.specs.Planned.{GivesBy};
-ghost use Rattle.rx_io.specs.Sources.{piece_len};
+ghost use Rattle.rx_base.specs.Faults.{HasCause};
+ghost use Rattle.rx_base.specs.Taking.{IsPart};
+ghost use Rattle.rx_base.specs.Planned.{GivesBy};
+ghost use Rattle.rx_base.specs.Outside.{piece_len};
 ghost use Rattle.std.specs.Vec.Iter.{into_iter_items, into_iter_len};
 
 use crate::input::Input;
 use crate::{Crowd, CrowdEntry, FailedCall, Ready};
-use rx_io::{Bytes, IoFault};
+use rx_base::{Bytes, IoFault};
 use std::alloc::Global;
 use std::vec::IntoIter;
 

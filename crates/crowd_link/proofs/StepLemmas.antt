@@ -5,7 +5,7 @@ use Rattle.links.proofs.Growing.{tells_then}
 use Rattle.links.specs.Links as links
 use Rattle.links.specs.declared.journal.Entry.TheVariants as entry
 use Rattle.links.specs.declared.journal.LinkEvent.TheVariants as event
-use Rattle.rx_io.specs.declared.fault.IoFault.TheVariants as io
+use Rattle.rx_base.specs.declared.fault.IoFault.TheVariants as io
 use Rattle.crowd.specs.declared.crowd_calls.Ready.{Ready}
 use Rattle.crowd_link.proofs.Terms.{Bool, Err, List, Ok, Option, Result, Some, [], ap, arith, false, inl, inr, length, nat_lt, refl, subst, sym, true, ℕ, ◌&&◌, ◌++◌, ◌+◌, ◌<◌, ◌∙◌, ◌∷◌, ◌≡◌, ◌≢◌, ◌≤◌, ◌⊎◌, fun_ext, and_parts, cases_lt, ltb-true, length-append, length-set, IsErrOf, slice_set, IoFault, HasCause, LinkEvent, LinkFault, Memory, ReadFault, Refused, WriteFault, ComesUntold, Enters, GoesBy, Phases, CrowdEntry, open_fewer, open_more, open_within, is_open, open_count, without, CrowdAccepts, CrowdWaits, Logs, Closing, Limits, Place, Stage, Closed, Dropped, Ended, Open, Unopened, is_broken, is_done, is_given, is_present, phase_of, shown, stage_in, IsCall, Served, after_call, can_accept, is_closable, served_of, takes_bytes, IsAt, IsClosing, IsWhole, Stands, link_journal, phases_at, stage_at, told_at, HasOpenCause, IsTake, NextAt, Settles, TakesNext, TakesPiece, WaitsAt, WentOn, closed_place, dropped_place, ended_place, opened_place, read_fault_of, settled_place, taken, calls_on, calls_same}
 use Rattle.crowd_link.specs.declared.place.Closing.TheVariants as closing

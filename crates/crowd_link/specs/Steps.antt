@@ -9,7 +9,7 @@ use Rattle.crowd_link.specs.declared.place.Stage.TheVariants.{Closed, Dropped, E
 use Rattle.crowd_link.specs.Served.{served_of, AreCalls}
 use Rattle.crowd_link.specs.Standing.{Stands, IsWhole, phases_at, gives_at, told_at}
 use Rattle.links.specs.declared.journal.Entry.TheVariants as entry
-use Rattle.rx_io.specs.declared.fault.IoFault.TheVariants as io
+use Rattle.rx_base.specs.declared.fault.IoFault.TheVariants as io
 use Rattle.crowd.specs.declared.crowd_calls.FailedCall.TheVariants as call
 use Rattle.crowd.specs.declared.crowd_calls.CrowdEntry.TheVariants as made
 

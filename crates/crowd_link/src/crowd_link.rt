@@ -1,6 +1,6 @@
 // A link over a crowd.
 ghost use Rattle.std.specs.Prelude.{◌≡◌, ◌≤◌, true};
-ghost use Rattle.rx_io.specs.Faults.{Rose};
+ghost use Rattle.rx_base.specs.Faults.{Rose};
 ghost use Rattle.links.specs.Links.{IsGone};
 ghost use Rattle.crowd_link.specs.Stages.{gones_behind};
 ghost use Rattle.crowd_link.specs.Standing.{IsWhole, Stands};

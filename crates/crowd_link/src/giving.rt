@@ -1,6 +1,6 @@
 // A piece for a connection of a crowd.
 ghost use Rattle.std.specs.Prelude.{◌≡◌, ◌<◌, ◌≤◌, true, length, Ok};
-ghost use Rattle.rx_io.specs.Faults.{Rose};
+ghost use Rattle.rx_base.specs.Faults.{Rose};
 ghost use Rattle.crowd.specs.Connections.{is_open};
 ghost use Rattle.links.specs.Links.{IsGone};
 ghost use Rattle.crowd_link.specs.Stages.{is_given};
@@ -10,7 +10,7 @@ ghost use Rattle.crowd_link.specs.Gives.{GivesTo, GivesPiece};
 use crate::place::{Limits, Place, Stage, stage_behind};
 use crowd::Crowd;
 use links::{Given, LinkFault};
-use rx_io::IoFault;
+use rx_base::IoFault;
 
 // Gives bytes to an open connection, over as many calls as it wants.
 fn give_piece<C: Crowd>(crowd: &mut C, conn: u16, bytes: &[u8]) -> Result<Given, LinkFault>

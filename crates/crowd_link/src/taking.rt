@@ -9,7 +9,7 @@ ghost use Rattle.crowd_link.specs.Taking.{may_accept, NoneBroken};
 use crate::place::{Closing, Limits, Place, Stage, first_broken};
 use crowd::{Crowd, Ready};
 use links::{LinkEvent, LinkFault};
-use rx_io::{Bytes, IoFault};
+use rx_base::{Bytes, IoFault};
 use std::alloc::Global;
 
 // Closes the connection whose close was answered last, if that wasn't done before.

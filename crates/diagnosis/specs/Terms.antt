@@ -1,7 +1,7 @@
 -- The words that this crate's definitions are written in: those of crates below, and types of its code.
 pub use Rattle.std.specs.declared.alloc.AllocError.{AllocError}
-pub use Rattle.rx_io.specs.declared.bytes.Item.{Item}
-pub use Rattle.rx_io.specs.Sends.{Send}
+pub use Rattle.rx_base.specs.declared.item.Item.{Item}
+pub use Rattle.rx_base.specs.Sends.{Send}
 pub use Rattle.alloc_env.specs.declared.env.Env.{Env}
 pub use Rattle.run_history.specs.Served.{Limits, Override, Path}
 pub use Rattle.session_history.specs.Passing.{AreBetween}

@@ -3,7 +3,7 @@ ghost use Rattle.std.specs.Prelude.{◌≡◌, ◌+◌, ◌-◌, ℕ};
 ghost use Rattle.std.specs.Borrow.{ftrue};
 ghost use Rattle.std.specs.Coded.{coded_ℕ};
 
-use rx_io::Steps;
+use rx_base::Steps;
 use std::marker::Model;
 use std::sync::ledger::Ledger;
 

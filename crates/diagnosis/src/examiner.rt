@@ -5,7 +5,7 @@ use crate::counting::{Count, NoSteps, Since};
 use crate::examining::examine;
 use guest_space::AccessRule;
 use recovery::{Recoverable, TrialLimits, Watch};
-use rx_io::Steps;
+use rx_base::Steps;
 use session_notes::{Tries, Try};
 use std::alloc::{AllocError, Global};
 use std::sync::ledger::Ledger;

@@ -12,7 +12,7 @@ use alloc_env::Env;
 use ckpt_ring::Snapshot;
 use guest_space::AccessRule;
 use recovery::{Chance, Recoverable, TrialLimits};
-use rx_io::Steps;
+use rx_base::Steps;
 use session_notes::Try;
 use std::alloc::AllocError;
 use std::sync::ledger::Ledger;

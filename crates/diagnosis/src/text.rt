@@ -5,7 +5,7 @@ ghost use Rattle.diagnosis.specs.Diagnosis.{head_text, env_words, verdict_line, 
 
 use crate::verdict::cures;
 use alloc_env::Env;
-use rx_io::Bytes;
+use rx_base::Bytes;
 use session_notes::{Episode, Tries, Try, env_word, failure_line, try_line};
 use std::alloc::{AllocError, Global};
 

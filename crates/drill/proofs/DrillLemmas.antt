@@ -1,5 +1,5 @@
 -- A session that came to an end, by what its link and its notes have of it.
-use Rattle.rx_io.specs.declared.bytes.Item.{Item}
+use Rattle.rx_base.specs.declared.item.Item.{Item}
 use Rattle.links.specs.declared.journal.LinkEvent.TheVariants as event
 use Rattle.session_history.specs.declared.ends.SessionBreak.TheVariants as session_break
 use Rattle.session_history.specs.declared.ends.SessionEnd.TheVariants as session_end

@@ -1,6 +1,6 @@
 -- The summary of a drill.
 use Rattle.std.specs.Prelude.{ℕ, ◌+◌, ◌==◌, List, [], ◌∷◌, ◌++◌, length, codes, Option, None, Some, if◌then◌else◌, Result, Ok, Err}
-use Rattle.rx_io.specs.declared.fault.IoFault.{IoFault}
+use Rattle.rx_base.specs.declared.fault.IoFault.{IoFault}
 use Rattle.links.specs.declared.journal.Entry.TheVariants as entry
 use Rattle.run_history.specs.declared.answer.Answer.TheVariants as answer
 use Rattle.drill.specs.Terms.{decimal, Appends, Prefix, Entry, Answer}

@@ -1,11 +1,11 @@
 // A drill: its program, its session, and its five lines.
 ghost use Rattle.std.specs.Prelude.{◌≡◌, ◌+◌, ◌-◌, ◌≤◌, ℕ, List, true, false, IfOk, IfErr, IfSome};
 ghost use Rattle.std.specs.List.{list_any};
-ghost use Rattle.elf_image.specs.declared.image.Image.{Image};
+ghost use Rattle.guest_image.specs.declared.image.Image.{Image};
 ghost use Rattle.example_guests.specs.Guests.{keys_text};
 ghost use Rattle.run_history.specs.declared.answer.Answer.TheVariants as answer;
 ghost use Rattle.rv_asm.specs.Assembling.{IsAssembled, IsReason};
-ghost use Rattle.rx_io.specs.Faults.{Rose};
+ghost use Rattle.rx_base.specs.Faults.{Rose};
 ghost use Rattle.session_state.specs.Serving.{IsReadyToServe};
 ghost use Rattle.session_state.specs.Sessions.{IsBegun};
 ghost use Rattle.drill.specs.Generator.{drill_events, is_end};
@@ -19,14 +19,15 @@ use crate::generating::drill_events;
 use crate::passing::passed_bytes;
 use crate::settings::{WINDOW, settings};
 use crate::summary::{Summary, end_status, summary_text, write_all};
-use elf_image::Image;
+use guest_image::Image;
 use example_guests::keys_source;
 use guest_space::AllMapped;
 use links::LinkEvent;
 use run_history::Answer;
 use rv_asm::{AsmRefusal, assemble};
 use rx_engine::Session;
-use rx_io::{IoFault, Sink, Steps};
+use rx_io::Sink;
+use rx_base::{IoFault, Steps};
 use std::alloc::Global;
 use std::sync::ledger::Ledger;
 

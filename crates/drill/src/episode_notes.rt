@@ -3,7 +3,7 @@ ghost use Rattle.std.specs.Prelude.{◌≡◌, ◌<◌, [], length};
 ghost use Rattle.session_notes.specs.Lists.{list_plan};
 
 use block_book::Choice;
-use rx_io::IoFault;
+use rx_base::IoFault;
 use session_notes::{Episode, NoteList, Notes};
 use std::alloc::Global;
 

@@ -3,7 +3,7 @@ ghost use Rattle.std.specs.Prelude.{◌≡◌, ◌++◌, ◌∷◌, [], ◌<◌,
 ghost use Rattle.drill.specs.Generator.{next_state, drawn, third_state, line_of, message, messages, opening, closing, drill_events};
 
 use links::LinkEvent;
-use rx_io::Bytes;
+use rx_base::Bytes;
 use std::alloc::{AllocError, Global};
 
 // The constants of the linear congruential generator of "Numerical Recipes", modulo 2^32.

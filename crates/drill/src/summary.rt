@@ -1,10 +1,11 @@
 // The summary of a drill.
 ghost use Rattle.std.specs.Prelude.{◌≡◌, IfOk};
 ghost use Rattle.drill.specs.Summary.{summary_text, end_status, WritesAll};
-ghost use Rattle.rx_io.specs.Faults.{HasCause};
+ghost use Rattle.rx_base.specs.Faults.{HasCause};
 
 use run_history::Answer;
-use rx_io::{Bytes, IoFault, Sink};
+use rx_io::Sink;
+use rx_base::{Bytes, IoFault};
 use std::alloc::{AllocError, Global};
 
 /// What a drill tells of its session.

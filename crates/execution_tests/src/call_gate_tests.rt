@@ -6,7 +6,7 @@ use block_book::Book;
 use call_gate::{ConnSet, check_call, read_call};
 use guest_space::{AccessRule, AllMapped, GuestSpace};
 use run_history::Regs;
-use rx_io::{Bytes, Item};
+use rx_base::{Bytes, Item};
 use std::alloc::{AllocError, Global};
 use std::process::Abort;
 use std::test::Fail;

@@ -8,10 +8,11 @@ ghost use Rattle.execution_tests.specs.Checkpoints.{GoesOn};
 
 use alloc_env::Env;
 use ckpt_ring::{Snapshot, drop_newer, save};
-use elf_image::{Image, read_image};
+use elf_file::read_image;
+use guest_image::Image;
 use guest_cpu::{Cpu, Event};
 use guest_space::AllMapped;
-use rx_io::{Bytes, Item, Steps};
+use rx_base::{Bytes, Item, Steps};
 use std::alloc::Global;
 use std::marker::Brand;
 use std::process::Abort;

@@ -3,7 +3,8 @@ ghost use Rattle.std.specs.Prelude.{◌*◌, ◌/◌};
 ghost use Rattle.guest_space.specs.Access.{IsStart};
 
 use crate::rows::{TEXT_AND_DATA, read_numbers, space_of};
-use elf_image::{Image, read_image};
+use elf_file::read_image;
+use guest_image::Image;
 use guest_space::GuestSpace;
 use std::alloc::Global;
 use std::process::Abort;

@@ -1,5 +1,5 @@
 // Columns of rows, and the memory of a small executable.
-use elf_image::read_image;
+use elf_file::read_image;
 use guest_space::GuestSpace;
 use std::alloc::Global;
 use std::test::Fail;

@@ -7,7 +7,7 @@ use guest_space::{AccessRule, AllMapped, BadAccess, GuestSpace};
 use run_history::{Cause, Regs};
 use rv_exec::step;
 use rv_isa::{Instr, decode};
-use rx_io::Steps;
+use rx_base::Steps;
 use std::alloc::Global;
 use std::marker::Brand;
 use std::process::Abort;

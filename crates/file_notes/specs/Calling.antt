@@ -1,6 +1,6 @@
 -- Which calls on the two files were made, in order.
 use Rattle.std.specs.Prelude.{◌≡◌, ℕ, Bool, true, false, ◌||◌, List, [], ◌∷◌, All, bytes_eq, Option, Result, Ok, Err}
-use Rattle.rx_io.specs.Prefix.{Prefix}
+use Rattle.rx_base.specs.Prefix.{Prefix}
 use Rattle.file_notes.specs.Terms.{FileCall, Added, Loaded, Started, Calls}
 use Rattle.file_notes.specs.Names.{Names}
 

@@ -1,7 +1,7 @@
 -- The words that this crate's definitions are written in: those of crates below, and types of its code.
 pub use Rattle.std.specs.Coded.{Coded, Coded-set, Unit-prop, code_by, coded_list, coded_option, coded_ℕ, coded×, coded⊎}
-pub use Rattle.rx_io.specs.declared.fault.IoFault.{IoFault}
-pub use Rattle.rx_io.specs.declared.fault.IoFault.TheVariants.{Failed, Memory}
+pub use Rattle.rx_base.specs.declared.fault.IoFault.{IoFault}
+pub use Rattle.rx_base.specs.declared.fault.IoFault.TheVariants.{Failed, Memory}
 pub use Rattle.rx_io.specs.declared.file_calls.FileCall.{FileCall}
 pub use Rattle.rx_io.specs.declared.file_calls.FileCall.TheVariants.{Added, Loaded, Started}
 pub use Rattle.rx_io.specs.Calling.{Calls, calls_of}

@@ -1,6 +1,6 @@
 // Texts of what was noted, and adding them to files.
 ghost use Rattle.std.specs.Prelude.{◌≡◌, ◌+◌, ◌^◌, ◌<◌, true, [], ◌∷◌, IfOk};
-ghost use Rattle.rx_io.specs.Faults.{HasCause};
+ghost use Rattle.rx_base.specs.Faults.{HasCause};
 ghost use Rattle.rx_io.specs.Named.{Adds};
 ghost use Rattle.rx_io.specs.declared.file_calls.FileCall.TheVariants.{Added};
 ghost use Rattle.file_notes.specs.Calling.{CallsUpTo};
@@ -12,7 +12,8 @@ ghost use Rattle.file_notes.specs.Texts.{told_text};
 
 use block_book::{Ask, Choice};
 use run_report::{Form, episode_text, head_text};
-use rx_io::{Bytes, Files, IoFault};
+use rx_io::Files;
+use rx_base::{Bytes, IoFault};
 use schedule_file::add_choice;
 use session_notes::Episode;
 use std::alloc::{AllocError, Global};

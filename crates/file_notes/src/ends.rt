@@ -1,6 +1,6 @@
 // How both files are begun, and their last lines.
 ghost use Rattle.std.specs.Prelude.{◌≡◌, ◌≤◌, ◌<◌, ◌^◌};
-ghost use Rattle.rx_io.specs.Faults.{HasCause};
+ghost use Rattle.rx_base.specs.Faults.{HasCause};
 ghost use Rattle.run_report.specs.Report.{head_text, end_text};
 ghost use Rattle.schedule_file.specs.Lines.{head_line, end_line};
 ghost use Rattle.schedule_file.specs.declared.recorded.TheConstants.{MAX_WINDOW, MAX_TAKEN, VERSION};
@@ -14,7 +14,8 @@ use crate::file_names::FileNames;
 use crate::writing::{add_both, start_both, take_over_both};
 use msg_frame::Framing;
 use run_report::{Form, end_text, head_text};
-use rx_io::{Files, IoFault};
+use rx_io::Files;
+use rx_base::IoFault;
 use schedule_file::{end_line, head_line};
 use session_notes::Episode;
 use std::alloc::Global;

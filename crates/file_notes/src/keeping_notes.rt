@@ -2,7 +2,7 @@
 ghost use Rattle.file_notes.specs.Keeping.{IsCopy, IsCopy-prop};
 
 use block_book::Choice;
-use rx_io::IoFault;
+use rx_base::IoFault;
 use session_notes::{Episode, Notes};
 
 /// Notes, and others that keep a copy of each episode that is noted. Where the others fail, the copy is given up, and the notes go on.

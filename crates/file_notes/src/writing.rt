@@ -1,13 +1,14 @@
 // Writing texts into one file and into both.
 ghost use Rattle.std.specs.Prelude.{◌≡◌, [], ◌∷◌};
-ghost use Rattle.rx_io.specs.Faults.{HasCause};
+ghost use Rattle.rx_base.specs.Faults.{HasCause};
 ghost use Rattle.rx_io.specs.declared.file_calls.FileCall.TheVariants.{Added};
 ghost use Rattle.file_notes.specs.Names.{AreTwo, names_in};
 ghost use Rattle.file_notes.specs.Calling.{CallsUpTo, starts_of, starting, ending, taking_over};
 ghost use Rattle.file_notes.specs.Writing.{Writes, StartsBoth, AddsBoth, TakesOverBoth, nothing_kept, all_kept};
 
 use crate::file_names::FileNames;
-use rx_io::{Files, IoFault};
+use rx_io::Files;
+use rx_base::IoFault;
 
 /// Starts a file, and adds a text to it.
 ///

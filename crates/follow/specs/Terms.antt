@@ -1,9 +1,9 @@
 -- The words that this crate's definitions are written in: those of crates below, and types of its code.
 pub use Rattle.std.specs.List.{last_or}
 pub use Rattle.std.specs.Option.{option_map_or}
-pub use Rattle.rx_io.specs.declared.bytes.Item.{Item}
-pub use Rattle.rx_io.specs.Prefix.{Prefix}
-pub use Rattle.rx_io.specs.Sends.{Send, sent_to}
+pub use Rattle.rx_base.specs.declared.item.Item.{Item}
+pub use Rattle.rx_base.specs.Prefix.{Prefix}
+pub use Rattle.rx_base.specs.Sends.{Send, sent_to}
 pub use Rattle.links.specs.declared.journal.Entry.{Entry}
 pub use Rattle.links.specs.declared.journal.LinkEvent.{LinkEvent}
 pub use Rattle.links.specs.Links.{events_in}
@@ -11,7 +11,7 @@ pub use Rattle.block_book.specs.declared.choice.Choice.{Choice}
 pub use Rattle.block_book.specs.Heap.{Heap}
 pub use Rattle.alloc_env.specs.declared.env.Env.{Env}
 pub use Rattle.alloc_env.specs.declared.env.Env.TheVariants.{All, Delay, Isolate, Pad, Plain, Zero}
-pub use Rattle.elf_image.specs.declared.image.Image.{Image}
+pub use Rattle.guest_image.specs.declared.image.Image.{Image}
 pub use Rattle.run_history.specs.declared.answer.Cause.TheVariants.{BadAccess, Hang}
 pub use Rattle.run_history.specs.Machine.{Effect, Fails, State, Wants}
 pub use Rattle.run_history.specs.Run.{after, output}

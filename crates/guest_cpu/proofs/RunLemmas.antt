@@ -1,5 +1,5 @@
 -- A guest that runs to its next event is a run that goes on.
-use Rattle.rx_io.specs.Sends.{Send}
+use Rattle.rx_base.specs.Sends.{Send}
 use Rattle.guest_cpu.proofs.Terms.{Bool, List, None, Option, Some, [], ap, arith, false, refl, subst, sym, ℕ, ◌++◌, ◌<◌, ◌∙◌, ◌∷◌, ◌≡◌, Err, Ok, slice_get, unwrap_or, Item, Choice, Env, Cause, served_next_more, start, start_machine, Limits, Override, Path, env_at, guest_of, served_next, serves, Range, Event, Live, Standing, Turn, live_after, turn, with_range, Adds, standing_of, GoesOn, IsSilent, RunsWriting, Writes, writes, RunsServe, RunsStart, RunsWrite}
 use Rattle.guest_cpu.specs.declared.event.Event.TheVariants as event
 use Rattle.guest_cpu.proofs.ServingLemmas.{turns_serve}

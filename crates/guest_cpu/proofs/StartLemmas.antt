@@ -1,10 +1,10 @@
 -- A guest at the start of its program.
 use Rattle.ckpt_ring.proofs.Flags.{count_true-all}
-use Rattle.elf_image.specs.declared.segment.Segment.{Segment}
+use Rattle.guest_image.specs.declared.segment.Segment.{Segment}
 use Rattle.std.specs.Prelude.{◌-◌}
-use Rattle.elf_image.specs.Layout.{executable}
-use Rattle.elf_image.proofs.Valid.{segments_below, entry_executable, heap_has_page}
-use Rattle.elf_image.specs.declared.layout.TheConstants.{STACK}
+use Rattle.guest_image.specs.Layout.{executable}
+use Rattle.guest_image.proofs.Valid.{segments_below, entry_executable, heap_has_page}
+use Rattle.guest_image.specs.declared.layout.TheConstants.{STACK}
 use Rattle.guest_cpu.proofs.Terms.{All, Contains, List, None, Option, [], ap, arith, eqb, inl, inr, leb, length, ltb, refl, replicate, sym, true, ℕ, ◌%◌, ◌&&◌, ◌*◌, ◌++◌, ◌+◌, ◌/◌, ◌<◌, ◌∙◌, ◌∷◌, ◌≡◌, ◌≤◌, cases_Bool, nat_tests, length-replicate, All-head, All-tail, All-weaker, Contains-append_right, map, SameEnds, PAGE, MAX_SLOTS, IsMade, Pages, Space, line_starts, IsLine, Line, line_of, Image, heap_end, heap_start, stack_top, IsStart, GuestPages, blank_span, segment_span, Core, AreCounted, standing, IsCpu, IsFreshCpu, IsStartCore, cpu_state}
 
 -- an address of a segment lies below what is at or above each segment's end

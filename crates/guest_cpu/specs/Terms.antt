@@ -1,6 +1,6 @@
 -- The words that this crate's definitions are written in: those of crates below, and types of its code.
 pub use Rattle.std.specs.declared.alloc.AllocError.{AllocError}
-pub use Rattle.rx_io.specs.declared.bytes.Item.{Item}
+pub use Rattle.rx_base.specs.declared.item.Item.{Item}
 pub use Rattle.block_book.specs.declared.choice.Ask.{Ask}
 pub use Rattle.block_book.specs.declared.choice.Choice.{Choice}
 pub use Rattle.block_book.specs.Answer.{bytes_asked, has_replaced, insert_live, is_calloc, is_defined, live_blocks, live_with, replaced, same_ask, size_at, without_live, without_replaced}
@@ -20,10 +20,10 @@ pub use Rattle.rv_isa.specs.declared.instr.Instr.TheVariants.{Ecall, Store}
 pub use Rattle.rv_isa.specs.Meaning.{store_size}
 unfoldable pub use Rattle.rv_isa.specs.Meaning.{displaced, word_sum}
 unfoldable pub use Rattle.rv_isa.specs.Table.{base_op, branch_op, branch_row, imm_op, imm_row, op_row, reg_op, row, system_row}
-pub use Rattle.elf_image.specs.declared.image.Image.{Image}
-pub use Rattle.elf_image.specs.Image.{base, heap_end, heap_start, memory_of, stack_top}
-pub use Rattle.elf_image.specs.Memory.{Area, bytes_at, each_covered, execute, put_bytes, read, write}
-unfoldable pub use Rattle.elf_image.specs.Memory.{permitted}
+pub use Rattle.guest_image.specs.declared.image.Image.{Image}
+pub use Rattle.guest_image.specs.Image.{base, heap_end, heap_start, memory_of, stack_top}
+pub use Rattle.guest_image.specs.Memory.{Area, bytes_at, each_covered, execute, put_bytes, read, write}
+unfoldable pub use Rattle.guest_image.specs.Memory.{permitted}
 pub use Rattle.run_history.specs.declared.answer.Cause.{Cause}
 pub use Rattle.run_history.specs.declared.answer.Cause.TheVariants.{AssertFailed, BadAccess, BadFree, BadInstruction, Hang}
 pub use Rattle.run_history.specs.declared.regs.Regs.{Regs}

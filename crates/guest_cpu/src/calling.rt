@@ -1,6 +1,6 @@
 // One call of a guest.
 ghost use Rattle.std.specs.Prelude.{◌≡◌, ◌-◌, ◌+◌, ◌^◌, ◌<◌, ◌≤◌, List, Option, Some, None, Ok, true, slice_index};
-ghost use Rattle.elf_image.specs.Memory.{Area, permitted};
+ghost use Rattle.guest_image.specs.Memory.{Area, permitted};
 ghost use Rattle.guest_space.specs.Space.{flat};
 ghost use Rattle.rv_isa.specs.declared.instr.Instr.TheVariants.{Ecall};
 ghost use Rattle.run_history.specs.Machine.{Ends};
@@ -20,7 +20,7 @@ use block_book::Ask;
 use call_gate::{Call, MOST_SENT, check_call, read_call};
 use guest_space::{AccessRule, GuestSpace};
 use run_history::{Cause, kept_count};
-use rx_io::{Bytes, Steps};
+use rx_base::{Bytes, Steps};
 use std::alloc::{AllocError, Global};
 use std::sync::ledger::Ledger;
 

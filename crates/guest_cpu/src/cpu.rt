@@ -26,7 +26,7 @@ use block_book::{Ask, Book, Choice};
 use ckpt_ring::Ring;
 use guest_space::{AccessRule, AllMapped, GuestSpace, Windows};
 use run_history::Regs;
-use rx_io::{Item, Steps};
+use rx_base::{Item, Steps};
 use std::alloc::{AllocError, Global};
 use std::marker::Model;
 use std::sync::ledger::Ledger;

@@ -2,7 +2,7 @@
 
 use block_book::{Ask, Choice};
 use run_history::Cause;
-use rx_io::Bytes;
+use rx_base::Bytes;
 
 /// Why a run in an environment stopped.
 #[derive(Debug, Drop)]

@@ -8,7 +8,7 @@ use block_book::Book;
 use call_gate::ConnSet;
 use ckpt_ring::Ring;
 use cow_pages::{MAX_FRAMES_PER_PAGE, MAX_SLOTS, PAGE};
-use elf_image::Image;
+use guest_image::Image;
 use guest_space::{AccessRule, GuestSpace, Windows};
 use run_history::Regs;
 use std::alloc::{AllocError, Global};

@@ -1,7 +1,7 @@
 // The first bytes of a new block.
 ghost use Rattle.std.specs.Prelude.{◌≡◌, ◌≢◌, ◌^◌, ◌<◌, ◌==◌, unwrap_or, if◌then◌else◌};
 ghost use Rattle.block_book.specs.Answer.{bytes_asked, replaced};
-ghost use Rattle.elf_image.specs.Memory.{put_bytes};
+ghost use Rattle.guest_image.specs.Memory.{put_bytes};
 ghost use Rattle.guest_space.specs.Space.{flat};
 ghost use Rattle.run_history.specs.Machine.{Machine};
 ghost use Rattle.run_history.specs.Call.{kept_count, set_bytes};

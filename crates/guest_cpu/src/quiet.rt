@@ -7,7 +7,7 @@ ghost use Rattle.guest_cpu.specs.Quiet.{RanOn};
 use crate::guest_core::Core;
 use guest_space::{AccessRule, GuestSpace, Windows};
 use rv_exec::run_on;
-use rx_io::Steps;
+use rx_base::Steps;
 use std::sync::ledger::Ledger;
 
 /// Does at most so many instructions that are no calls. It may stop before any of them: `advance` says what comes there.

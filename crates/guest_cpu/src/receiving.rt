@@ -1,6 +1,6 @@
 // A recv that takes an item.
 ghost use Rattle.std.specs.Prelude.{◌≡◌, ◌^◌, ◌<◌, true, length, slice_index};
-ghost use Rattle.elf_image.specs.Memory.{permitted, put_bytes};
+ghost use Rattle.guest_image.specs.Memory.{permitted, put_bytes};
 ghost use Rattle.guest_space.specs.Space.{flat};
 ghost use Rattle.guest_space.specs.Windows.{AreWindows};
 ghost use Rattle.run_history.specs.Touching.{buffer};
@@ -10,7 +10,7 @@ ghost use Rattle.guest_cpu.specs.Turns.{Wrote, Keeps};
 
 use crate::guest_core::Core;
 use guest_space::{GuestSpace, Windows};
-use rx_io::Item;
+use rx_base::Item;
 
 /// A recv takes an item into its buffer.
 pub fn receive(core: &mut Core, space: &mut GuestSpace, windows: &mut Windows, item: &Item)

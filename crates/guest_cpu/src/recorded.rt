@@ -1,7 +1,7 @@
 // One instruction of a guest as recorded: without a budget, an environment or a rule.
 ghost use Rattle.std.specs.Prelude.{◌≡◌, ◌-◌, ◌+◌, ◌^◌, ◌<◌, List, Some, Ok, None, slice_index};
 ghost use Rattle.block_book.specs.Answer.{live_blocks};
-ghost use Rattle.elf_image.specs.Memory.{Area};
+ghost use Rattle.guest_image.specs.Memory.{Area};
 ghost use Rattle.guest_space.specs.Space.{flat};
 ghost use Rattle.rv_isa.specs.declared.instr.Instr.TheVariants.{Ecall};
 ghost use Rattle.run_history.specs.Call.{free};
@@ -16,7 +16,7 @@ use crate::turning::meet;
 use block_book::{Ask, Book};
 use guest_space::{AllMapped, GuestSpace};
 use run_history::{Cause, may_ask};
-use rx_io::Steps;
+use rx_base::Steps;
 use std::alloc::{AllocError, Global};
 use std::sync::ledger::Ledger;
 

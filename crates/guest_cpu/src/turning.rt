@@ -16,7 +16,7 @@ use guest_space::{AccessRule, GuestSpace, Windows};
 use run_history::Cause;
 use rv_exec::{next_instr, step};
 use rv_isa::Instr;
-use rx_io::Steps;
+use rx_base::Steps;
 use std::alloc::{AllocError, Global};
 use std::sync::ledger::Ledger;
 

@@ -1,7 +1,7 @@
 -- A space as a program begins.
 use Rattle.std.proofs.lemmas.List.Quantifiers.{all_pairs_push}
 use Rattle.std.proofs.Math.Bool.{and-false}
-use Rattle.elf_image.proofs.Valid.{stack_top_below, heap_has_page, heap_ends, segments_above, segments_below, segments_apart, some_segment}
+use Rattle.guest_image.proofs.Valid.{stack_top_below, heap_has_page, heap_ends, segments_above, segments_below, segments_apart, some_segment}
 use Rattle.guest_space.proofs.Terms.{List, None, [], ap, ap₂, arith, cond, drop, false, get_or, length, map, refl, replicate, subst, suc, sym, take, zero, ℕ, ◌&&◌, ◌*◌, ◌++◌, ◌+◌, ◌-◌, ◌/◌, ◌<◌, ◌^◌, ◌∙◌, ◌∷◌, ◌≡◌, ◌≤◌, nat_tests, append_assoc, at_drop_more, drop-replicate, get_or-map, length-map, length-replicate, map-append, take-replicate, All-append, All-cons, All-head, All-map, All-nil, All-push, All-weaker, All, AllPairs, PAGE, IsLawful, IsMade, Pages, has, saved_numbers, used_of, Writes, copied_pages, is_shared, reaches, Table, Image, STACK, Segment, base, blank_area, heap_end, heap_start, memory_of, segment_area, stack_top, zeros, IsPlaced, share_byte, Area, AreApart, IsLawfulSpace, LiesIn, Span, area_of, blank_span, flat_of, guest_pages, meet, segment_span, spans_of, IsStart, HasCode, FilesIn, Fills, IsFilled, filled_bytes}
 use Rattle.guest_space.proofs.FillLemmas.{IsThere, IsBlank, keeps, segments_flat, span_lies}
 

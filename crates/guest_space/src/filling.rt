@@ -7,7 +7,7 @@ ghost use Rattle.guest_space.specs.Filling.{FilesIn, Fills};
 
 use crate::span::{Span, blank_span, segment_span};
 use cow_pages::PageStore;
-use elf_image::{Image, STACK, Segment};
+use guest_image::{Image, STACK, Segment};
 use std::alloc::{AllocError, Global};
 
 /// The spans of an image: its segments, its heap and its stack.

@@ -2,7 +2,7 @@
 ghost use Rattle.std.specs.Prelude.{◌≡◌, ◌==◌, ◌+◌, ◌-◌, ◌*◌, ◌/◌, ◌%◌, ◌^◌, ◌<◌, ◌≤◌, length, take, drop, replicate, true, false, Some, None, is_some, IsSome, IfOk, Ok, IfSome, MatchBool, slice_get, slice_set, if◌then◌else◌, ◌⊎◌};
 ghost use Rattle.std.specs.Bool.{OnFalse, OnTrue};
 ghost use Rattle.rv_isa.specs.Words.{little_bytes, little_number};
-ghost use Rattle.elf_image.specs.Memory.{permitted, bytes_at};
+ghost use Rattle.guest_image.specs.Memory.{permitted, bytes_at};
 ghost use Rattle.cow_pages.specs.Pages.{slot_at, used_of, held_of};
 ghost use Rattle.cow_pages.specs.Writes.{StandsAt, is_shared};
 ghost use Rattle.guest_space.specs.Space.{flat, IsLawfulSpace};
@@ -20,13 +20,13 @@ use crate::window::recent_of;
 use crate::{BadAccess, Stretch, Window, Windows};
 use code_table::CodeTable;
 use cow_pages::{MAX_FRAMES_PER_PAGE, MAX_SLOTS, PAGE, PageStore};
-use elf_image::Image;
+use guest_image::Image;
 use std::alloc::{AllocError, Global};
 use std::marker::Model;
 use std::rc::Rc;
 
 // A store's pages are those by which an image is laid out.
-const _: () = prove!(cow_pages::PAGE == elf_image::PAGE);
+const _: () = prove!(cow_pages::PAGE == guest_image::PAGE);
 
 // How many addresses there are.
 const ADDRESSES: u64 = 0x1_0000_0000;

@@ -6,7 +6,7 @@ ghost use Rattle.guest_space.specs.Ranges.{has_address, has_range, some_has, Are
 ghost use Rattle.guest_space.specs.Stretches.{IsOpen, IsIn};
 
 use crate::Stretch;
-use elf_image::Segment;
+use guest_image::Segment;
 use std::marker::Model;
 
 /// What a span may permit, by its flag in a program header (System V ABI, "Segment Permissions").

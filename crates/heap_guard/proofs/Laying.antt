@@ -6,11 +6,11 @@ use Rattle.std.proofs.lemmas.List.Elements.{All-head, All-tail}
 use Rattle.std.proofs.lemmas.Option.{option_and_then_some, same_Some}
 use Rattle.std.specs.List.{All}
 use Rattle.block_book.specs.Heap.{IsHeap, empty_heap}
-use Rattle.elf_image.specs.declared.image.Image.{Image}
-use Rattle.elf_image.specs.declared.segment.Segment.{Segment}
-use Rattle.elf_image.specs.Image.{heap_end, heap_start}
-use Rattle.elf_image.specs.Layout.{executable}
-use Rattle.elf_image.proofs.Valid.{segments_below, entry_executable, heap_has_page}
+use Rattle.guest_image.specs.declared.image.Image.{Image}
+use Rattle.guest_image.specs.declared.segment.Segment.{Segment}
+use Rattle.guest_image.specs.Image.{heap_end, heap_start}
+use Rattle.guest_image.specs.Layout.{executable}
+use Rattle.guest_image.proofs.Valid.{segments_below, entry_executable, heap_has_page}
 use Rattle.run_history.specs.Terms.{Item}
 use Rattle.run_history.specs.Machine.{start, start_machine}
 use Rattle.run_history.specs.Served.{IsLaidOut, Limits, Override, Path, env_at, guest_of, origin, planned_next, serve}

@@ -1,7 +1,7 @@
 -- The words that this crate's definitions are written in: those of crates below, and types of its code.
 pub use Rattle.std.specs.declared.alloc.Global.{Global}
 pub use Rattle.std.specs.Option.{is_some, option_map_or, unwrap_or}
-pub use Rattle.rx_io.specs.declared.bytes.Item.{Item}
+pub use Rattle.rx_base.specs.declared.item.Item.{Item}
 pub use Rattle.links.specs.declared.journal.LinkEvent.{LinkEvent}
 pub use Rattle.links.specs.declared.journal.LinkEvent.TheVariants.{Closes, Ends, Opens, Piece, Settles}
 pub use Rattle.msg_frame.specs.declared.framing.FrameRefusal.{FrameRefusal}

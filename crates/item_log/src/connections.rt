@@ -7,7 +7,7 @@ ghost use Rattle.item_log.specs.Watching.{FeedsOne, IsMessageOf};
 
 use crate::kinds::CONNECTIONS;
 use msg_frame::{FrameRefusal, Framer, Framing};
-use rx_io::Bytes;
+use rx_base::Bytes;
 use std::alloc::{AllocError, Global};
 use std::marker::Model;
 

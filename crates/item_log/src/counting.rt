@@ -3,7 +3,7 @@ ghost use Rattle.std.specs.Prelude.{◌≡◌, ◌+◌, ◌<◌, ◌^◌, length
 ghost use Rattle.item_log.specs.Counting.{HaveRoom, count_then, counted_one, number_at};
 
 use crate::kinds::{MESSAGE, OPENED};
-use rx_io::Item;
+use rx_base::Item;
 use std::collections::VecDeque;
 
 // A connection's count after an item of this kind.

@@ -11,7 +11,7 @@ use crate::kinds::{CLOSED, CONNECTIONS, OPENED};
 use crate::{ItemRefusal, counting};
 use links::LinkEvent;
 use msg_frame::Framing;
-use rx_io::Item;
+use rx_base::Item;
 use std::alloc::{AllocError, Global};
 use std::collections::VecDeque;
 use std::marker::Model;

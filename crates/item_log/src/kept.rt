@@ -6,7 +6,7 @@ ghost use Rattle.item_log.specs.Heard.{bare_item, message_item};
 
 use crate::counting::count_one;
 use crate::kinds::MESSAGE;
-use rx_io::{Bytes, Item};
+use rx_base::{Bytes, Item};
 use std::alloc::{AllocError, Global};
 use std::collections::VecDeque;
 

@@ -1,7 +1,7 @@
 -- What is known of the items that a log keeps beside a journal.
 use Rattle.std.specs.List.{All, slice_get}
 use Rattle.std.proofs.lemmas.List.Elements.{All-append, All-map, All-nil, All-cons}
-use Rattle.rx_io.specs.declared.bytes.Item.{Item}
+use Rattle.rx_base.specs.declared.item.Item.{Item}
 use Rattle.msg_frame.specs.declared.framing.TheConstants.{MAX_MESSAGE}
 use Rattle.msg_frame.specs.Feeding.{IsRest}
 use Rattle.msg_frame.proofs.Short.{Keeps, cut_keeps, no_rest}

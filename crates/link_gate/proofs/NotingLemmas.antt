@@ -1,6 +1,6 @@
 -- What noting a piece makes of a ledger, by the answer of its link.
 use Rattle.links.specs.declared.journal.LinkFault.TheVariants as cause
-use Rattle.rx_io.proofs.Composing.{rose_later}
+use Rattle.rx_base.proofs.Composing.{rose_later}
 use Rattle.link_gate.proofs.Terms.{Bool, List, [], ap, arith, cond, drop, eqb, false, length, length-drop, not, refl, subst, sym, true, ℕ, ◌++◌, ◌+◌, ◌<◌, ◌∙◌, ◌∷◌, ◌≡◌, ◌≤◌, and_parts, length-take-le, Err, Ok, Result, is_ok, is_some, sent_to, Given, All, Gone, LinkFault, Counts, HasGiveCause, GiveShows, Seen, but_given, is_open-changed, stamped_to-changed, stamped_to-passed, come, is_open-gone, room, room_gone, room_passed, room_passed_some, length-stamped, stamps_of-append, IsOpened, Ledger, NotBefore, Passed, connection_of, gone_connection, is_open, passed_connection, stamped, stamped_to, stamps_of, with_change, with_passed, PassFault, AreStampedBy, HasPassCause, HasSameSends, PassShows, IsNoted}
 use Rattle.link_gate.specs.declared.pass_fault.PassFault.TheVariants as fault
 use Rattle.link_gate.proofs.KeepLemmas.{known-changed, next_of}

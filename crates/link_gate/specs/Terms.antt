@@ -1,8 +1,8 @@
 -- The words that this crate's definitions are written in: those of crates below, and types of its code.
 pub use Rattle.std.specs.Option.{option_map, option_map_or, unwrap_or}
-pub use Rattle.rx_io.specs.Faults.{Rose}
-pub use Rattle.rx_io.specs.Prefix.{Prefix}
-pub use Rattle.rx_io.specs.Sends.{Send, sent_to}
+pub use Rattle.rx_base.specs.Faults.{Rose}
+pub use Rattle.rx_base.specs.Prefix.{Prefix}
+pub use Rattle.rx_base.specs.Sends.{Send, sent_to}
 pub use Rattle.links.specs.declared.journal.Entry.{Entry}
 pub use Rattle.links.specs.declared.journal.Entry.TheVariants.{Gave, Took}
 pub use Rattle.links.specs.declared.journal.Given.{Given}

@@ -1,7 +1,7 @@
 // The next event of a link comes into the log, and into the ledger where it opens a connection.
 ghost use Rattle.std.specs.Prelude.{◌≡◌, ◌≢◌, List, length, None, OnErr};
 ghost use Rattle.links.specs.declared.journal.Entry.{Entry};
-ghost use Rattle.rx_io.specs.Sends.{Send};
+ghost use Rattle.rx_base.specs.Sends.{Send};
 ghost use Rattle.session_history.specs.Heeding.{Bounds, events_of};
 ghost use Rattle.session_history.specs.Keeping.{KeepsReplies, KeepsItems, KeepsPhases};
 ghost use Rattle.links.specs.declared.journal.LinkFault.TheVariants.{WriteFault};

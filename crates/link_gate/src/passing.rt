@@ -1,6 +1,6 @@
 // Replies go out through a link, one piece after another.
 ghost use Rattle.std.specs.Prelude.{◌≡◌, ◌+◌, ◌≤◌, List, length, None};
-ghost use Rattle.rx_io.specs.Sends.{Send, sent_to};
+ghost use Rattle.rx_base.specs.Sends.{Send, sent_to};
 ghost use Rattle.reply_ledger.specs.Ledger.{IsOpened, NotBefore, stamps_of, stamped_to, passed_to};
 ghost use Rattle.session_history.specs.Heeding.{received};
 ghost use Rattle.session_history.specs.Owing.{Moment, journal};

@@ -6,3 +6,4 @@ pub mod LinkForms
 pub mod TableLaws
 pub mod MemoryLinks
 pub mod MemoryLaws
+pub mod Received

@@ -1,7 +1,7 @@
 -- What a link between clients and a session tells, and what its calls do to it. The journal of a link is one list of
 -- entries: the events that were taken from it, and the pieces that were given to its connections, in order.
 use Rattle.std.specs.Prelude.{◌≡◌, ◌≢◌, ℕ, ◌<◌, ◌≤◌, Bool, true, false, List, [], ◌∷◌, ◌++◌, length, take, Option, Some, None, IfSome, IsSome, Result, Ok, Err, IsErrOf, unwrap_or, if◌then◌else◌, ◌==◌}
-use Rattle.rx_io.specs.Faults.{Rose}
+use Rattle.rx_base.specs.Faults.{Rose}
 use Rattle.links.specs.Terms.{Prefix, Entry, Given, All, Gone, LinkEvent, LinkFault, Memory, ReadFault, Refused, WriteFault}
 use Rattle.links.specs.declared.journal.Entry.TheVariants as entry
 use Rattle.links.specs.declared.journal.LinkEvent.TheVariants as event

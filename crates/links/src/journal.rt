@@ -1,5 +1,5 @@
 // What a link was asked and what it answered, as plain data.
-use rx_io::Bytes;
+use rx_base::Bytes;
 
 /// What comes next over a link: a connection opens, sends a piece of bytes or closes, all output is asked for, or the
 /// link ends.

@@ -5,7 +5,7 @@ ghost use Rattle.links.specs.ConnectionTables.{phases_in, is_in_order};
 ghost use Rattle.links.specs.MemoryLinks.{event_or_ends, gone_at, given_of, IsWithin, AnswersAs, taken_after, counts_in, counts_after_next, counts_after_give, after_taking, after_giving};
 
 use crate::{ConnectionTable, Entry, Given, Link, LinkEvent, LinkFault};
-use rx_io::{Bytes, Fails};
+use rx_base::{Bytes, Fails};
 use std::alloc::{AllocError, Global};
 
 // How often a link has failed to take and to give, and how often a connection was gone.

@@ -1,4 +1,4 @@
-use elf_image::{ElfRefusal, field_of_refusal, read_image, write_image};
+use elf_file::{ElfRefusal, field_of_refusal, read_image, write_image};
 use std::alloc::{AllocError, Global};
 use std::test::Fail;
 

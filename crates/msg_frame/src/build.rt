@@ -1,7 +1,7 @@
 // Messages, made of a rest and the bytes behind it.
 ghost use Rattle.std.specs.Prelude.{◌≡◌, ◌+◌, ◌≤◌, ◌∷◌, [], ◌++◌, drop, length, IfOk, OnOk};
 
-use rx_io::Bytes;
+use rx_base::Bytes;
 use std::alloc::{AllocError, Global};
 
 // The bytes of a rest and of a front, without the first ones.

@@ -8,7 +8,7 @@ use crate::build::push_joined;
 use crate::ends::{End, end_of};
 use crate::framing::{MAX_MESSAGE, NUMBER_BYTES};
 use crate::{FrameRefusal, Framing};
-use rx_io::Bytes;
+use rx_base::Bytes;
 use std::alloc::{AllocError, Global};
 use std::marker::Model;
 

@@ -13,7 +13,7 @@ use Rattle.session_history.specs.Lawful as lawful
 use Rattle.session_history.specs.Owing.{Moment}
 use Rattle.session_history.proofs.Ended.{came_to}
 use Rattle.session_history.proofs.Heeding.{none_had}
-use Rattle.over_port.proofs.CallLemmas.{gave, took}
+use Rattle.links.proofs.Moved.{gave, took}
 use Rattle.over_crowd.specs.Terms.{Send, sent_to, Entry, LinkEvent, ComesUntold, Coming, Grew, HasEnded, Told, last_taken, CrowdEntry, Limits, told_nothing, AreCalls, Served, entries_of, fresh_served, served_after, served_of, IsJustBound, Stands, link_journal, told_at, with_ends, Image, SessionEnd, Stop, IsBroken, Session, after_ending, journal_of, AtBreak, IsEnded, before_end, Bounds, nothing_before, Rules, passed_behind, Noted, Keeping, HasRecovered, IsOutcome, Outcome, RecordsAt}
 use Rattle.over_crowd.specs.Serving.{CalledCrowd, EndsAfter, GoesOverCrowd, ServesCrowd}
 use Rattle.over_crowd.proofs.CallLemmas.{accepted_counted, closed_counted, given_is, open_at_most, taken_is}

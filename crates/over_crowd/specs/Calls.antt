@@ -1,6 +1,6 @@
 -- The calls on a crowd, by what they moved on each connection, and by how many connections they opened and closed.
 use Rattle.std.specs.Prelude.{ℕ, ◌+◌, ◌==◌, ◌≤◌, Bool, true, false, List, [], count_by, flat_map, if◌then◌else◌}
-use Rattle.rx_io.specs.Prefix.{Prefix}
+use Rattle.rx_base.specs.Prefix.{Prefix}
 use Rattle.crowd.specs.declared.crowd_calls.CrowdEntry.TheVariants as made
 use Rattle.over_crowd.specs.Terms.{CrowdEntry}
 

@@ -1,5 +1,5 @@
 -- The words that this crate's definitions are written in: those of crates below, and types of its code.
-pub use Rattle.rx_io.specs.Sends.{Send, sent_to}
+pub use Rattle.rx_base.specs.Sends.{Send, sent_to}
 pub use Rattle.links.specs.declared.journal.Entry.{Entry}
 pub use Rattle.links.specs.declared.journal.LinkEvent.{LinkEvent}
 pub use Rattle.links.specs.Links.{ComesUntold, Coming, Grew, HasEnded, Told, events_in, last_taken}
@@ -10,7 +10,7 @@ pub use Rattle.crowd_link.specs.Served.{GoesOn, IsCall, Served, closed_entries, 
 unfoldable pub use Rattle.crowd_link.specs.Served.{AreCalls, after_call, served_after, served_of}
 pub use Rattle.crowd_link.specs.Standing.{IsJustBound, Stands, with_ends}
 unfoldable pub use Rattle.crowd_link.specs.Standing.{link_journal, told_at}
-pub use Rattle.elf_image.specs.declared.image.Image.{Image}
+pub use Rattle.guest_image.specs.declared.image.Image.{Image}
 pub use Rattle.run_history.specs.declared.answer.Answer.{Answer}
 pub use Rattle.session_history.specs.declared.ends.SessionEnd.{SessionEnd}
 pub use Rattle.session_history.specs.declared.ends.Stop.{Stop}
@@ -25,4 +25,4 @@ pub use Rattle.session_state.specs.Options.{keeping_for}
 pub use Rattle.session_state.specs.Recovered.{HasRecovered, IsOutcome, Outcome, Telling}
 pub use Rattle.session_state.specs.Serving.{NotesAnswer, outcome_of, rules_by}
 pub use Rattle.over_trunk.specs.Serving.{RecordsAt}
-pub use Rattle.over_port.specs.Calls.{bytes_from, received_from}
+pub use Rattle.links.specs.Received.{bytes_from, received_from}

@@ -3,7 +3,7 @@ ghost use Rattle.std.specs.Prelude.{◌≡◌, ◌+◌, ◌-◌, ◌≤◌, []};
 ghost use Rattle.crowd_link.specs.Standing.{IsJustBound};
 ghost use Rattle.session_history.specs.Answering.{HasAnswerCause};
 ghost use Rattle.session_state.specs.Serving.{IsReadyToServe, rules_by};
-ghost use Rattle.over_port.specs.Serving.{port_counts};
+ghost use Rattle.session_history.specs.Answering.{port_counts};
 ghost use Rattle.over_crowd.specs.Serving.{HasServedCrowd};
 
 use crowd::Crowd;
@@ -11,7 +11,7 @@ use crowd_link::{CrowdLink, Limits};
 use guest_space::AccessRule;
 use run_history::Answer;
 use rx_engine::Session;
-use rx_io::Steps;
+use rx_base::Steps;
 use session_notes::Notes;
 use std::alloc::Global;
 use std::sync::ledger::Ledger;

@@ -7,23 +7,12 @@ use Rattle.links.proofs.Journaled.{events_in-append}
 use Rattle.port_link.specs.declared.place.Stage.{Stage}
 use Rattle.port_link.specs.Stages.{broken}
 use Rattle.over_port.specs.Terms.{ListenEntry, Entry, LinkEvent, events_in, Place, Broken, Dropping, Ended, Open, Waiting, AreCalls, IsCall, Port, after_call, closed_entries, entries_of, fresh_port, gives_all, gives_part, is_closable, port_after, takes_bytes, with_part, link_journal, with_close, with_ends}
-use Rattle.over_port.specs.Calls.{bytes_from, bytes_given, bytes_taken, given_to, is_accept, is_close, moved_on, received_from, taken_of}
+use Rattle.over_port.specs.Calls.{bytes_given, bytes_taken, given_to, is_accept, is_close, moved_on, taken_of}
+use Rattle.links.specs.Received.{bytes_from, received_from}
 use Rattle.links.specs.declared.journal.Entry.TheVariants as entry
 use Rattle.links.specs.declared.journal.LinkEvent.TheVariants as event
 use Rattle.rx_io.specs.declared.listener_calls.ListenCall.TheVariants as call
 use Rattle.rx_io.specs.declared.listener_calls.ListenEntry.TheVariants as listen
-
--- the bytes that entries gave to a connection
-abbrev pub gave_to : ℕ → Entry → List ℕ
-gave_to conn (entry.Gave to bytes gone) = if to == conn then bytes else []
-gave_to conn (entry.Took taken) = []
-
-abbrev pub gave : ℕ → List Entry → List ℕ
-gave conn entries = flat_map (gave_to conn) entries
-
--- and those that they took of it
-abbrev pub took : ℕ → List Entry → List ℕ
-took conn entries = received_from conn (events_in entries)
 
 abbrev here : Bool → List ℕ → List ℕ
 here is bytes = if is then bytes else []

@@ -16,8 +16,10 @@ use Rattle.session_history.specs.Owing.{Moment}
 use Rattle.session_history.proofs.Ended.{came_to}
 use Rattle.session_history.proofs.Heeding.{none_had}
 use Rattle.over_port.specs.Terms.{ListenEntry, Send, sent_to, Entry, LinkEvent, ComesUntold, Coming, Counts, Grew, HasEnded, Refuses, Told, last_taken, Place, Waiting, told_nothing, AreCalls, Port, fresh_port, port_after, port_of, IsAt, IsJustBound, Stands, link_journal, told_at, Image, Answer, SessionEnd, Stop, IsBroken, Session, after_ending, journal_of, HasAnswerCause, AtBreak, IsEnded, answer_of, before_end, Bounds, nothing_before, Rules, passed_behind, Noted, Keeping, HasRecovered, IsOutcome, Outcome, RecordsAt}
-use Rattle.over_port.specs.Serving.{CalledPort, EndsAfter, GoesOverPort, ServesPort, port_counts}
-use Rattle.over_port.proofs.CallLemmas.{all_closed, gave, given_is, taken_is, took}
+use Rattle.over_port.specs.Serving.{CalledPort, EndsAfter, GoesOverPort, ServesPort}
+use Rattle.session_history.specs.Answering.{port_counts}
+use Rattle.over_port.proofs.CallLemmas.{all_closed, given_is, taken_is}
+use Rattle.links.proofs.Moved.{gave, took}
 
 -- what entries gave to a connection was passed to it
 gave_passed : (bounds : Bounds) (conn : ℕ) (before entries : List Entry) → gave conn entries ≡ sent_to conn (passed_behind bounds before entries)
@@ -115,36 +117,3 @@ serves conns rules keeping image {old = old} {new = new} {connected = connected}
     grew =
         subst (λ (told_first : Told). Grew told_first.journal (told_at new place).journal (journal_of recovered.telling.account)) began
         (subst (λ (now : Told). Grew before.told.journal now.journal (journal_of recovered.telling.account)) told recovered.shows.tells.journal)
-
--- no answer is a fault of writing, where no count of those rises
-pub no_write_fault : {before now : Counts} {answered : Answer} → before.gives ≡ 0 → now.gives ≡ 0 → HasAnswerCause before now answered → answered ≢ answer.WriteFault
-no_write_fault none still cause is = elim (cause.write_fault is) [
-  | inl less ↦ omega arith
-  | inr past ↦ omega arith
-]
-
-pub port_cause : {before now : Counts} {answered : Answer} → before.gives ≡ 0 → now.gives ≡ 0 → HasAnswerCause before now answered → HasAnswerCause (port_counts before.takes) (port_counts now.takes) answered
-port_cause none still cause = record {
-  takes = cause.takes;
-  gives = omega arith;
-  read_fault = cause.read_fault;
-  write_fault = λ is. absurd (no_write_fault none still cause is);
-}
-
--- nor a refusal, where it isn't told that one comes
-refused_end : {rules : Rules} {image : Image} {session : Session} {kind offset : ℕ} → IsEnded rules image (Some ComesUntold) session (stop.Ends (session_end.InputRefused kind offset)) → ⊥
-refused_end {rules = rules} {session = session} {kind = kind} {offset = offset} is =
-    let same : ComesUntold ≡ Refuses kind offset = (came_to {rules = rules} {coming = Some ComesUntold} {session = session} {end = session_end.InputRefused kind offset} is.comes is.ends.came).stands.2 in cc
-
-pub no_refusal : {rules : Rules} {image : Image} {session : Session} (why : Stop) (kind offset : ℕ) → IsEnded rules image (Some ComesUntold) session why → answer_of why ≢ answer.InputRefused kind offset
-no_refusal (stop.Ends (session_end.InputRefused was at)) kind offset ended is = refused_end ended
-no_refusal (stop.Ends session_end.Finished) kind offset ended is = cc
-no_refusal (stop.Ends (session_end.Exited code)) kind offset ended is = cc
-no_refusal (stop.Ends (session_end.GaveUp point cause)) kind offset ended is = cc
-no_refusal (stop.Ends (session_end.MessageTooLong conn)) kind offset ended is = cc
-no_refusal (stop.Ends session_end.LimitItems) kind offset ended is = cc
-no_refusal (stop.Ends session_end.LimitEvents) kind offset ended is = cc
-no_refusal (stop.Breaks session_break.ReadFault) kind offset ended is = cc
-no_refusal (stop.Breaks session_break.WriteFault) kind offset ended is = cc
-no_refusal (stop.Breaks session_break.FileFault) kind offset ended is = cc
-no_refusal (stop.Breaks session_break.Memory) kind offset ended is = cc

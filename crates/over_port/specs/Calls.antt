@@ -34,11 +34,3 @@ given_to conn calls = moved_on bytes_given conn 0 calls
 
 abbrev pub taken_of : ℕ → List ListenEntry → List ℕ
 taken_of conn calls = moved_on bytes_taken conn 0 calls
-
--- the bytes of a connection's pieces, among events
-abbrev pub bytes_from : ℕ → LinkEvent → List ℕ
-bytes_from conn (event.Piece from bytes) = if from == conn then bytes else []
-bytes_from conn _ = []
-
-abbrev pub received_from : ℕ → List LinkEvent → List ℕ
-received_from conn events = flat_map (bytes_from conn) events

@@ -1,6 +1,6 @@
 -- The words that this crate's definitions are written in: those of crates below, and types of its code.
 pub use Rattle.rx_io.specs.declared.listener_calls.ListenEntry.{ListenEntry}
-pub use Rattle.rx_io.specs.Sends.{Send, sent_to}
+pub use Rattle.rx_base.specs.Sends.{Send, sent_to}
 pub use Rattle.links.specs.declared.journal.Entry.{Entry}
 pub use Rattle.links.specs.declared.journal.LinkEvent.{LinkEvent}
 pub use Rattle.links.specs.Links.{ComesUntold, Coming, Counts, Grew, HasEnded, Refuses, Told, events_in, last_taken}
@@ -11,7 +11,7 @@ pub use Rattle.port_link.specs.Ports.{IsCall, Port, closed_entries, entries_of, 
 unfoldable pub use Rattle.port_link.specs.Ports.{AreCalls, after_call, port_after, port_of}
 pub use Rattle.port_link.specs.Standing.{IsAt, IsJustBound, Stands, with_close, with_ends}
 unfoldable pub use Rattle.port_link.specs.Standing.{link_journal, told_at}
-pub use Rattle.elf_image.specs.declared.image.Image.{Image}
+pub use Rattle.guest_image.specs.declared.image.Image.{Image}
 pub use Rattle.run_history.specs.declared.answer.Answer.{Answer}
 pub use Rattle.session_history.specs.declared.ends.SessionEnd.{SessionEnd}
 pub use Rattle.session_history.specs.declared.ends.Stop.{Stop}

@@ -3,13 +3,15 @@ ghost use Rattle.std.specs.Prelude.{◌≡◌, ◌+◌, ◌-◌, ◌≤◌};
 ghost use Rattle.port_link.specs.Standing.{IsJustBound};
 ghost use Rattle.session_history.specs.Answering.{HasAnswerCause};
 ghost use Rattle.session_state.specs.Serving.{IsReadyToServe, rules_by};
-ghost use Rattle.over_port.specs.Serving.{HasServedPort, port_counts};
+ghost use Rattle.over_port.specs.Serving.{HasServedPort};
+ghost use Rattle.session_history.specs.Answering.{port_counts};
 
 use guest_space::AccessRule;
 use port_link::PortLink;
 use run_history::Answer;
 use rx_engine::Session;
-use rx_io::{Listener, Steps};
+use rx_io::Listener;
+use rx_base::Steps;
 use session_notes::Notes;
 use std::alloc::Global;
 use std::sync::ledger::Ledger;

@@ -4,7 +4,7 @@ use Rattle.links.specs.declared.journal.Given.{Given}
 use Rattle.links.specs.declared.journal.Given.TheVariants.{All, Gone}
 use Rattle.links.specs.declared.journal.LinkFault.{LinkFault}
 use Rattle.links.specs.declared.journal.LinkFault.TheVariants.{Refused, ReadFault, WriteFault, Memory}
-use Rattle.rx_io.proofs.Composing.{gave_more}
+use Rattle.rx_base.proofs.Composing.{gave_more}
 use Rattle.over_trunk.proofs.Terms.{Bool, List, None, Option, Some, [], ap, append-nil, append_assoc, false, option_map, refl, subst, sym, true, ℕ, ◌++◌, ◌∙◌, ◌∷◌, ◌≡◌, map-append, Err, Ok, Result, Stream, Prefix, Send, Grew, Piece, Told, pieces_in, TrunkLink, Writes, WritesBy, frames, piece_frame, GivesOn, Output, WroteFrames, told_nothing, told_pieces, TrunkWent, output_of, seen_of, told_of, AreGiven, BreaksOff, piece_of, WritesWhole, WritesFirst, WritesFront, WritesSends, sent_pieces}
 use Rattle.over_trunk.proofs.WriteLemmas.{Short}
 use Rattle.over_trunk.proofs.ServeLemmas.{writes_whole}

@@ -1,11 +1,11 @@
 -- The words that this crate's definitions are written in: those of crates below, and types of its code.
 pub use Rattle.std.specs.Io.KnownBytes.{Appends}
 pub use Rattle.std.specs.List.{AllByRecursion}
-pub use Rattle.rx_io.specs.declared.bytes.Item.{Item}
-pub use Rattle.rx_io.specs.Faults.{Rose}
-pub use Rattle.rx_io.specs.Outside.{IsDrained, Stream, Took}
-pub use Rattle.rx_io.specs.Prefix.{Prefix}
-pub use Rattle.rx_io.specs.Sends.{Send, sent_to}
+pub use Rattle.rx_base.specs.declared.item.Item.{Item}
+pub use Rattle.rx_base.specs.Faults.{Rose}
+pub use Rattle.rx_base.specs.Outside.{IsDrained, Stream, Took}
+pub use Rattle.rx_base.specs.Prefix.{Prefix}
+pub use Rattle.rx_base.specs.Sends.{Send, sent_to}
 pub use Rattle.links.specs.declared.journal.Entry.{Entry}
 pub use Rattle.links.specs.declared.journal.LinkEvent.{LinkEvent}
 pub use Rattle.links.specs.LinkForms.{gives_below_4096, handed_by}
@@ -23,7 +23,7 @@ pub use Rattle.trunk_wire.specs.Pieces.{event_reader, events, fresh, given_to, p
 pub use Rattle.trunk_wire.specs.Tellings.{is_in_step, is_whole, told_coming, told_events, told_nothing, told_pieces, trunk_told}
 pub use Rattle.trunk_wire.specs.TrunkLinks.{TrunkWent, intake_of, output_of, seen_of, told_of}
 pub use Rattle.item_log.specs.Heard.{heard, items_of}
-pub use Rattle.elf_image.specs.declared.image.Image.{Image}
+pub use Rattle.guest_image.specs.declared.image.Image.{Image}
 pub use Rattle.run_history.specs.declared.answer.Answer.{Answer}
 pub use Rattle.run_history.specs.Machine.{State}
 unfoldable pub use Rattle.run_history.specs.Machine.{start}

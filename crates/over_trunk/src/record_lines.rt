@@ -5,7 +5,7 @@ ghost use Rattle.schedule_file.specs.Lines.{choice_lines, end_line};
 ghost use Rattle.schedule_file.specs.declared.recorded.TheConstants.{MAX_TAKEN};
 
 use block_book::Choice;
-use rx_io::Bytes;
+use rx_base::Bytes;
 use schedule_file::{add_choice, end_line};
 use std::alloc::{AllocError, Global};
 

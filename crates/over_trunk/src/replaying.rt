@@ -5,10 +5,11 @@ ghost use Rattle.over_trunk.specs.Replaying.{ComparesTrunk};
 ghost use Rattle.over_trunk.specs.Serving.{trunk_counts};
 
 use crate::frame_giver::FrameGiver;
-use elf_image::Image;
+use guest_image::Image;
 use replay::{Difference, fill_by};
 use run_history::Answer;
-use rx_io::{Sink, Source, Steps};
+use rx_io::{Sink, Source};
+use rx_base::Steps;
 use schedule_file::Recorded;
 use std::alloc::Global;
 use std::sync::ledger::Ledger;

@@ -1,6 +1,6 @@
 // A record is followed over a trunk of many connections, and its run is served on.
 ghost use Rattle.std.specs.Prelude.{◌≡◌, ℕ, ◌+◌, ◌*◌, ◌<◌, ◌≤◌, ◌^◌, None};
-ghost use Rattle.elf_image.specs.declared.image.Image.{Image};
+ghost use Rattle.guest_image.specs.declared.image.Image.{Image};
 ghost use Rattle.schedule_file.specs.declared.recorded.Recorded.{Recorded};
 ghost use Rattle.trunk_wire.specs.declared.trunk_link.TrunkLink.{TrunkLink};
 ghost use Rattle.trunk_wire.specs.TrunkLinks.{TrunkWent, seen_of, told_of};
@@ -11,9 +11,10 @@ ghost use Rattle.standby.specs.Serving.{MayServe};
 ghost use Rattle.over_trunk.specs.StandingBy.{CatchesUpTrunk, IsNewTrunk, ServesOnTrunk};
 
 use counts_file::Counts;
-use elf_image::Image;
+use guest_image::Image;
 use run_history::Answer;
-use rx_io::{Sink, Source, Steps};
+use rx_io::{Sink, Source};
+use rx_base::Steps;
 use schedule_file::Recorded;
 use standby::{Follower, Unfollowed, catch_up};
 use std::alloc::Global;

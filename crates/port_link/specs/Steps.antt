@@ -7,7 +7,7 @@ use Rattle.port_link.specs.declared.place.Stage.TheVariants.{Waiting}
 use Rattle.port_link.specs.Ports.{port_of, AreCalls}
 use Rattle.port_link.specs.Standing.{Stands, IsWhole, phases_at, gives_at, told_at}
 use Rattle.links.specs.declared.journal.Entry.TheVariants as entry
-use Rattle.rx_io.specs.declared.fault.IoFault.TheVariants as io
+use Rattle.rx_base.specs.declared.fault.IoFault.TheVariants as io
 use Rattle.rx_io.specs.declared.listener_calls.ListenCall.TheVariants as call
 use Rattle.rx_io.specs.declared.listener_calls.ListenEntry.TheVariants as listen
 

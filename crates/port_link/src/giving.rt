@@ -1,6 +1,6 @@
 // A piece for the present connection of a port.
 ghost use Rattle.std.specs.Prelude.{◌≡◌, ◌<◌, ◌≤◌, true, length, Ok};
-ghost use Rattle.rx_io.specs.Faults.{Rose};
+ghost use Rattle.rx_base.specs.Faults.{Rose};
 ghost use Rattle.links.specs.Links.{IsGone};
 ghost use Rattle.port_link.specs.Stages.{is_present};
 ghost use Rattle.port_link.specs.Standing.{IsWhole, Stands};
@@ -8,7 +8,8 @@ ghost use Rattle.port_link.specs.Gives.{GivesTo, GivesPiece};
 
 use crate::place::{Place, Stage, stage_behind};
 use links::{Given, LinkFault};
-use rx_io::{IoFault, Listener};
+use rx_io::Listener;
+use rx_base::IoFault;
 
 // Gives bytes to the present connection, over as many calls as it wants.
 fn give_piece<N: Listener>(listener: &mut N, bytes: &[u8]) -> Result<Given, LinkFault>

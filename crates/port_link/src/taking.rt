@@ -6,7 +6,8 @@ ghost use Rattle.port_link.specs.Steps.{StepsTo, TakesPiece, TakesNext, HasOpenC
 
 use crate::place::{Place, Stage};
 use links::{LinkEvent, LinkFault};
-use rx_io::{Bytes, IoFault, Listener};
+use rx_io::Listener;
+use rx_base::{Bytes, IoFault};
 use std::alloc::Global;
 
 // Closes the present connection, of which nothing more is answered.

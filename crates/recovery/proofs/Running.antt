@@ -25,7 +25,7 @@ pub unharmed_still : (pieces : List Send) (point : ℕ) (s t : State) → t.send
 unharmed_still pieces point s t sends taken u = record {
   agrees = λ conn. subst (λ (all : List Send). agree (sent_to conn all) (sent_to conn pieces) ≡ true) (sym sends) (u.agrees conn);
   feasible =
-      subst (λ (all : List Send). (item : ℕ) → item < t.machine.taken → (conn : ℕ) → Rattle.rx_io.specs.Prefix.Prefix (sent_to conn (Rattle.session_history.specs.Passing.until item pieces)) (sent_to conn (Rattle.session_history.specs.Passing.until item all))) (sym sends)
+      subst (λ (all : List Send). (item : ℕ) → item < t.machine.taken → (conn : ℕ) → Rattle.rx_base.specs.Prefix.Prefix (sent_to conn (Rattle.session_history.specs.Passing.until item pieces)) (sent_to conn (Rattle.session_history.specs.Passing.until item all))) (sym sends)
       (λ item low conn. u.feasible item (omega (arith, low, taken)) conn);
   early = omega (arith, u.early, taken);
 }

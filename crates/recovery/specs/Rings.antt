@@ -1,6 +1,6 @@
 -- A session's checkpoints beside its log and its ledger.
 use Rattle.std.specs.Prelude.{◌≡◌, ℕ, ◌<◌, ◌≤◌, Bool, true, false, List, [], ◌∷◌, ◌++◌, length, take, replicate, nat_lt, if◌then◌else◌, IfSome, slice_get}
-use Rattle.elf_image.specs.Image as images
+use Rattle.guest_image.specs.Image as images
 use Rattle.recovery.specs.Terms.{Item, Entry, Env, Plain, saved_in_ring, Log, Ledger, Image, AsksFor, Override, Path, env_at, origin, CpuState, standing_of, Writes, events_of, heeded, items_in, Rules, opens, AreChained, AreCheckpoints}
 use Rattle.recovery.specs.Sessions.{AreKept, CanGoOn, HasSaved}
 

@@ -1,9 +1,9 @@
 -- The words that this crate's definitions are written in: those of crates below, and types of its code.
 pub use Rattle.std.specs.declared.alloc.AllocError.{AllocError}
 pub use Rattle.std.specs.List.{AllByRecursion, position_or_len}
-pub use Rattle.rx_io.specs.declared.bytes.Item.{Item}
-pub use Rattle.rx_io.specs.Prefix.{Prefix}
-pub use Rattle.rx_io.specs.Sends.{Send, sent_to}
+pub use Rattle.rx_base.specs.declared.item.Item.{Item}
+pub use Rattle.rx_base.specs.Prefix.{Prefix}
+pub use Rattle.rx_base.specs.Sends.{Send, sent_to}
 pub use Rattle.links.specs.declared.journal.Entry.{Entry}
 pub use Rattle.block_book.specs.declared.choice.Choice.{Choice}
 pub use Rattle.block_book.specs.Heap.{Heap}
@@ -21,8 +21,8 @@ pub use Rattle.reply_ledger.specs.Shows.{Shows}
 unfoldable pub use Rattle.reply_ledger.specs.Shows.{pieces_until, stamped_of}
 pub use Rattle.reply_ledger.specs.Trials.{adopted, begun, discarded, trial_sends, with_trial_send}
 unfoldable pub use Rattle.reply_ledger.specs.Trials.{agree}
-pub use Rattle.elf_image.specs.declared.image.Image.{Image}
-pub use Rattle.elf_image.specs.Image.{base}
+pub use Rattle.guest_image.specs.declared.image.Image.{Image}
+pub use Rattle.guest_image.specs.Image.{base}
 pub use Rattle.run_history.specs.declared.answer.Cause.{Cause}
 pub use Rattle.run_history.specs.Call.{may_send}
 pub use Rattle.run_history.specs.Machine.{Machine, State, Wants}

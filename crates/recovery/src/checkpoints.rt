@@ -1,7 +1,7 @@
 // The checkpoints that a session makes.
 ghost use Rattle.std.specs.Prelude.{◌≡◌, ◌<◌, ℕ, List, [], ◌∷◌, length, false, slice_get};
 ghost use Rattle.links.specs.declared.journal.Entry.{Entry};
-ghost use Rattle.elf_image.specs.declared.image.Image.{Image};
+ghost use Rattle.guest_image.specs.declared.image.Image.{Image};
 ghost use Rattle.ckpt_ring.specs.Rings.{saved_in_ring};
 ghost use Rattle.ckpt_ring.specs.Line.{count_true};
 ghost use Rattle.run_history.specs.Served.{Override, Path, origin};

@@ -1,7 +1,7 @@
 // What a session gives up as it goes on.
 ghost use Rattle.std.specs.Prelude.{◌≡◌, ℕ, None, List, IfSome};
 ghost use Rattle.links.specs.declared.journal.Entry.{Entry};
-ghost use Rattle.elf_image.specs.declared.image.Image.{Image};
+ghost use Rattle.guest_image.specs.declared.image.Image.{Image};
 ghost use Rattle.ckpt_ring.specs.Slots.{oldest_of};
 ghost use Rattle.item_log.specs.Log.{received};
 ghost use Rattle.item_log.specs.Log as logs;

@@ -17,7 +17,7 @@ use guest_cpu::{Cpu, Event};
 use guest_space::AccessRule;
 use item_log::ItemLog;
 use reply_ledger::Replies;
-use rx_io::{Bytes, Steps};
+use rx_base::{Bytes, Steps};
 use session_notes::Tried;
 use std::alloc::AllocError;
 use std::sync::ledger::Ledger;

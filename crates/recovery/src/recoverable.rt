@@ -3,7 +3,7 @@ ghost use Rattle.std.specs.Prelude.{◌≤◌, IfOk};
 ghost use Rattle.recovery.specs.Recoverables.{IsFresh};
 
 use block_book::Choice;
-use elf_image::Image;
+use guest_image::Image;
 use guest_cpu::Cpu;
 use guest_space::AccessRule;
 use item_log::ItemLog;

@@ -10,7 +10,7 @@ ghost use Rattle.recovery.specs.Recoverables.{CanBeRecovered, CanBeTried, HasFai
 use crate::{Adopted, FailureSite, Recoverable, Walked, Watch};
 use block_book::Choice;
 use guest_space::AccessRule;
-use rx_io::Steps;
+use rx_base::Steps;
 use session_notes::Episode;
 use std::alloc::{AllocError, Global};
 use std::sync::ledger::Ledger;

@@ -18,7 +18,7 @@ use guest_cpu::Cpu;
 use guest_space::AccessRule;
 use item_log::ItemLog;
 use reply_ledger::Replies;
-use rx_io::Steps;
+use rx_base::Steps;
 use session_notes::Tried;
 use std::alloc::AllocError;
 use std::sync::ledger::Ledger;

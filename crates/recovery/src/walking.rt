@@ -13,7 +13,7 @@ use block_book::Choice;
 use ckpt_ring::Snapshot;
 use guest_space::AccessRule;
 use run_history::Cause;
-use rx_io::Steps;
+use rx_base::Steps;
 use session_notes::{Episode, Tried, Tries, Try};
 use std::alloc::AllocError;
 use std::sync::ledger::Ledger;

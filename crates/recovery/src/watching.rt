@@ -8,7 +8,7 @@ ghost use Rattle.recovery.specs.Watching.{LooksBy};
 
 use crate::Recoverable;
 use guest_space::AccessRule;
-use rx_io::Steps;
+use rx_base::Steps;
 use std::alloc::AllocError;
 use std::sync::ledger::Ledger;
 

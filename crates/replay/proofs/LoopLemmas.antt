@@ -1,5 +1,5 @@
 -- What the loops of a replay keep.
-use Rattle.rx_io.proofs.Composing.{rose_later}
+use Rattle.rx_base.proofs.Composing.{rose_later}
 use Rattle.replay.proofs.Terms.{None, arith, sym, true, ℕ, ◌+◌, ◌∙◌, ◌≡◌, ◌≤◌, IsSome, Ok, Result, Counts, Told, Seen, Image, Answer, Recorded, Player, HasCause, IsBetween, IsWaiting, LinkHears, LinkTurns, stage_of}
 use Rattle.replay.proofs.LeavingLemmas.{leaves_after}
 

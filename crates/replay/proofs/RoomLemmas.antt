@@ -3,7 +3,7 @@ use Rattle.std.proofs.lemmas.List.Sums.{length-filter, count_by-le-length}
 use Rattle.alloc_env.specs.declared.env.Env.{Env}
 use Rattle.alloc_env.specs.Serving.{Served, freed, in_place_of, served_ask, served_block, served_over}
 use Rattle.alloc_env.proofs.Mallocs.{Places, block-places}
-use Rattle.elf_image.specs.Image.{heap_start, heap_end}
+use Rattle.guest_image.specs.Image.{heap_start, heap_end}
 use Rattle.run_history.proofs.Layouts.{laid_out_next}
 use Rattle.guest_cpu.proofs.StartLemmas.{heap_above_null, heap_ordered}
 use Rattle.replay.proofs.Terms.{Bool, List, None, Option, Some, [], ap, arith, cond, false, filter, length, not, refl, subst, suc, sym, true, zero, ℕ, ◌++◌, ◌+◌, ◌-◌, ◌<◌, ◌∙◌, ◌∷◌, ◌≡◌, ◌≢◌, ◌≤◌, ne_eqb, length-map, none-some, option_and_then_some, same_Some, nat_lt, slice_get, ◌==◌, Item, Block, Ask, Choice, bytes_asked, insert_live, live_blocks, replaced, Heap, IsHeap, empty_heap, is_live_at, most_blocks, Image, repeated_add, element_behind, run_chosen, slice_get_longer, ServesTo, map_some, served_follows, serves_to, serves_used, Chooses, State, start, start_machine, repeated, Run, after, does, run, Allocate, Free, Grant, IsLaidOut, Limits, Nothing, Override, Path, Request, env_at, grant, granted, guest_of, listed, origin, planned_next, request_of, serve, instruction_at, IsAccount, Session, journal_of, items_in, Rules, Recorded, HasRoom, HasSession, IsRecordOf}

@@ -1,6 +1,6 @@
 -- What holds while a record is replayed.
 use Rattle.std.specs.Prelude.{◌≡◌, ℕ, ◌+◌, ◌-◌, ◌<◌, ◌≤◌, ◌^◌, Bool, true, false, List, [], ◌∷◌, ◌++◌, length, drop, None, Some, Result, Ok, Err, slice_get, unwrap_or, IfOk, IsErrOf, IsSome}
-use Rattle.rx_io.specs.Faults.{Rose}
+use Rattle.rx_base.specs.Faults.{Rose}
 use Rattle.run_history.specs.declared.answer.Answer.TheVariants as answer
 use Rattle.replay.specs.Terms.{Item, Send, Entry, Counts, HasEnded, Open, Phases, Tells, Told, events_in, pieces_in, Seen, Ask, Choice, is_allowed, is_bare, Log, Image, Answer, connections_after, Chooses, State, Wants, does, chosen_standing, Standing, items_in, received, KeepsItems, KeepsPhases, Line, Recorded}
 use Rattle.replay.specs.declared.player.Player.{Player}

@@ -1,7 +1,7 @@
 // A send of the guest is given to its connection.
 ghost use Rattle.std.specs.Prelude.{◌≡◌};
 ghost use Rattle.links.specs.Links.{Told};
-ghost use Rattle.elf_image.specs.declared.image.Image.{Image};
+ghost use Rattle.guest_image.specs.declared.image.Image.{Image};
 ghost use Rattle.schedule_file.specs.declared.recorded.Recorded.{Recorded};
 ghost use Rattle.replay.specs.Differing.{DiffersBy, Never};
 ghost use Rattle.replay.specs.Giving.{IsLastSend};
@@ -12,7 +12,7 @@ use crate::hearing::answer_to;
 use crate::player::Player;
 use links::{Given, Link};
 use run_history::Answer;
-use rx_io::Bytes;
+use rx_base::Bytes;
 
 impl Player {
     // Gives what the guest has just sent, as one piece. Nothing is given to a connection that was found gone.

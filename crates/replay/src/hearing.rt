@@ -1,7 +1,7 @@
 // The next event of a link comes into the log.
 ghost use Rattle.std.specs.Prelude.{◌≡◌, ◌≢◌, ◌<◌, ◌≤◌, IsTrue, IfOk};
 ghost use Rattle.links.specs.Links.{Told};
-ghost use Rattle.elf_image.specs.declared.image.Image.{Image};
+ghost use Rattle.guest_image.specs.declared.image.Image.{Image};
 ghost use Rattle.schedule_file.specs.declared.recorded.Recorded.{Recorded};
 ghost use Rattle.item_log.specs.Connections.{in_order};
 ghost use Rattle.item_log.specs.Log.{received};

@@ -6,7 +6,7 @@ ghost use Rattle.replay.specs.Making.{IsMade};
 use crate::difference::Difference;
 use block_book::{Choice, Choices};
 use call_gate::ConnSet;
-use elf_image::Image;
+use guest_image::Image;
 use guest_cpu::Cpu;
 use guest_space::AllMapped;
 use item_log::ItemLog;

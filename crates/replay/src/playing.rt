@@ -2,7 +2,7 @@
 ghost use Rattle.std.specs.Prelude.{◌≡◌, ◌<◌, ◌^◌, true, None, slice_get};
 ghost use Rattle.links.specs.Links.{Told};
 ghost use Rattle.links.specs.Seen.{Seen};
-ghost use Rattle.elf_image.specs.declared.image.Image.{Image};
+ghost use Rattle.guest_image.specs.declared.image.Image.{Image};
 ghost use Rattle.replay.specs.Differing.{DiffersBy, HasFound};
 ghost use Rattle.replay.specs.Giving.{IsLastSend};
 ghost use Rattle.replay.specs.Replaying.{choice_by};
@@ -16,7 +16,7 @@ use block_book::{Ask, Choice};
 use guest_cpu::Question;
 use links::Link;
 use run_history::Answer;
-use rx_io::Steps;
+use rx_base::Steps;
 use schedule_file::{Line, Recorded};
 use std::sync::ledger::Ledger;
 

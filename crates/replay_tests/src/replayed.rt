@@ -4,13 +4,13 @@ ghost use Rattle.links.specs.MemoryLinks.{seen_in};
 ghost use Rattle.session_history.specs.Answering.{MayBegin};
 
 use block_book::Ask;
-use elf_image::Image;
+use guest_image::Image;
 use links::MemoryLink;
 use msg_frame::Framing;
 use replay::{AnyGiver, Difference, Filled, fill_by};
 use run_history::Answer;
 use rv_asm::assemble;
-use rx_io::Steps;
+use rx_base::Steps;
 use schedule_file::{Line, Lines, Recorded};
 use std::alloc::Global;
 use std::marker::Brand;

@@ -1,7 +1,7 @@
 // The sends of a survivor and of a trial, and what was passed of them.
 ghost use Rattle.std.specs.Prelude.{◌≡◌, ℕ, ◌+◌, ◌-◌, ◌<◌, ◌≤◌, ◌↔◌, true, None, Some, IsNone, IsSome, List, [], ◌∷◌, ◌++◌, length, take, drop, IfOk, OnOk, OnErr, IsTrue};
 ghost use Rattle.std.specs.Option.{option_map, option_copied};
-ghost use Rattle.rx_io.specs.Sends.{Send, sent_to};
+ghost use Rattle.rx_base.specs.Sends.{Send, sent_to};
 ghost use Rattle.reply_ledger.specs.Ledger.{Ledger, no_replies, connection_of, IsOpened, is_open, passed_to, stamped_to, changed, new_connection, closed_connection, gone_connection, bytes_of, NotBefore, times_of, stamps_of, with_send, with_passed, with_connection, with_change};
 ghost use Rattle.reply_ledger.specs.Parts.{next_part, rest_part, shown_part};
 ghost use Rattle.reply_ledger.specs.Trials.{agree, trial_sends, with_trial_send, begun, adopted, discarded, Agrees, Covers, CoversBefore};
@@ -14,7 +14,7 @@ use crate::comparing::compare;
 use crate::entry::{Entry, part_of, rest_of};
 use crate::sends::{drop_oldest, first_of_more, first_waiting, first_with_rest, recount, reserve};
 use indexmap::IndexMap;
-use rx_io::Bytes;
+use rx_base::Bytes;
 use std::alloc::{AllocError, Global};
 use std::collections::VecDeque;
 use std::marker::Model;

@@ -5,37 +5,12 @@ ghost use Rattle.report_reading.specs.declared.reported.ReportRefusal.TheVariant
 
 use run_history::Cause;
 use run_report::Form;
+use rx_base::Listed;
 use session_notes::{Episode, Tries, Try};
 use std::alloc::AllocError;
-use std::marker::Model;
 
 /// Episodes in their order.
-#[derive(Debug, Drop)]
-pub struct Episodes {
-    episodes: Vec<Episode>,
-}
-
-impl Model for Episodes {
-    ghost Value = { List Episode };
-
-    ghost view = { λ e. e.episodes.items };
-}
-
-impl Episodes {
-    /// The episodes of a vector, in its order.
-    pub fn from_vec(v: Vec<Episode>) -> Episodes
-        ensures { result ≡ v.items }
-    {
-        Episodes { episodes: v }
-    }
-
-    /// The episodes, in their order.
-    pub fn as_slice(&self) -> &[Episode]
-        ensures { result.now ≡ self.now }
-    {
-        &self.episodes
-    }
-}
+pub type Episodes = Listed<Episode>;
 
 /// What the last line of a report says: the session's status, how many items were taken, and how many instructions were
 /// executed.

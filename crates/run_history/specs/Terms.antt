@@ -1,7 +1,7 @@
 -- The words that this crate's definitions are written in: those of crates below, and types of its code.
-pub use Rattle.rx_io.specs.declared.bytes.Item.{Item}
-pub use Rattle.rx_io.specs.Prefix.{Prefix}
-pub use Rattle.rx_io.specs.Sends.{Send, sent_to}
+pub use Rattle.rx_base.specs.declared.item.Item.{Item}
+pub use Rattle.rx_base.specs.Prefix.{Prefix}
+pub use Rattle.rx_base.specs.Sends.{Send, sent_to}
 pub use Rattle.block_book.specs.declared.choice.Ask.{Ask}
 pub use Rattle.block_book.specs.declared.choice.Ask.TheVariants.{Calloc, Malloc, Realloc}
 pub use Rattle.block_book.specs.declared.choice.Choice.{Choice}
@@ -22,10 +22,11 @@ unfoldable pub use Rattle.rv_isa.specs.Meaning.{displaced, extended, indirect_ta
 unfoldable pub use Rattle.rv_isa.specs.Table.{base_op, branch_op, branch_row, imm_op, imm_row, load_op, load_row, op_row, reg_op, row, store_op, store_row, system_row}
 pub use Rattle.rv_isa.specs.Words.{little_bytes, little_number}
 unfoldable pub use Rattle.rv_isa.specs.Words.{funct3, funct7, imm_b, imm_i, imm_j, imm_s, imm_u, opcode, rd, rs1, rs2}
-pub use Rattle.elf_image.specs.declared.image.Image.{Image}
-pub use Rattle.elf_image.specs.Image.{base, heap_end, heap_start, memory_of, stack_top, written}
-unfoldable pub use Rattle.elf_image.specs.Image.{zeros}
-pub use Rattle.elf_image.specs.Memory.{Area, byte_at, bytes_at, execute, put_bytes, read, write}
-unfoldable pub use Rattle.elf_image.specs.Memory.{permitted}
+pub use Rattle.guest_image.specs.declared.image.Image.{Image}
+pub use Rattle.guest_image.specs.Image.{base, heap_end, heap_start, memory_of, stack_top}
+pub use Rattle.elf_file.specs.Written.{written}
+unfoldable pub use Rattle.guest_image.specs.Image.{zeros}
+pub use Rattle.guest_image.specs.Memory.{Area, byte_at, bytes_at, execute, put_bytes, read, write}
+unfoldable pub use Rattle.guest_image.specs.Memory.{permitted}
 pub use Rattle.run_history.specs.declared.answer.Cause.{Cause}
 pub use Rattle.run_history.specs.declared.answer.Cause.TheVariants.{AssertFailed, BadAccess, BadCall, BadFree, BadInstruction, BadJump, Hang}

@@ -5,7 +5,7 @@ ghost use Rattle.serde_json.specs.View.{view, items_of};
 ghost use Rattle.serde_json.specs.Written.{has_float};
 ghost use Rattle.run_report.specs.JsonLines.{json_line, head_data, try_data, tries_data, episode_data, end_data};
 
-use rx_io::Bytes;
+use rx_base::Bytes;
 use serde_json::{Value, json};
 use session_notes::{Episode, Try, cause_text, env_word, pc_text, tried_text};
 use std::alloc::{AllocError, Global};

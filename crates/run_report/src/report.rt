@@ -4,7 +4,7 @@ ghost use Rattle.run_report.specs.Report.{head_text, episode_text, end_text};
 
 use crate::form::Form;
 use crate::{json_lines, text_lines};
-use rx_io::Bytes;
+use rx_base::Bytes;
 use session_notes::Episode;
 use std::alloc::{AllocError, Global};
 

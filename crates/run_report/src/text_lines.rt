@@ -2,7 +2,7 @@
 ghost use Rattle.std.specs.Prelude.{◌≡◌, IfOk};
 ghost use Rattle.run_report.specs.TextLines.{head_line, episode_lines, end_line};
 
-use rx_io::Bytes;
+use rx_base::Bytes;
 use session_notes::{Episode, failure_line, try_line};
 use std::alloc::{AllocError, Global};
 

@@ -1,7 +1,7 @@
 -- A text has one image at most: a word is that of one instruction, and an image is what it says.
 use Rattle.rv_isa.proofs.OneWord.{one_word}
 use Rattle.rv_isa.proofs.Rows.{row_to}
-use Rattle.elf_image.proofs.Same.{same_image}
+use Rattle.guest_image.proofs.Same.{same_image}
 use Rattle.asm_lines.specs.declared.form.Section.TheVariants as section
 use Rattle.rv_asm.proofs.Terms.{List, [], ap, ap₂, sym, ℕ, ◌++◌, ◌∙◌, ◌∷◌, ◌≡◌, Instr, little_bytes, Image, bytes_in, data_start, read_lines, text_start, AreBytes, Cell, Coded, IsAssembled, IsWord, Raw, cells_in, data_segments, segment}
 

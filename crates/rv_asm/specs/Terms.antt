@@ -8,11 +8,11 @@ pub use Rattle.rv_isa.specs.Ranges.{IsImmediate, IsInRange, IsOperand, IsRegiste
 unfoldable pub use Rattle.rv_isa.specs.Table.{imm_op, imm_row, row, system_row}
 pub use Rattle.rv_isa.specs.Words.{little_bytes, signed}
 unfoldable pub use Rattle.rv_isa.specs.Words.{funct3, imm_i, imm_u, opcode, rd, rs1}
-pub use Rattle.elf_image.specs.declared.image.Image.{Image}
-pub use Rattle.elf_image.specs.declared.layout.TheConstants.{PAGE, STACK_AND_GUARD}
-pub use Rattle.elf_image.specs.declared.segment.Segment.{Segment}
-pub use Rattle.elf_image.specs.Layout.{IsPlaced, IsWindow, executable, heap_floor, window_start}
-unfoldable pub use Rattle.elf_image.specs.Layout.{bad_entry, layout_refusal, no_load, overlap, too_large}
+pub use Rattle.guest_image.specs.declared.image.Image.{Image}
+pub use Rattle.guest_image.specs.declared.layout.TheConstants.{PAGE, STACK_AND_GUARD}
+pub use Rattle.guest_image.specs.declared.segment.Segment.{Segment}
+pub use Rattle.guest_image.specs.Layout.{IsPlaced, IsWindow, executable, heap_floor, window_start}
+unfoldable pub use Rattle.guest_image.specs.Layout.{bad_entry, layout_refusal, no_load, overlap, too_large}
 pub use Rattle.asm_lines.specs.declared.flaw.Flaw.{Flaw}
 pub use Rattle.asm_lines.specs.declared.form.Form.{Form}
 pub use Rattle.asm_lines.specs.declared.form.Section.{Section}

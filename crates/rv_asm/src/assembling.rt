@@ -1,6 +1,6 @@
 // The image of a text.
 ghost use Rattle.std.specs.Prelude.{◌≡◌, ◌<◌, ◌^◌, ◌∷◌, length, IfOk, IfErr};
-ghost use Rattle.elf_image.specs.Layout.{IsWindow};
+ghost use Rattle.guest_image.specs.Layout.{IsWindow};
 ghost use Rattle.rv_asm.specs.Layout.{text_start, data_start};
 ghost use Rattle.rv_asm.specs.Steps.{AreSmall, IsImageOf};
 ghost use Rattle.rv_asm.specs.Assembling.{segment, data_segments, IsAssembled, IsReason};
@@ -10,7 +10,8 @@ use crate::layout::{Layout, TEXT_START, data_start};
 use crate::sections::Sections;
 use crate::surveying::survey;
 use crate::writing::write_sections;
-use elf_image::{FileBytes, Image, Segment, Segments};
+use guest_image::{Image, Segment, Segments};
+use rx_base::Bytes;
 use std::alloc::{AllocError, Global};
 
 // The flags of a segment (System V ABI, "Segment Permissions").
@@ -19,7 +20,7 @@ const READ_EXECUTE: u32 = 5;
 const READ_WRITE: u32 = 6;
 
 // The segment of a section.
-fn segment(vaddr: u32, flags: u32, bytes: FileBytes) -> Segment
+fn segment(vaddr: u32, flags: u32, bytes: Bytes) -> Segment
     requires { length bytes < 2 ^ 32 }
     ensures { result ≡ segment vaddr flags bytes }
 {

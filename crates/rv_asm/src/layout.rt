@@ -11,7 +11,7 @@ use crate::placed::{Placed, Spot, Statements};
 use asm_lines::{
     Flaw, Line, Part, Section, Statement, Words, gives_bytes, line_of, stands_in, statement_of,
 };
-use elf_image::PAGE;
+use guest_image::PAGE;
 use std::alloc::{AllocError, Global};
 
 /// Where the text section begins.

@@ -1,9 +1,9 @@
 // The bytes of both sections.
-use elf_image::FileBytes;
+use rx_base::Bytes;
 
 /// The bytes of the text section and of the data section.
 #[derive(Drop)]
 pub struct Sections {
-    pub code: FileBytes,
-    pub variables: FileBytes,
+    pub code: Bytes,
+    pub variables: Bytes,
 }

@@ -15,7 +15,7 @@ use crate::layout::Layout;
 use crate::placed::Placed;
 use crate::sections::Sections;
 use asm_lines::{Flaw, Part, Section, Statement};
-use elf_image::FileBytes;
+use rx_base::Bytes;
 use rv_isa::{BranchOp, ImmOp, Instr, encode};
 use std::alloc::{AllocError, Global};
 
@@ -298,7 +298,7 @@ pub fn write_sections(alloc: Global, layout: &Layout<'_>) -> Result<Sections, St
         }
     }
     Ok(Sections {
-        code: FileBytes::from_vec(code),
-        variables: FileBytes::from_vec(variables),
+        code: Bytes::from_vec(code),
+        variables: Bytes::from_vec(variables),
     })
 }

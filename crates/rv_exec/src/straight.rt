@@ -10,7 +10,7 @@ use crate::quick::run_words;
 use block_book::Book;
 use guest_space::{AccessRule, GuestSpace, Windows};
 use run_history::Regs;
-use rx_io::Steps;
+use rx_base::Steps;
 use std::sync::ledger::Ledger;
 
 /// Does instructions that are no calls one after another by their entries, from the one of a number on, and counts a step for

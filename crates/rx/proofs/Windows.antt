@@ -1,6 +1,6 @@
 use Rattle.std.proofs.Common.{ℕ, ◌*◌, ◌%◌, ◌≤◌, ◌<◌, sym, subst, arith}
 use Rattle.std.proofs.Math.Nat.{mod-eq_of_lt, mul-mod_left}
-use Rattle.elf_image.specs.Layout.{IsWindow}
+use Rattle.guest_image.specs.Layout.{IsWindow}
 
 -- so many MiB are a window
 is_window : (n : ℕ) → 1 ≤ n → n ≤ 64 → IsWindow (n * 1048576)

@@ -1,5 +1,5 @@
 // What the sentences of several commands share: what was wrong, where, and what would be right.
-use elf_image::{ElfRefusal, RefusedField};
+use elf_file::{ElfRefusal, RefusedField};
 use msg_frame::MAX_MESSAGE;
 use run_history::{Answer, Cause};
 use rx_serve::{MAX_EVENTS, MAX_ITEMS};

@@ -1,6 +1,6 @@
 // Standard error: what was wrong, where, and what would be right. A part for each command, and the choice among them at the end.
 ghost use Rattle.std.specs.Prelude.{◌≡◌, IfSome};
-ghost use Rattle.elf_image.specs.Layout.{IsWindow};
+ghost use Rattle.guest_image.specs.Layout.{IsWindow};
 ghost use Rattle.command_line.specs.Commands.{run_shown, serve, serve_shown};
 ghost use Rattle.command_line.specs.Ranges.{AreInRange, HasRanges};
 
@@ -16,7 +16,7 @@ use command_line::{
     AsmCommand, Command, ConvertCommand, DiagnoseCommand, ReplayCommand, RunCommand, ServeCommand,
     complaint, read_command, usage,
 };
-use elf_image::{RefusedField, field_of_refusal};
+use elf_file::{RefusedField, field_of_refusal};
 use replay::Difference;
 use run_history::{Answer, Cause};
 use rv_asm::explain;

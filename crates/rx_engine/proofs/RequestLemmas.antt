@@ -1,6 +1,6 @@
 -- A session that follows, at its guest's request: it is judged there by its counts, and is released, or isn't; or it waits for the item.
 use Rattle.std.proofs.Common.{Bool, true}
-use Rattle.rx_io.specs.declared.bytes.Item.{Item}
+use Rattle.rx_base.specs.declared.item.Item.{Item}
 use Rattle.links.specs.declared.journal.LinkEvent.TheVariants.{Ends as EndOfLink}
 use Rattle.session_notes.specs.declared.episode.Episode.{Episode}
 use Rattle.session_history.specs.declared.ends.SessionBreak.TheVariants as session_break

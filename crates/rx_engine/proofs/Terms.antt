@@ -3,8 +3,8 @@ pub use Rattle.std.specs.declared.alloc.AllocError.{AllocError}
 pub use Rattle.std.proofs.Common.{Err, List, None, Ok, Option, Some, [], ap, append-nil, arith, drop, inl, inr, length, map, min, refl, rules, subst, sym, take, ℕ, ◌*◌, ◌++◌, ◌+◌, ◌-◌, ◌<◌, ◌^◌, ◌∙◌, ◌∷◌, ◌≡◌, ◌≤◌}
 pub use Rattle.std.proofs.lemmas.Bool.{false≢true}
 pub use Rattle.std.specs.Prelude.{Bool, IfOk, IfSome, IsSome, Result, false, if◌then◌else◌, slice_get, true, ◌==◌, ◌≢◌, ◌⊎◌}
-pub use Rattle.rx_io.proofs.Composing.{rose_later}
-pub use Rattle.rx_io.specs.Sends.{Send, sent_to}
+pub use Rattle.rx_base.proofs.Composing.{rose_later}
+pub use Rattle.rx_base.specs.Sends.{Send, sent_to}
 pub use Rattle.links.specs.declared.journal.LinkEvent.{LinkEvent}
 pub use Rattle.links.specs.Links.{Coming, Grew, Phases, Tells, Told}
 pub use Rattle.links.specs.Seen.{Seen}
@@ -15,7 +15,7 @@ pub use Rattle.ckpt_ring.specs.Slots.{Slots, oldest_of}
 pub use Rattle.item_log.specs.Log.{IsItemOf, Log, received}
 pub use Rattle.reply_ledger.specs.Ledger.{IsOpened, Ledger, NotBefore, passed_connection, passed_to, with_passed, with_send}
 unfoldable pub use Rattle.reply_ledger.specs.Ledger.{is_open, stamped, stamped_to, stamps_of, times_of}
-pub use Rattle.elf_image.specs.declared.image.Image.{Image}
+pub use Rattle.guest_image.specs.declared.image.Image.{Image}
 pub use Rattle.run_history.specs.declared.answer.Cause.{Cause}
 pub use Rattle.run_history.specs.Machine.{Fails, Wants}
 pub use Rattle.run_history.specs.Served.{AsksFor, FailsBy, Limits, Override, Path, env_at, guest_of, origin}

@@ -2,7 +2,7 @@
 ghost use Rattle.std.specs.Prelude.{◌≡◌, ◌+◌, ◌<◌, ◌≤◌, Err, IfOk, List, ℕ, true};
 ghost use Rattle.links.specs.Links.{Told};
 ghost use Rattle.links.specs.Seen.{Seen};
-ghost use Rattle.elf_image.specs.declared.image.Image.{Image};
+ghost use Rattle.guest_image.specs.declared.image.Image.{Image};
 ghost use Rattle.item_log.specs.Log.{received};
 ghost use Rattle.follow.specs.Handed.{Handed};
 ghost use Rattle.follow.specs.Following.{AsksForMore};
@@ -22,7 +22,7 @@ use crate::hearing::stop_at;
 use guest_space::AccessRule;
 use link_gate::{Heard, hear_into};
 use links::{Link, LinkEvent};
-use rx_io::Steps;
+use rx_base::Steps;
 use session_following::remembering::{HeardOf, Took};
 use session_following::{HandedOver, env_planned};
 use session_history::Stop;

@@ -2,7 +2,7 @@
 ghost use Rattle.std.specs.Prelude.{Err, Ok, ◌≡◌, ◌≢◌, ◌≤◌};
 ghost use Rattle.links.specs.Links.{Told};
 ghost use Rattle.links.specs.Seen.{Seen};
-ghost use Rattle.elf_image.specs.declared.image.Image.{Image};
+ghost use Rattle.guest_image.specs.declared.image.Image.{Image};
 ghost use Rattle.guest_cpu.specs.declared.event.Event.TheVariants as event;
 ghost use Rattle.session_history.specs.declared.ends.SessionBreak.TheVariants as session_break;
 ghost use Rattle.session_history.specs.declared.ends.Stop.{Stop};

@@ -2,7 +2,7 @@
 ghost use Rattle.std.specs.Prelude.{◌≡◌, ◌+◌, ◌-◌, ◌≤◌, List, [], ℕ};
 ghost use Rattle.links.specs.Links.{IsFresh};
 ghost use Rattle.links.specs.Seen.{Seen};
-ghost use Rattle.elf_image.specs.declared.image.Image.{Image};
+ghost use Rattle.guest_image.specs.declared.image.Image.{Image};
 ghost use Rattle.session_history.specs.Answering.{MayBegin};
 ghost use Rattle.session_notes.specs.Noting.{Noted};
 ghost use Rattle.session_state.specs.Leaving.{IsTrimmed, keeping_of};
@@ -18,7 +18,7 @@ use guest_space::AccessRule;
 use links::Link;
 use recovery::Watch;
 use run_history::Answer;
-use rx_io::Steps;
+use rx_base::Steps;
 use session_following::remembering::Began;
 use session_following::{HandedOver, Missing, Turned, Unfollowed, are_well_placed, env_planned};
 use session_history::{SessionBreak, SessionEnd, Stop};

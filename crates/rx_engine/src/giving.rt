@@ -1,5 +1,5 @@
 // What a session passes to its link.
-ghost use Rattle.elf_image.specs.declared.image.Image.{Image};
+ghost use Rattle.guest_image.specs.declared.image.Image.{Image};
 ghost use Rattle.session_history.specs.Lawful.{Rules};
 ghost use Rattle.session_history.specs.Giving.{IsReady, IsClosing};
 ghost use Rattle.std.specs.Prelude.{◌≡◌};

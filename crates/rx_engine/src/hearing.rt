@@ -1,6 +1,6 @@
 // What a session hears of its link.
 ghost use Rattle.std.specs.Prelude.{◌<◌, IfOk};
-ghost use Rattle.elf_image.specs.declared.image.Image.{Image};
+ghost use Rattle.guest_image.specs.declared.image.Image.{Image};
 ghost use Rattle.item_log.specs.Log.{received};
 ghost use Rattle.session_state.specs.Standing.{Since, IsWaitingFor};
 ghost use Rattle.session_state.specs.Serving.{IsStopAt, KeepsHearing, CountsEvent, StandsHearing, StandsListening, WaitsBy, rules_by};

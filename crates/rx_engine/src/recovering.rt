@@ -1,7 +1,7 @@
 // What a session does where its program failed.
 ghost use Rattle.std.specs.Prelude.{◌≡◌, ℕ, ◌+◌, ◌≤◌};
 ghost use Rattle.links.specs.Seen.{Seen};
-ghost use Rattle.elf_image.specs.declared.image.Image.{Image};
+ghost use Rattle.guest_image.specs.declared.image.Image.{Image};
 ghost use Rattle.session_state.specs.Standing.{Since, IsFailing};
 ghost use Rattle.session_state.specs.Serving.{IsNoteAnswer, ComesBetween, StandsFailing, AdoptsBy, KeepsAdopting, KeepsRecovering, end_of, rules_by};
 
@@ -10,7 +10,7 @@ use guest_space::AccessRule;
 use links::Link;
 use recovery::{Adopted, FailureSite, Recovered, Watch};
 use run_history::Cause;
-use rx_io::{IoFault, Steps};
+use rx_base::{IoFault, Steps};
 use session_history::{SessionBreak, SessionEnd, Stop};
 use session_notes::Notes;
 use std::alloc::AllocError;

@@ -8,7 +8,7 @@ use guest_space::AccessRule;
 use links::Link;
 use recovery::Watch;
 use run_history::Answer;
-use rx_io::Steps;
+use rx_base::Steps;
 use session_notes::Notes;
 use std::sync::ledger::Ledger;
 

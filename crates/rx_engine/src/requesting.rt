@@ -2,7 +2,7 @@
 ghost use Rattle.std.specs.Prelude.{◌≡◌, ◌+◌, ◌^◌, ◌<◌, ◌≤◌, Err, List, false, length, true, ℕ};
 ghost use Rattle.links.specs.Links.{Told};
 ghost use Rattle.links.specs.Seen.{Seen};
-ghost use Rattle.elf_image.specs.declared.image.Image.{Image};
+ghost use Rattle.guest_image.specs.declared.image.Image.{Image};
 ghost use Rattle.session_history.specs.declared.ends.SessionBreak.TheVariants as session_break;
 ghost use Rattle.session_history.specs.declared.ends.SessionEnd.TheVariants as session_end;
 ghost use Rattle.session_history.specs.declared.ends.Stop.TheVariants as stop;
@@ -21,7 +21,7 @@ ghost use Rattle.session_following.specs.Waiting.{EndedOn};
 use crate::Session;
 use guest_space::AccessRule;
 use links::Link;
-use rx_io::Steps;
+use rx_base::Steps;
 use session_following::{HandedOver, Judged, Missing, StandKind, Turned, Unfollowed};
 use session_notes::Notes;
 use std::sync::ledger::Ledger;

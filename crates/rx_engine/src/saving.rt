@@ -3,7 +3,7 @@ ghost use Rattle.std.specs.Prelude.{◌≡◌, ◌<◌, ◌+◌, ◌^◌, [], �
 ghost use Rattle.links.specs.Seen.{Seen};
 ghost use Rattle.ckpt_ring.specs.Slots.{oldest_of};
 ghost use Rattle.reply_ledger.specs.Trimming.{trimmed};
-ghost use Rattle.elf_image.specs.declared.image.Image.{Image};
+ghost use Rattle.guest_image.specs.declared.image.Image.{Image};
 ghost use Rattle.run_history.specs.Served.{origin};
 ghost use Rattle.session_history.specs.Lawful.{Rules};
 ghost use Rattle.recovery.specs.Rings.{KeepsRing, SavesIf};

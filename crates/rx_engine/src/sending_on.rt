@@ -2,7 +2,7 @@
 ghost use Rattle.std.specs.Prelude.{Err, ◌≡◌, ◌≤◌, List, ℕ};
 ghost use Rattle.links.specs.Links.{Told};
 ghost use Rattle.links.specs.Seen.{Seen};
-ghost use Rattle.elf_image.specs.declared.image.Image.{Image};
+ghost use Rattle.guest_image.specs.declared.image.Image.{Image};
 ghost use Rattle.guest_cpu.specs.declared.event.Event.TheVariants as event;
 ghost use Rattle.session_history.specs.declared.ends.SessionBreak.TheVariants as session_break;
 ghost use Rattle.session_history.specs.declared.ends.Stop.{Stop};
@@ -17,7 +17,7 @@ ghost use Rattle.session_following.specs.Turning.{HasRunOn, StandsRun, TurnsTo};
 
 use crate::Session;
 use guest_space::AccessRule;
-use rx_io::Bytes;
+use rx_base::Bytes;
 use session_following::remembering::Sent;
 use session_following::{Missing, Turned, Unfollowed, note_held};
 use session_history::{SessionBreak, Stop};

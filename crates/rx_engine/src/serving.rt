@@ -1,7 +1,7 @@
 // A session from its begin to its end.
 ghost use Rattle.std.specs.Prelude.{◌≡◌, None, ℕ, ◌+◌, ◌-◌, ◌≤◌, true};
 ghost use Rattle.links.specs.Seen.{Seen};
-ghost use Rattle.elf_image.specs.declared.image.Image.{Image};
+ghost use Rattle.guest_image.specs.declared.image.Image.{Image};
 ghost use Rattle.guest_cpu.specs.declared.event.Event.TheVariants as event;
 ghost use Rattle.session_history.specs.Answering.{MayBegin};
 ghost use Rattle.session_state.specs.Standing.{Since, IsGoing, IsBetween, IsWaitingFor, IsEnding};
@@ -18,7 +18,7 @@ use link_gate::pass_until;
 use links::Link;
 use recovery::{NoWatch, Watch};
 use run_history::Answer;
-use rx_io::{Bytes, Steps};
+use rx_base::{Bytes, Steps};
 use session_history::{SessionBreak, SessionEnd, Stop};
 use session_notes::Notes;
 use std::sync::ledger::Ledger;

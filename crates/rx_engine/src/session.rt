@@ -6,7 +6,7 @@ ghost use Rattle.session_state.specs.Sessions.{IsBegun, env_of};
 use crate::Left;
 use alloc_env::Env;
 use block_book::{Choice, Choices};
-use elf_image::Image;
+use guest_image::Image;
 use guest_space::AccessRule;
 use recovery::{Recoverable, Room};
 use session_state::{Nothing, Options, Past};

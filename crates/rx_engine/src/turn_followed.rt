@@ -2,7 +2,7 @@
 ghost use Rattle.std.specs.Prelude.{◌≡◌, ◌+◌, ◌≤◌, Err, List, false, true, ℕ};
 ghost use Rattle.links.specs.Links.{Told};
 ghost use Rattle.links.specs.Seen.{Seen};
-ghost use Rattle.elf_image.specs.declared.image.Image.{Image};
+ghost use Rattle.guest_image.specs.declared.image.Image.{Image};
 ghost use Rattle.session_history.specs.declared.ends.SessionBreak.TheVariants as session_break;
 ghost use Rattle.session_history.specs.declared.ends.Stop.TheVariants as stop;
 ghost use Rattle.session_history.specs.Lawful.{Rules};
@@ -19,7 +19,7 @@ use crate::Session;
 use guest_cpu::Event;
 use guest_space::AccessRule;
 use links::Link;
-use rx_io::Steps;
+use rx_base::Steps;
 use session_following::{HandedOver, Missing, Turned, Unfollowed};
 use session_history::{SessionBreak, Stop};
 use session_notes::Notes;

@@ -2,8 +2,8 @@
 ghost use Rattle.std.specs.Prelude.{Err, ◌≡◌, ◌+◌, ◌^◌, ◌<◌, ◌≤◌, [], List, ℕ, length};
 ghost use Rattle.links.specs.Links.{Told};
 ghost use Rattle.links.specs.Seen.{Seen};
-ghost use Rattle.elf_image.specs.declared.image.Image.{Image};
-ghost use Rattle.rx_io.specs.declared.bytes.Item.{Item};
+ghost use Rattle.guest_image.specs.declared.image.Image.{Image};
+ghost use Rattle.rx_base.specs.declared.item.Item.{Item};
 ghost use Rattle.guest_cpu.specs.declared.event.Event.TheVariants as event;
 ghost use Rattle.run_history.specs.Served.{Limits, Path};
 ghost use Rattle.session_history.specs.declared.ends.SessionBreak.TheVariants as session_break;

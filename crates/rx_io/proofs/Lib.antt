@@ -1,4 +1,3 @@
 pub mod Terms
-pub mod Composing
 mod Places
 mod AheadLemmas

@@ -3,6 +3,6 @@ pub use Rattle.std.proofs.Common.{Err, List, None, Ok, OnErr, OnOk, Option, Resu
 pub use Rattle.std.proofs.KnownBytes.{Appends-kept, Appends-nil, Appends-trans}
 pub use Rattle.std.proofs.lemmas.List.{drop-take, take_at}
 pub use Rattle.rx_io.specs.Terms.{Appends, Consumes, Global, Keeps, bytes_eq}
-pub use Rattle.rx_io.specs.Outside.{Stream, Took}
+pub use Rattle.rx_base.specs.Outside.{Stream, Took}
 pub use Rattle.rx_io.specs.Named.{Contents, Holds}
 pub use Rattle.rx_io.specs.Shelves.{File, IsPlace, found}

@@ -2,7 +2,7 @@
 use Rattle.std.specs.Prelude.{List, Some, unwrap_or, []}
 use Rattle.rx_io.specs.Terms.{FileCall}
 use Rattle.rx_io.specs.Named.{Contents}
-use Rattle.rx_io.specs.Planned.{Plan}
+use Rattle.rx_base.specs.Planned.{Plan}
 use Rattle.rx_io.specs.Shelves.{found}
 use Rattle.rx_io.specs.declared.memory_files.MemoryFiles.{MemoryFiles}
 use Rattle.rx_io.specs.declared.tame_files.TameFiles.{TameFiles}

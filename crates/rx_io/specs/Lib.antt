@@ -1,10 +1,6 @@
 pub mod Terms
-pub mod Outside
-pub mod Faults
-pub mod Taking
 pub mod Named
 pub mod Calling
-pub mod Planned
 pub mod Sources
 pub mod Sinks
 pub mod Shelves
@@ -16,5 +12,3 @@ pub mod MemoryListeners
 pub mod Reading
 pub mod Ahead
 pub mod Laws
-pub mod Prefix
-pub mod Sends

@@ -1,5 +1,5 @@
 -- What the calls on a listener add to the list of calls that it tells.
-use Rattle.std.specs.Prelude.{◌≡◌, ◌<◌, ◌≤◌, ℕ, Bool, true, List, [], ◌∷◌, ◌++◌, length, take, Option, Some, None, Result, Ok, Err}
+use Rattle.std.specs.Prelude.{◌≡◌, ℕ, Bool, true, List, [], ◌∷◌, ◌++◌, length, take, Option, Some, None, Result, Ok, Err}
 use Rattle.rx_io.specs.Terms.{IoFault, Failed, Memory, ListenEntry}
 use Rattle.rx_io.specs.declared.listener_calls.ListenCall.{ListenCall}
 use Rattle.rx_io.specs.declared.listener_calls.ListenCall.TheVariants as call
@@ -46,8 +46,3 @@ closed = entry.Closed ∷ []
 abbrev pub IsPresentAfter : Bool → Bool → Result (Unit {0}) IoFault → Type 0
 IsPresentAfter old new (Ok done) = new ≡ true
 IsPresentAfter old new (Err fault) = new ≡ old
-
--- so many bytes of a piece, at least one
-pub record IsPart (count whole : ℕ) : Type 0 where
-  pub some : 0 < count
-  pub within : count ≤ whole

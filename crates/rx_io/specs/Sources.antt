@@ -1,17 +1,9 @@
 -- What the sources in memory tell.
 use Rattle.std.specs.Prelude.{ℕ, min, List, [], length, take, drop, Option, None, Some}
-use Rattle.rx_io.specs.Outside.{Stream}
-use Rattle.rx_io.specs.Planned.{Plan}
+use Rattle.rx_base.specs.Outside.{Stream}
+use Rattle.rx_base.specs.Planned.{Plan}
 use Rattle.rx_io.specs.declared.tame_source.TameSource.{TameSource}
 use Rattle.rx_io.specs.declared.memory_source.MemorySource.{MemorySource}
-
--- none of these bytes was taken yet
-abbrev pub fresh : List ℕ → Stream
-fresh bytes = record { taken = []; left = bytes }
-
--- how many bytes a call gives: at most so many per call, as many as the buffer has room for, and as are left
-abbrev pub piece_len : ℕ → ℕ → Stream → ℕ
-piece_len most room stream = min (min most room) (length stream.left)
 
 -- the bytes of a source that were taken, and those that are left
 abbrev pub tame_stream : TameSource → Stream

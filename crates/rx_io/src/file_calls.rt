@@ -1,5 +1,5 @@
 // What files were asked for, as plain data.
-use crate::Bytes;
+use rx_base::Bytes;
 
 /// A call on named files, by its file's name. One that answered `Memory` leaves none.
 #[derive(Debug, Drop)]

@@ -3,10 +3,10 @@ ghost use Rattle.std.specs.Prelude.{◌≡◌, ℕ, ◌≤◌, List, Option, IfO
 ghost use Rattle.rx_io.specs.Calling.{Calls, calls_of, loads_of};
 ghost use Rattle.rx_io.specs.declared.file_calls.FileCall.{FileCall};
 ghost use Rattle.rx_io.specs.declared.file_calls.FileCall.TheVariants.{Loaded, Started, Added};
-ghost use Rattle.rx_io.specs.Faults.{HasCause, HasLoadCause};
+ghost use Rattle.rx_base.specs.Faults.{HasCause, HasLoadCause};
 ghost use Rattle.rx_io.specs.Named.{Contents, Loads, Starts, Adds};
 
-use crate::{IoFault, LoadFault};
+use rx_base::{IoFault, LoadFault};
 use std::alloc::Global;
 
 /// Named files, each a list of bytes.

@@ -1,7 +1,8 @@
 // Objects outside that are lent: no call changes which object the reference is to.
 ghost use Rattle.std.specs.Borrow.{GName};
 
-use crate::{Files, IoFault, Listener, LoadFault, Sink, Source};
+use crate::{Files, Listener, Sink, Source};
+use rx_base::{IoFault, LoadFault};
 use std::alloc::Global;
 
 impl<T: Source> Source for &mut T {

@@ -9,9 +9,6 @@
 #![tactic(auto)]
 
 mod attempts;
-mod bytes;
-mod fails;
-mod fault;
 mod file_calls;
 mod files;
 mod lent;
@@ -29,16 +26,12 @@ mod source;
 mod std_files;
 mod std_sink;
 mod std_source;
-mod steps;
 mod tame_files;
 mod tame_listener;
 mod tame_sink;
 mod tame_source;
 
 pub use attempts::{TRIES, read_some, write_some};
-pub use bytes::{Bytes, Item};
-pub use fails::Fails;
-pub use fault::{IoFault, LoadFault};
 pub use file_calls::FileCall;
 pub use files::Files;
 pub use listener::Listener;
@@ -52,7 +45,6 @@ pub use source::Source;
 pub use std_files::StdFiles;
 pub use std_sink::StdSink;
 pub use std_source::StdSource;
-pub use steps::Steps;
 pub use tame_files::TameFiles;
 pub use tame_listener::TameListener;
 pub use tame_sink::TameSink;

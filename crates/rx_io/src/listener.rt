@@ -1,10 +1,12 @@
 // Where connections come from.
 ghost use Rattle.std.specs.Prelude.{◌≡◌, ◌<◌, ◌≤◌, ℕ, Bool, true, false, List, length, Option, IfOk};
 ghost use Rattle.rx_io.specs.declared.listener_calls.ListenEntry.{ListenEntry};
-ghost use Rattle.rx_io.specs.Faults.{HasCause};
-ghost use Rattle.rx_io.specs.Listening.{Binds, Accepts, ListenTakes, ListenGives, Logs, closed, IsPresentAfter, IsPart};
+ghost use Rattle.rx_base.specs.Faults.{HasCause};
+ghost use Rattle.rx_io.specs.Listening.{Binds, Accepts, ListenTakes, ListenGives, Logs, closed, IsPresentAfter};
+ghost use Rattle.rx_base.specs.Taking.{IsPart};
 
-use crate::{IoFault, ListenEntry};
+use crate::ListenEntry;
+use rx_base::IoFault;
 
 /// A port at which connections are accepted, one after another. The one accepted last is the present one until it is closed.
 pub trait Listener {

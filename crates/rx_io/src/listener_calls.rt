@@ -1,5 +1,5 @@
 // What a listener was asked and what it answered, as plain data.
-use crate::Bytes;
+use rx_base::Bytes;
 
 /// A call on a listener that can fail.
 #[derive(Clone, Copy, Debug, PartialEq, Eq)]

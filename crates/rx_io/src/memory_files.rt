@@ -1,13 +1,14 @@
 // Files in memory of which certain calls fail.
 ghost use Rattle.std.specs.Prelude.{◌≡◌, ℕ, ◌≤◌, Option, Some, None, IfOk, option_copied, vec_len};
-ghost use Rattle.rx_io.specs.Faults.{HasCause, HasLoadCause};
+ghost use Rattle.rx_base.specs.Faults.{HasCause, HasLoadCause};
 ghost use Rattle.rx_io.specs.Named.{Loads, Starts, Adds};
-ghost use Rattle.rx_io.specs.Planned.{fails_next, after_call, after_load, first_plan, FailsBy, LoadFailsBy};
+ghost use Rattle.rx_base.specs.Planned.{fails_next, after_call, after_load, first_plan, FailsBy, LoadFailsBy};
 ghost use Rattle.rx_io.specs.Shelves.{found, LeavesNone};
 
-use crate::fails::Fails;
+use rx_base::Fails;
 use crate::shelf::Shelf;
-use crate::{Files, IoFault, LoadFault};
+use crate::Files;
+use rx_base::{IoFault, LoadFault};
 use std::alloc::Global;
 
 /// Named files of which the calls with given numbers fail.

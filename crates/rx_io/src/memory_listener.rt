@@ -1,14 +1,16 @@
 // A listener in memory of which certain calls fail.
 ghost use Rattle.std.specs.Prelude.{◌≡◌, ◌<◌, ◌≤◌, [], length, min, Some, IfOk, true, false};
 ghost use Rattle.rx_io.specs.Connections.{tame_inputs, listener_most, contents_of_all, AcceptsNext, KeepsInputs, HasSameInputs};
-ghost use Rattle.rx_io.specs.Faults.{HasCause};
+ghost use Rattle.rx_base.specs.Faults.{HasCause};
 ghost use Rattle.rx_io.specs.ListenPlans.{first_listen_plan, after_listen_call, listen_fails, ListensBy, MovesBy};
-ghost use Rattle.rx_io.specs.Listening.{Binds, Accepts, ListenTakes, ListenGives, Logs, closed, IsPresentAfter, IsPart};
+ghost use Rattle.rx_io.specs.Listening.{Binds, Accepts, ListenTakes, ListenGives, Logs, closed, IsPresentAfter};
+ghost use Rattle.rx_base.specs.Taking.{IsPart};
 ghost use Rattle.rx_io.specs.MemoryListeners.{connections_of, memory_calls, memory_present, listen_plan, accept_fails, TakesUnlessPlanned};
 ghost use Rattle.rx_io.specs.declared.listener_calls.ListenCall.TheVariants as call;
 
 use crate::listen_fails::ListenFails;
-use crate::{IoFault, ListenCall, ListenEntry, Listener, TameListener};
+use crate::{ListenCall, ListenEntry, Listener, TameListener};
+use rx_base::IoFault;
 use std::alloc::Global;
 
 /// Connections whose inputs are prepared, and of which given calls fail. An accept past the last input fails too.

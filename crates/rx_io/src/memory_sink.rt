@@ -1,11 +1,12 @@
 // A sink in memory of which certain calls fail.
 ghost use Rattle.std.specs.Prelude.{◌≡◌, ℕ, ◌<◌, ◌≤◌, [], length, Option, Some, IfOk, min};
 ghost use Rattle.std.specs.Io.KnownBytes.{WriteAppends};
-ghost use Rattle.rx_io.specs.Faults.{HasCause};
-ghost use Rattle.rx_io.specs.Planned.{GivesBy, fails_next, after_call, first_plan};
+ghost use Rattle.rx_base.specs.Faults.{HasCause};
+ghost use Rattle.rx_base.specs.Planned.{GivesBy, fails_next, after_call, first_plan};
 
-use crate::fails::Fails;
-use crate::{IoFault, Sink, TameSink};
+use rx_base::Fails;
+use crate::{Sink, TameSink};
+use rx_base::IoFault;
 use std::alloc::Global;
 
 /// A sink that keeps its bytes, and of which the calls with given numbers fail.

@@ -1,10 +1,11 @@
 // A source in memory of which certain calls fail.
 ghost use Rattle.std.specs.Prelude.{◌≡◌, ℕ, ◌<◌, ◌≤◌, length, Option, Some, IfOk, Ok, Err, if◌then◌else◌};
-ghost use Rattle.rx_io.specs.Faults.{HasCause};
-ghost use Rattle.rx_io.specs.Taking.{Takes};
+ghost use Rattle.rx_base.specs.Faults.{HasCause};
+ghost use Rattle.rx_base.specs.Taking.{Takes};
 
-use crate::fails::Fails;
-use crate::{IoFault, Source, TameSource};
+use rx_base::Fails;
+use crate::{Source, TameSource};
+use rx_base::IoFault;
 
 /// A list of bytes as a source of which the calls with given numbers fail.
 #[derive(Drop)]
@@ -14,8 +15,9 @@ pub struct MemorySource {
 }
 
 impl MemorySource {
-    ghost use Rattle.rx_io.specs.Sources.{memory_stream, memory_most, memory_plan, fresh};
-    ghost use Rattle.rx_io.specs.Planned.{first_plan};
+    ghost use Rattle.rx_io.specs.Sources.{memory_stream, memory_most, memory_plan};
+    ghost use Rattle.rx_base.specs.Outside.{fresh};
+    ghost use Rattle.rx_base.specs.Planned.{first_plan};
 
     /// Gives these bytes, at most `most` of them per call. The calls whose numbers are in `fails`, counted from 1,
     /// answer `Failed` and take nothing.
@@ -33,8 +35,9 @@ impl MemorySource {
 }
 
 impl Source for MemorySource {
-    ghost use Rattle.rx_io.specs.Sources.{memory_stream, memory_most, memory_plan, piece_len};
-    ghost use Rattle.rx_io.specs.Planned.{fails_next, after_call};
+    ghost use Rattle.rx_io.specs.Sources.{memory_stream, memory_most, memory_plan};
+    ghost use Rattle.rx_base.specs.Outside.{piece_len};
+    ghost use Rattle.rx_base.specs.Planned.{fails_next, after_call};
     ghost use Rattle.rx_io.specs.Laws.{memory_countable};
 
     ghost told = { λ s. Some (memory_stream s) };

@@ -1,10 +1,10 @@
 // Where bytes come from.
 ghost use Rattle.std.specs.Prelude.{◌≡◌, ◌+◌, ◌-◌, ◌^◌, ◌<◌, ◌≤◌, ℕ, length, Option, IfOk, IfSome};
-ghost use Rattle.rx_io.specs.Outside.{Stream};
-ghost use Rattle.rx_io.specs.Faults.{HasCause};
-ghost use Rattle.rx_io.specs.Taking.{Takes};
+ghost use Rattle.rx_base.specs.Outside.{Stream};
+ghost use Rattle.rx_base.specs.Faults.{HasCause};
+ghost use Rattle.rx_base.specs.Taking.{Takes};
 
-use crate::IoFault;
+use rx_base::IoFault;
 
 /// A stream of bytes that is read from its front.
 pub trait Source {

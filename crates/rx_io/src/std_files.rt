@@ -4,7 +4,8 @@ ghost use Rattle.std.specs.Io.KnownBytes.{Appends};
 ghost use Rattle.rx_io.specs.Reading.{ReadsWhole};
 
 use crate::attempts::{TRIES, read_some, write_some};
-use crate::{Files, IoFault, LoadFault};
+use crate::Files;
+use rx_base::{IoFault, LoadFault};
 use std::alloc::Global;
 use std::fs::OpenOptions;
 use std::io::{ErrorKind, Read, Write};

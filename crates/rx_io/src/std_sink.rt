@@ -2,7 +2,8 @@
 ghost use Rattle.std.specs.Prelude.{◌≡◌, None};
 
 use crate::attempts::write_some;
-use crate::{IoFault, Sink};
+use crate::Sink;
+use rx_base::IoFault;
 use std::io;
 
 /// The standard output, of which nothing is told. Each call is one system write, without a buffer.

@@ -2,7 +2,8 @@
 ghost use Rattle.std.specs.Prelude.{◌≡◌, None};
 
 use crate::read_ahead::ReadAhead;
-use crate::{IoFault, Source};
+use crate::Source;
+use rx_base::IoFault;
 
 /// The standard input, of which nothing is told. It reads ahead of what is asked for, up to 4096 bytes by one system read, and
 /// reads again only where all of them were given. What isn't given in the end is lost to a later reader.

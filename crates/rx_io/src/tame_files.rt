@@ -2,12 +2,13 @@
 ghost use Rattle.std.specs.Prelude.{◌≡◌, ◌<◌, ◌≤◌, ℕ, [], Option, Some, IfOk, OnOk, option_copied, vec_len, vec_capacity};
 ghost use Rattle.rx_io.specs.Calling.{Calls, calls_of, loads_of};
 ghost use Rattle.rx_io.specs.declared.file_calls.FileCall.TheVariants.{Loaded, Started, Added};
-ghost use Rattle.rx_io.specs.Faults.{HasCause, HasLoadCause};
+ghost use Rattle.rx_base.specs.Faults.{HasCause, HasLoadCause};
 ghost use Rattle.rx_io.specs.Named.{Loads, Starts, Adds};
 ghost use Rattle.rx_io.specs.Shelves.{found};
 
 use crate::shelf::Shelf;
-use crate::{Bytes, FileCall, Files, IoFault, LoadFault};
+use crate::{FileCall, Files};
+use rx_base::{Bytes, IoFault, LoadFault};
 use std::alloc::{AllocError, Global};
 
 /// Named files that never answer `Failed`: a missing name is loaded as an empty file. They tell their calls.

@@ -1,12 +1,14 @@
 // A listener in memory that never fails.
 ghost use Rattle.std.specs.Prelude.{◌≡◌, ◌<◌, ◌≤◌, ◌++◌, ℕ, Bool, true, false, [], length, min, Option, Some, IfOk, OnOk, vec_len, vec_capacity, is_some};
-ghost use Rattle.rx_io.specs.Faults.{HasCause};
-ghost use Rattle.rx_io.specs.Listening.{Binds, Accepts, ListenTakes, ListenGives, Logs, closed, fault_entry, IsPresentAfter, IsPart};
-ghost use Rattle.rx_io.specs.Planned.{GivesBy};
+ghost use Rattle.rx_base.specs.Faults.{HasCause};
+ghost use Rattle.rx_io.specs.Listening.{Binds, Accepts, ListenTakes, ListenGives, Logs, closed, fault_entry, IsPresentAfter};
+ghost use Rattle.rx_base.specs.Taking.{IsPart};
+ghost use Rattle.rx_base.specs.Planned.{GivesBy};
 ghost use Rattle.rx_io.specs.Sources.{most_or};
 ghost use Rattle.std.specs.Vec.Iter.{into_iter_items, into_iter_len};
 
-use crate::{Bytes, IoFault, ListenCall, ListenEntry, Listener, Source, TameSource};
+use crate::{ListenCall, ListenEntry, Listener, Source, TameSource};
+use rx_base::{Bytes, IoFault};
 use std::alloc::Global;
 use std::vec::IntoIter;
 

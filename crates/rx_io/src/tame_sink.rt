@@ -1,10 +1,11 @@
 // A sink in memory that never fails.
 ghost use Rattle.std.specs.Prelude.{◌≡◌, ℕ, ◌-◌, ◌^◌, ◌<◌, ◌≤◌, [], length, Option, Some, IfOk, min, false};
 ghost use Rattle.std.specs.Io.KnownBytes.{WriteAppends};
-ghost use Rattle.rx_io.specs.Faults.{HasCause};
-ghost use Rattle.rx_io.specs.Planned.{GivesBy};
+ghost use Rattle.rx_base.specs.Faults.{HasCause};
+ghost use Rattle.rx_base.specs.Planned.{GivesBy};
 
-use crate::{IoFault, Sink};
+use crate::Sink;
+use rx_base::IoFault;
 use std::alloc::Global;
 
 /// A sink that keeps its bytes. It never answers `Failed`.

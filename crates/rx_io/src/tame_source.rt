@@ -1,9 +1,10 @@
 // A source in memory that never fails.
 ghost use Rattle.std.specs.Prelude.{◌≡◌, ℕ, ◌-◌, ◌^◌, ◌<◌, ◌≤◌, length, Option, Some, IfOk, Ok, Err, take, drop, min};
-ghost use Rattle.rx_io.specs.Faults.{HasCause};
-ghost use Rattle.rx_io.specs.Taking.{Takes};
+ghost use Rattle.rx_base.specs.Faults.{HasCause};
+ghost use Rattle.rx_base.specs.Taking.{Takes};
 
-use crate::{IoFault, Source};
+use crate::Source;
+use rx_base::IoFault;
 
 /// A list of bytes as a source. It never answers `Failed`.
 #[derive(Drop)]
@@ -17,7 +18,8 @@ pub struct TameSource {
 }
 
 impl TameSource {
-    ghost use Rattle.rx_io.specs.Sources.{tame_stream, tame_most, fresh, piece_len};
+    ghost use Rattle.rx_io.specs.Sources.{tame_stream, tame_most};
+    ghost use Rattle.rx_base.specs.Outside.{fresh, piece_len};
 
     /// Gives these bytes, at most `most` of them per call.
     pub fn make(bytes: Vec<u8>, most: usize) -> TameSource
@@ -41,7 +43,8 @@ impl TameSource {
 }
 
 impl Source for TameSource {
-    ghost use Rattle.rx_io.specs.Sources.{tame_stream, tame_most, piece_len};
+    ghost use Rattle.rx_io.specs.Sources.{tame_stream, tame_most};
+    ghost use Rattle.rx_base.specs.Outside.{piece_len};
     ghost use Rattle.rx_io.specs.Laws.{tame_countable};
 
     ghost told = { λ s. Some (tame_stream s) };

@@ -2,7 +2,7 @@
 use Rattle.std.specs.Prelude.{nat_lt}
 use Rattle.block_book.specs.Block.{touched, lies_in}
 use Rattle.block_book.specs.Answer.{bytes_asked, is_allowed, is_block, is_calloc, is_clear, same_ask}
-use Rattle.elf_image.proofs.Valid.{stack_top_below}
+use Rattle.guest_image.proofs.Valid.{stack_top_below}
 use Rattle.guest_cpu.proofs.StartLemmas.{heap_above_null}
 use Rattle.block_book.specs.declared.choice.Ask.{Ask}
 use Rattle.block_book.specs.declared.choice.Ask.TheVariants.{Calloc as AskCalloc, Malloc as AskMalloc, Realloc as AskRealloc}

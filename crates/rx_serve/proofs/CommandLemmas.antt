@@ -1,7 +1,7 @@
 -- The record that a `run` left is replayed by a `replay` and converted by a `convert` over the same input.
 use Rattle.std.proofs.Common.{Result}
 use Rattle.command_line.specs.Ranges.{AreInRange}
-use Rattle.elf_image.proofs.Same.{same_image}
+use Rattle.guest_image.proofs.Same.{same_image}
 use Rattle.run_history.specs.declared.answer.Answer.TheVariants as answer
 use Rattle.schedule_file.proofs.Same.{written_is_read}
 use Rattle.schedule_file.specs.Laws.{OneReading}

@@ -1,7 +1,7 @@
 -- What the words leave, whatever the command is that they ask for.
 use Rattle.session_history.specs.declared.ends.SessionBreak.TheVariants as session_break
 use Rattle.session_history.specs.declared.ends.Stop.TheVariants as stop
-use Rattle.rx_io.specs.declared.fault.IoFault.TheVariants as fault
+use Rattle.rx_base.specs.declared.fault.IoFault.TheVariants as fault
 use Rattle.run_history.specs.declared.answer.Answer.TheVariants as answer
 use Rattle.trunk_text.specs.declared.turning.Ended.TheVariants as ended
 use Rattle.session_following.specs.declared.unfollowed.Unfollowed.TheVariants as unfollowed

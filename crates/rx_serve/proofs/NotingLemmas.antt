@@ -1,5 +1,5 @@
 -- What stands in a session's files at its end, and that the counts of it fit into a record.
-use Rattle.rx_io.specs.declared.fault.IoFault.TheVariants as fault
+use Rattle.rx_base.specs.declared.fault.IoFault.TheVariants as fault
 use Rattle.run_history.specs.declared.answer.Answer.TheVariants as answer
 use Rattle.rx_serve.proofs.Terms.{Bool, List, None, Ok, Option, Some, [], arith, inl, inr, refl, subst, sym, ℕ, ◌*◌, ◌+◌, ◌<◌, ◌^◌, ◌∙◌, ◌≡◌, ◌≤◌, mul-le, IoFault, FileCall, Contents, Stream, Choice, Heap, Image, Answer, Stop, is_end_answer, Session, journal_of, IsEnd, answer_of, Rules, Episode, Try, NoneFailed, Shown, noted, few_items, Keeping, Form, MAX_TAKEN, whole_texts, AreAsks, InRecord, InReport, Left, Nothing, unnoted_of, Names, Stands, Options, AreInRange, keeping_for, rules_of, IsHandedLast, IsNoteStop, Outcome, SessionState, HasServedTrunk, RunValue, Outside, outside, status_of, Route, Watches, ClosesFiles, EndsFiles, HaveTexts, IsFilesAnswer, ServesNoted, StartsFiles, WatchesNoted, names_of, report_form}
 use Rattle.rx_serve.proofs.FewSteps.{few_steps}

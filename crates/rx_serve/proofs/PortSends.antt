@@ -4,7 +4,8 @@ use Rattle.links.specs.declared.journal.Entry.TheVariants as entry
 use Rattle.session_history.specs.declared.ends.SessionBreak.TheVariants as session_break
 use Rattle.session_history.specs.declared.ends.Stop.TheVariants as stop
 use Rattle.session_history.specs.Ends.{EndsBy}
-use Rattle.over_port.proofs.CallLemmas.{gave, given_is}
+use Rattle.over_port.proofs.CallLemmas.{given_is}
+use Rattle.links.proofs.Moved.{gave}
 use Rattle.over_crowd.specs.Calls as crowd
 use Rattle.over_crowd.proofs.CallLemmas as crowd_lemmas
 use Rattle.rx_serve.proofs.Terms.{List, Some, [], ap, false, map, refl, subst, sym, ℕ, ◌++◌, ◌∙◌, ◌∷◌, ◌≡◌, flat_map, ListenEntry, Send, sent_to, Entry, ComesUntold, Piece, events_in, pieces_in, CrowdEntry, Limits, Image, output, Stop, at_its_end, Session, journal_of, OpensOnce, PassesAtOnce, SentIsPassed, piece_of, IsEnd, IsEnded, OwesNothingAtEnd, answer_of, nothing_before, Rules, is_gone, given_to, CalledPort, CalledCrowd}

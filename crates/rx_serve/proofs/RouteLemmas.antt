@@ -1,5 +1,5 @@
 -- What a session leaves that served a trunk, a port or a crowd, as that of any route; and what a port leaves that couldn't be bound.
-use Rattle.rx_io.specs.declared.fault.IoFault.TheVariants as fault
+use Rattle.rx_base.specs.declared.fault.IoFault.TheVariants as fault
 use Rattle.run_history.specs.declared.answer.Answer.TheVariants as answer
 use Rattle.rx_serve.proofs.Terms.{List, None, Option, Some, refl, sym, ℕ, ◌∙◌, ◌≡◌, Err, IoFault, ListenEntry, HasCause, Stream, ComesUntold, CrowdEntry, Limits, Image, Answer, Rules, Try, Noted, Keeping, Outcome, ServesTrunk, WatchesTrunk, ServesPort, ServesCrowd, HasFaults, faults, Port, Serves, Several, Trunk, Watches, IsBindAnswer}
 

@@ -1,10 +1,10 @@
 -- What the laws of sessions say of a `serve`.
-use Rattle.rx_io.specs.declared.fault.IoFault.TheVariants as fault
+use Rattle.rx_base.specs.declared.fault.IoFault.TheVariants as fault
 use Rattle.run_history.specs.declared.answer.Answer.TheVariants as answer
 use Rattle.over_crowd.specs.Calls as crowd
 use Rattle.rx_serve.proofs.Terms.{List, None, Option, Some, [], ap, append_assoc, false, inl, inr, refl, subst, sym, ℕ, ◌++◌, ◌∙◌, ◌≡◌, Result, ◌≢◌, IoFault, ListenEntry, Binds, Entry, LinkEvent, ComesUntold, Coming, events_in, CrowdEntry, CrowdBinds, Limits, number_cases, Image, Answer, Stop, events_in-given, given_broken, Session, journal_of, IsComplete, NoOtherAnswer, SentIsPassed, IsEnd, IsEnded, answer_of, before_end, AreGiven, AreHeeded, heeded, nothing_before, Rules, entries_of, is_gone, given_to, CalledPort, GoesOverPort, CalledCrowd, GoesOverCrowd, RunValue, ServeValue, End, Outside, HasLoadCause, rules_of_run, window_of, GoesOver, Port, Route, Several, Trunk, IsFilesAnswer, HasServed, EndsOver, IsBindAnswer, limits_of, AllSendsAreGiven, GivesAll, GivesOver, GoodClientsAreServed, NoServeIsRefused, OfClients}
 use Rattle.rx_serve.proofs.PortSends.{all_given, several_given}
-use Rattle.over_port.proofs.ServeLemmas.{no_refusal}
+use Rattle.session_history.proofs.PortCauses.{no_refusal}
 use Rattle.rx_serve.proofs.NotingLemmas.{closes_other, closes_same}
 use Rattle.rx_serve.proofs.SessionLaws.{complete_note}
 

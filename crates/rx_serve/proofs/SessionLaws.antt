@@ -1,7 +1,7 @@
 -- What the laws of sessions over a trunk say of a `run`.
 use Rattle.session_history.specs.declared.ends.SessionBreak.TheVariants as session_break
 use Rattle.session_history.specs.declared.ends.Stop.TheVariants as stop
-use Rattle.rx_io.specs.declared.fault.IoFault.TheVariants as fault
+use Rattle.rx_base.specs.declared.fault.IoFault.TheVariants as fault
 use Rattle.rx_serve.proofs.Terms.{inl, inr, refl, subst, ◌≡◌, IoFault, Answer, Stop, holds_at_end, Session, IsComplete, IsEnd, answer_of, Rules, keeping_for, NoOtherEnd, SendsAreWritten, options_of, rules_of_run, IsFilesAnswer, AllSendsAreWritten, GoodInputIsTaken}
 use Rattle.rx_serve.proofs.RouteLemmas.{to_trunk}
 use Rattle.rx_serve.proofs.NotingLemmas.{closes_same}

@@ -1,6 +1,6 @@
 -- The settings of a session, by the ranges of its command's numbers.
 use Rattle.command_line.specs.Ranges.{AreInRange as RangesHold}
-use Rattle.elf_image.specs.Layout.{IsWindow}
+use Rattle.guest_image.specs.Layout.{IsWindow}
 use Rattle.rx_serve.proofs.Terms.{arith, subst, sym, ◌<◌, ◌^◌, ◌≡◌, ◌≤◌, Options, AreInRange, RunValue, ServeValue, StandbyValue, serve, standby, HasRanges, conns_row, port_row, options_of}
 
 pub window_few : (value : RunValue) → RangesHold value → value.window ≤ 64

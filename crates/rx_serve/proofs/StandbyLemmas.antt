@@ -1,7 +1,7 @@
 -- The command `standby`: what it leaves, from the calls that make it.
 use Rattle.file_notes.specs.Writing as files
 use Rattle.run_history.specs.declared.answer.Answer.TheVariants as answer
-use Rattle.rx_io.specs.declared.fault.IoFault.TheVariants as fault
+use Rattle.rx_base.specs.declared.fault.IoFault.TheVariants as fault
 use Rattle.standby.specs.declared.following.Unfollowed.{Unfollowed}
 use Rattle.standby.specs.declared.kept.Kept.{Kept}
 use Rattle.standby.specs.Following.{BreaksBy, kept_to}

@@ -1,6 +1,6 @@
 -- The command `serve`: a session of a program for the clients of a port.
 use Rattle.std.specs.Prelude.{◌≡◌, ◌≢◌, ◌⊎◌, ℕ, ◌==◌, List, Option, Result, Ok, Err, if◌then◌else◌}
-use Rattle.rx_io.specs.declared.fault.IoFault.TheVariants as fault
+use Rattle.rx_base.specs.declared.fault.IoFault.TheVariants as fault
 use Rattle.run_history.specs.declared.answer.Answer.TheVariants as answer
 use Rattle.rx_serve.specs.Terms.{IoFault, ListenEntry, Calls, Binds, CrowdEntry, CrowdBinds, Limits, Image, Answer, ServeValue}
 use Rattle.rx_serve.specs.declared.ending.End.{End}

@@ -1,17 +1,17 @@
 -- The words that this crate's definitions are written in: those of crates below, and types of its code.
 pub use Rattle.std.specs.declared.alloc.Global.{Global}
-pub use Rattle.rx_io.specs.declared.bytes.Item.{Item}
-pub use Rattle.rx_io.specs.declared.fault.IoFault.{IoFault}
+pub use Rattle.rx_base.specs.declared.item.Item.{Item}
+pub use Rattle.rx_base.specs.declared.fault.IoFault.{IoFault}
 pub use Rattle.rx_io.specs.declared.file_calls.FileCall.{FileCall}
 pub use Rattle.rx_io.specs.declared.file_calls.FileCall.TheVariants.{Added, Loaded, Started}
 pub use Rattle.rx_io.specs.declared.listener_calls.ListenEntry.{ListenEntry}
 pub use Rattle.rx_io.specs.Calling.{Calls}
-pub use Rattle.rx_io.specs.Faults.{HasCause, Rose}
+pub use Rattle.rx_base.specs.Faults.{HasCause, Rose}
 pub use Rattle.rx_io.specs.Listening.{Binds}
 pub use Rattle.rx_io.specs.Named.{Contents, Holds}
-pub use Rattle.rx_io.specs.Outside.{IsDrained, Stream}
-pub use Rattle.rx_io.specs.Prefix.{Prefix}
-pub use Rattle.rx_io.specs.Sends.{Send, sent_to}
+pub use Rattle.rx_base.specs.Outside.{IsDrained, Stream}
+pub use Rattle.rx_base.specs.Prefix.{Prefix}
+pub use Rattle.rx_base.specs.Sends.{Send, sent_to}
 pub use Rattle.links.specs.declared.journal.Entry.{Entry}
 pub use Rattle.links.specs.declared.journal.LinkEvent.{LinkEvent}
 pub use Rattle.links.specs.Links.{ComesUntold, Coming, Counts, Piece, events_in, pieces_in}
@@ -25,10 +25,11 @@ pub use Rattle.trunk_text.specs.declared.turning.Ended.{Ended}
 pub use Rattle.trunk_text.specs.Framing.{framing}
 pub use Rattle.trunk_text.specs.Turns.{Moved, Turned, Way}
 pub use Rattle.trunk_text.specs.Unframing.{unframing}
-pub use Rattle.elf_image.specs.declared.image.Image.{Image}
-pub use Rattle.elf_image.specs.Image.{heap_end, heap_start, written}
-pub use Rattle.elf_image.specs.Refusals.{IsImage}
-unfoldable pub use Rattle.elf_image.specs.Refusals.{refusal}
+pub use Rattle.guest_image.specs.declared.image.Image.{Image}
+pub use Rattle.guest_image.specs.Image.{heap_end, heap_start}
+pub use Rattle.elf_file.specs.Written.{written}
+pub use Rattle.elf_file.specs.Refusals.{IsImage}
+unfoldable pub use Rattle.elf_file.specs.Refusals.{refusal}
 pub use Rattle.run_history.specs.declared.answer.Answer.{Answer}
 pub use Rattle.run_history.specs.declared.answer.Answer.TheVariants.{AsmRefused, BadWords, CountsRefused, ElfRefused, Exited, FileFault, Finished, GaveUp, InputRefused, LimitEvents, LimitItems, Memory, MessageTooLong, Mismatch, ReadFault, RecordRefused, ReportRefused, Short, TooLarge, WriteFault}
 unfoldable pub use Rattle.run_history.specs.Call.{allocated, received}

@@ -1,13 +1,15 @@
 // The command `asm`: a text is loaded, assembled, and written as an executable.
 ghost use Rattle.std.specs.Prelude.{◌≡◌, ◌≤◌};
-ghost use Rattle.rx_io.specs.Faults.{Rose};
+ghost use Rattle.rx_base.specs.Faults.{Rose};
 ghost use Rattle.rx_serve.specs.Calling.{CallsLoad, CallsWrite, CallsAsm};
 ghost use Rattle.rx_serve.specs.Assembly.{LoadsText, Writes, Assembles, HasAsmCause};
 
-use elf_image::{Image, write_image};
+use elf_file::write_image;
+use guest_image::Image;
 use run_history::Answer;
 use rv_asm::{AsmRefusal, assemble};
-use rx_io::{Files, IoFault, LoadFault};
+use rx_io::Files;
+use rx_base::{IoFault, LoadFault};
 use std::alloc::Global;
 
 /// The greatest number of bytes of a text.

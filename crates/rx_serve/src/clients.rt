@@ -3,7 +3,7 @@ ghost use Rattle.std.specs.Prelude.{◌≡◌, ◌≢◌, ℕ, ◌+◌, ◌<◌,
 ghost use Rattle.command_line.specs.Commands.{run_shown, serve_shown};
 ghost use Rattle.command_line.specs.Ranges.{AreInRange};
 ghost use Rattle.file_notes.specs.Names.{AreTwo};
-ghost use Rattle.rx_io.specs.Outside.{Stream};
+ghost use Rattle.rx_base.specs.Outside.{Stream};
 ghost use Rattle.rx_serve.specs.Noting.{names_of};
 ghost use Rattle.rx_serve.specs.Outside.{outside, faults, HasFaults};
 ghost use Rattle.rx_serve.specs.Serving.{ServeEnds, heard, heard_at};
@@ -14,7 +14,8 @@ use crate::ending::End;
 use crate::port_serving::serve_program;
 use command_line::ServeCommand;
 use crowd::Crowd;
-use rx_io::{Files, Listener, Steps};
+use rx_io::{Files, Listener};
+use rx_base::Steps;
 use std::alloc::Global;
 use std::sync::ledger::Ledger;
 use telling::Teller;

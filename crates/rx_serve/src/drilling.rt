@@ -2,7 +2,7 @@
 ghost use Rattle.std.specs.Prelude.{◌≡◌, ◌+◌, ◌≤◌, ℕ, List, Option};
 ghost use Rattle.rx_io.specs.declared.file_calls.FileCall.{FileCall};
 ghost use Rattle.rx_io.specs.Named.{Contents};
-ghost use Rattle.rx_io.specs.Outside.{Stream};
+ghost use Rattle.rx_base.specs.Outside.{Stream};
 ghost use Rattle.command_line.specs.Commands.{drill_shown};
 ghost use Rattle.rx_serve.specs.Drilling.{DrillLeaves};
 ghost use Rattle.rx_serve.specs.Outside.{outside, faults, HasFaults};
@@ -11,7 +11,8 @@ ghost use Rattle.rx_serve.specs.Status.{status_of};
 use crate::ending::End;
 use command_line::DrillCommand;
 use drill::run_drill;
-use rx_io::{Sink, Steps};
+use rx_io::Sink;
+use rx_base::Steps;
 use std::alloc::Global;
 use std::sync::ledger::Ledger;
 

@@ -1,13 +1,15 @@
 // The files that a command loads, and the program of a session.
 ghost use Rattle.std.specs.Prelude.{◌≡◌, ◌≤◌};
-ghost use Rattle.elf_image.specs.Layout.{IsWindow};
-ghost use Rattle.rx_io.specs.Faults.{Rose};
+ghost use Rattle.guest_image.specs.Layout.{IsWindow};
+ghost use Rattle.rx_base.specs.Faults.{Rose};
 ghost use Rattle.rx_serve.specs.Calling.{CallsLoad};
 ghost use Rattle.rx_serve.specs.Loading.{LoadsFile, ReadsImage, LoadsImage};
 
-use elf_image::{ElfRefusal, Image, read_image};
+use elf_file::{ElfRefusal, read_image};
+use guest_image::Image;
 use run_history::Answer;
-use rx_io::{Files, LoadFault};
+use rx_io::Files;
+use rx_base::LoadFault;
 use std::alloc::Global;
 
 /// The greatest number of bytes of a program file: 16 MiB.

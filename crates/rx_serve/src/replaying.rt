@@ -1,7 +1,7 @@
 // The command `replay`: a program and a record of it are loaded, and the recorded run is done again over the trunk of input and output.
 ghost use Rattle.std.specs.Prelude.{◌≡◌, ◌≤◌};
 ghost use Rattle.command_line.specs.Commands.{replay_shown};
-ghost use Rattle.rx_io.specs.Faults.{Rose};
+ghost use Rattle.rx_base.specs.Faults.{Rose};
 ghost use Rattle.file_notes.specs.Calling.{CallsFront, CallsUpTo};
 ghost use Rattle.rx_serve.specs.Calling.{CallsLoad, replaying};
 ghost use Rattle.rx_serve.specs.Outside.{outside, faults, HasFaults};
@@ -9,10 +9,11 @@ ghost use Rattle.rx_serve.specs.Replaying.{ComparesFile, LoadsRecord, LoadsRecor
 
 use crate::loading::{MAX_PROGRAM, image_in, load_file};
 use command_line::ReplayCommand;
-use elf_image::Image;
+use guest_image::Image;
 use over_trunk::{Replayed, replay_trunk};
 use run_history::Answer;
-use rx_io::{Files, Sink, Source, Steps};
+use rx_io::{Files, Sink, Source};
+use rx_base::Steps;
 use schedule_file::{RecordRefusal, Recorded, read_record};
 use std::alloc::Global;
 use std::sync::ledger::Ledger;

@@ -2,7 +2,7 @@
 ghost use Rattle.std.specs.Prelude.{◌≡◌, ◌≤◌, length, map, All, IfOk, Err};
 ghost use Rattle.command_line.specs.Commands.{resume_shown};
 ghost use Rattle.file_notes.specs.Calling.{CallsUpTo};
-ghost use Rattle.rx_io.specs.Faults.{Rose};
+ghost use Rattle.rx_base.specs.Faults.{Rose};
 ghost use Rattle.run_history.specs.declared.answer.Answer.TheVariants as answer;
 ghost use Rattle.schedule_file.specs.Lines.{line_of};
 ghost use Rattle.schedule_file.specs.Records.{IsAnswer};
@@ -17,7 +17,7 @@ use crate::standby_files::{MAX_COUNTS, read_counted};
 use block_book::{Ask, Choice};
 use command_line::ResumeCommand;
 use counts_file::Counts;
-use elf_image::Image;
+use guest_image::Image;
 use msg_frame::Framing;
 use report_reading::{Episodes, ReportRefusal, read_report};
 use run_history::Answer;

@@ -2,7 +2,7 @@
 ghost use Rattle.std.specs.Prelude.{◌≡◌, ◌≤◌, length, Err};
 ghost use Rattle.command_line.specs.Commands.{standby_shown};
 ghost use Rattle.file_notes.specs.Calling.{CallsUpTo};
-ghost use Rattle.rx_io.specs.Faults.{Rose};
+ghost use Rattle.rx_base.specs.Faults.{Rose};
 ghost use Rattle.run_history.specs.declared.answer.Answer.TheVariants as answer;
 ghost use Rattle.rx_serve.specs.Limits.{record_limit};
 ghost use Rattle.rx_serve.specs.StandbyFiles.{LoadsTakeover, LoadsTexts, ReadsCounted, ReadsFollowed, ReadsTexts, loading, texts_in};
@@ -11,7 +11,7 @@ use crate::loading::{MAX_PROGRAM, image_in, load_file};
 use crate::replaying::MAX_RECORD;
 use command_line::StandbyCommand;
 use counts_file::{Counts, CountsRefusal, read_counts};
-use elf_image::Image;
+use guest_image::Image;
 use run_history::Answer;
 use rx_io::Files;
 use schedule_file::{RecordRefusal, Recorded, read_record};

@@ -3,7 +3,7 @@ ghost use Rattle.std.specs.Prelude.{◌≡◌, ◌⊎◌, ◌+◌, ◌≤◌, �
 ghost use Rattle.command_line.specs.Commands.{standby_shown};
 ghost use Rattle.file_notes.specs.Calling.{CallsUpTo, starts_of};
 ghost use Rattle.over_trunk.specs.StandingBy.{IsNewTrunk};
-ghost use Rattle.rx_io.specs.Faults.{HasCause, Rose};
+ghost use Rattle.rx_base.specs.Faults.{HasCause, Rose};
 ghost use Rattle.rx_io.specs.declared.file_calls.FileCall.TheVariants.{Added};
 ghost use Rattle.run_history.specs.declared.answer.Answer.TheVariants as answer;
 ghost use Rattle.schedule_file.specs.Records.{IsRecord};
@@ -20,7 +20,8 @@ use command_line::StandbyCommand;
 use file_notes::{add_to_file, start_file};
 use over_trunk::{catch_up_trunk, rest_lines, serve_on_trunk};
 use run_history::Answer;
-use rx_io::{Files, IoFault, Sink, Source, Steps};
+use rx_io::{Files, Sink, Source};
+use rx_base::{IoFault, Steps};
 use schedule_file::{Recorded, head_line};
 use standby::Followed;
 use std::alloc::Global;

@@ -5,8 +5,8 @@ ghost use Rattle.schedule_file.specs.declared.recorded.RecordRefusal.TheVariants
 
 use block_book::Ask;
 use msg_frame::Framing;
+use rx_base::Listed;
 use std::alloc::AllocError;
-use std::marker::Model;
 
 /// The version that is written. Version 1, which doesn't say what was asked, is read too.
 pub const VERSION: u8 = 2;
@@ -27,32 +27,7 @@ pub struct Line {
 }
 
 /// The lines of the answers, in the order of the calls.
-#[derive(Debug, Drop)]
-pub struct Lines {
-    lines: Vec<Line>,
-}
-
-impl Model for Lines {
-    ghost Value = { List Line };
-
-    ghost view = { λ l. l.lines.items };
-}
-
-impl Lines {
-    /// The lines of a vector, in its order.
-    pub fn from_vec(v: Vec<Line>) -> Lines
-        ensures { result ≡ v.items }
-    {
-        Lines { lines: v }
-    }
-
-    /// The lines, in their order.
-    pub fn as_slice(&self) -> &[Line]
-        ensures { result.now ≡ self.now }
-    {
-        &self.lines
-    }
-}
+pub type Lines = Listed<Line>;
 
 /// What a record says of a session: its version, its window in MiB, its framing, every answer of the allocator in the order of
 /// the calls, how many instructions were executed, and how many items were taken.

@@ -11,7 +11,7 @@ use crate::numbers::eight_digits;
 use crate::recorded::{Line, MAX_TAKEN, MAX_WINDOW, VERSION};
 use block_book::{Ask, Choice};
 use msg_frame::Framing;
-use rx_io::Bytes;
+use rx_base::Bytes;
 use std::alloc::{AllocError, Global};
 
 fn frame_name(frame: Framing) -> &'static str

@@ -1,6 +1,6 @@
 -- The requests of a part that is followed: those that were handled so far are those before a session that has just begun there.
 use Rattle.guest_cpu.proofs.WritingLemmas.{writes_more}
-use Rattle.elf_image.specs.Image.{base}
+use Rattle.guest_image.specs.Image.{base}
 use Rattle.recovery.specs.Handling.{Stand}
 use Rattle.session_following.proofs.Terms.{List, None, Option, Some, [], ap, append-nil, arith, false, inl, inr, length, length-append, refl, subst, sym, ℕ, ◌++◌, ◌+◌, ◌∙◌, ◌∷◌, ◌≡◌, IfSome, replicate, slice_get, Item, Send, Entry, LinkEvent, Image, Override, Path, Served, origin, Writes, served_on, served_same, served_with, events_of, items_in, Rules, Survivor, first_survivor, starting_path, taken_later, AreRinged, AreWritten, HasFollowedRequests, HasHandled, HasWritten, Keeping, first_stands, handle, handled, starting_stands, HandlesRequests, came_before, rules_after}
 use Rattle.session_following.proofs.Based.{SaysAs, same_items}

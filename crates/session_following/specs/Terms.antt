@@ -1,8 +1,8 @@
 -- The words that this crate's definitions are written in: those of crates below, and types of its code.
 pub use Rattle.std.specs.List.{last_or}
-pub use Rattle.rx_io.specs.declared.bytes.Item.{Item}
-pub use Rattle.rx_io.specs.Prefix.{Prefix}
-pub use Rattle.rx_io.specs.Sends.{Send, sent_to}
+pub use Rattle.rx_base.specs.declared.item.Item.{Item}
+pub use Rattle.rx_base.specs.Prefix.{Prefix}
+pub use Rattle.rx_base.specs.Sends.{Send, sent_to}
 pub use Rattle.links.specs.declared.journal.Entry.{Entry}
 pub use Rattle.links.specs.declared.journal.LinkEvent.{LinkEvent}
 pub use Rattle.links.specs.Links.{Coming, Grew, IsFresh, IsNext, Phases, Refuses, Tells, Told, events_in}
@@ -16,7 +16,7 @@ pub use Rattle.reply_ledger.specs.Ledger.{IsOpened, Ledger, NotBefore, Passed, c
 unfoldable pub use Rattle.reply_ledger.specs.Ledger.{connection_of, stamped, stamped_to, times_of}
 pub use Rattle.reply_ledger.specs.Shows.{Shows}
 unfoldable pub use Rattle.reply_ledger.specs.Shows.{stamped_of}
-pub use Rattle.elf_image.specs.declared.image.Image.{Image}
+pub use Rattle.guest_image.specs.declared.image.Image.{Image}
 pub use Rattle.run_history.specs.declared.answer.Answer.{Answer}
 pub use Rattle.run_history.specs.declared.answer.Cause.{Cause}
 unfoldable pub use Rattle.run_history.specs.Machine.{start, start_machine}

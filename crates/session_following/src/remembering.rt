@@ -8,7 +8,7 @@ use block_book::Choice;
 use guest_cpu::Cpu;
 use guest_space::AccessRule;
 use links::LinkEvent;
-use rx_io::Bytes;
+use rx_base::Bytes;
 use session_notes::Episode;
 use session_state::{Past, Remembers};
 

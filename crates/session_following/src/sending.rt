@@ -4,7 +4,7 @@ ghost use Rattle.reply_ledger.specs.Ledger.{IsOpened, NotBefore, times_of, stamp
 ghost use Rattle.session_following.specs.Sending.{with_held};
 
 use reply_ledger::Replies;
-use rx_io::Bytes;
+use rx_base::Bytes;
 use std::alloc::AllocError;
 
 /// Notes a send, made with so many items taken. Clients have `left` more bytes of its connection than were sent before: so many of its first bytes, or all,

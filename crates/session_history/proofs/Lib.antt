@@ -22,3 +22,4 @@ pub mod Closing
 pub mod Pieces
 pub mod Sent
 pub mod Turns
+pub mod PortCauses

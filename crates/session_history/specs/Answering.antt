@@ -1,6 +1,6 @@
 -- What a link shows before a session or a replay begins, and why one of them answers a fault of it.
-use Rattle.std.specs.Prelude.{◌≡◌, ◌≤◌, true}
-use Rattle.rx_io.specs.Faults.{Rose}
+use Rattle.std.specs.Prelude.{◌≡◌, ℕ, ◌≤◌, true}
+use Rattle.rx_base.specs.Faults.{Rose}
 use Rattle.run_history.specs.declared.answer.Answer.TheVariants as answer
 use Rattle.session_history.specs.Terms.{Counts, IsFresh, Seen, Answer}
 
@@ -16,3 +16,7 @@ pub record HasAnswerCause (before now : Counts) (end : Answer) : Type 0 where
   pub gives : before.gives ≤ now.gives
   pub read_fault : end ≡ answer.ReadFault → Rose before.takes now.takes
   pub write_fault : end ≡ answer.WriteFault → Rose before.gives now.gives
+
+-- how often a bind or an accept has failed, as a link over a listener counts it: no give of it is a fault of writing
+abbrev pub port_counts : ℕ → Counts
+port_counts faults = record { takes = faults; gives = 0; gones = 0 }

@@ -1,7 +1,7 @@
 -- The words that this crate's definitions are written in: those of crates below, and types of its code.
-pub use Rattle.rx_io.specs.declared.bytes.Item.{Item}
-pub use Rattle.rx_io.specs.Prefix.{Prefix}
-pub use Rattle.rx_io.specs.Sends.{Send, sent_to}
+pub use Rattle.rx_base.specs.declared.item.Item.{Item}
+pub use Rattle.rx_base.specs.Prefix.{Prefix}
+pub use Rattle.rx_base.specs.Sends.{Send, sent_to}
 pub use Rattle.links.specs.declared.journal.Entry.{Entry}
 pub use Rattle.links.specs.declared.journal.LinkEvent.{LinkEvent}
 pub use Rattle.links.specs.declared.journal.LinkEvent.TheVariants.{Ends}
@@ -20,7 +20,7 @@ unfoldable pub use Rattle.item_log.specs.Heard.{heard_from, items_from}
 pub use Rattle.item_log.specs.Log.{IsPieceOf, Log}
 pub use Rattle.reply_ledger.specs.Ledger.{Ledger}
 unfoldable pub use Rattle.reply_ledger.specs.Ledger.{connection_of}
-pub use Rattle.elf_image.specs.declared.image.Image.{Image}
+pub use Rattle.guest_image.specs.declared.image.Image.{Image}
 pub use Rattle.run_history.specs.declared.answer.Answer.{Answer}
 pub use Rattle.run_history.specs.Call.{chooses, connections_after, takes}
 unfoldable pub use Rattle.run_history.specs.Call.{allocated, received}

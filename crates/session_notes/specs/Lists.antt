@@ -2,7 +2,7 @@
 use Rattle.std.specs.Prelude.{List, None, Some}
 use Rattle.block_book.specs.declared.choice.Choice.{Choice}
 use Rattle.session_notes.specs.declared.episode.Episode.{Episode}
-use Rattle.rx_io.specs.Planned.{Plan}
+use Rattle.rx_base.specs.Planned.{Plan}
 use Rattle.session_notes.specs.Noting.{Shown}
 use Rattle.session_notes.specs.declared.note_list.NoteList.{NoteList}
 

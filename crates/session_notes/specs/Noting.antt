@@ -3,8 +3,8 @@ use Rattle.std.specs.Prelude.{◌≡◌, ℕ, List, [], ◌∷◌, ◌++◌, Opt
 use Rattle.block_book.specs.declared.choice.Choice.{Choice}
 use Rattle.session_notes.specs.declared.episode.Episode.{Episode}
 use Rattle.links.specs.Links.{Grew}
-use Rattle.rx_io.specs.Faults.{HasCause}
-use Rattle.rx_io.specs.declared.fault.IoFault.{IoFault}
+use Rattle.rx_base.specs.Faults.{HasCause}
+use Rattle.rx_base.specs.declared.fault.IoFault.{IoFault}
 
 -- what the first call that failed was handed: none failed; or these answers of the allocator, or this episode
 pub data Unnoted : Type 0 where

@@ -5,7 +5,7 @@ ghost use Rattle.session_notes.specs.declared.episode.Try.{Try};
 
 use alloc_env::Env;
 use run_history::Cause;
-use std::marker::Model;
+use rx_base::Listed;
 
 /// What came of a trial: a run again from a checkpoint, in an environment, with the items that were taken since then.
 #[derive(Clone, Copy, Debug, PartialEq, Eq)]
@@ -40,32 +40,7 @@ pub struct Try {
 }
 
 /// The trials of an episode, in their order.
-#[derive(Debug, Drop)]
-pub struct Tries {
-    tries: Vec<Try>,
-}
-
-impl Model for Tries {
-    ghost Value = { List Try };
-
-    ghost view = { λ t. t.tries.items };
-}
-
-impl Tries {
-    /// The trials of a vector, in its order.
-    pub fn from_vec(v: Vec<Try>) -> Tries
-        ensures { result ≡ v.items }
-    {
-        Tries { tries: v }
-    }
-
-    /// The trials, in their order.
-    pub fn as_slice(&self) -> &[Try]
-        ensures { result.now ≡ self.now }
-    {
-        &self.tries
-    }
-}
+pub type Tries = Listed<Try>;
 
 /// A failure and what was tried after it: how many items were taken, the cause, the address of the failing instruction,
 /// and the trials.

@@ -1,11 +1,11 @@
 // Lists of what was noted.
 ghost use Rattle.std.specs.Prelude.{◌≡◌, ◌∷◌, [], false, IfOk};
-ghost use Rattle.rx_io.specs.Planned.{FailsBy};
+ghost use Rattle.rx_base.specs.Planned.{FailsBy};
 ghost use Rattle.session_notes.specs.Noting.{with_noted};
 
 use crate::{Episode, Tries};
 use block_book::Choice;
-use rx_io::IoFault;
+use rx_base::IoFault;
 use std::alloc::{AllocError, Global};
 
 /// Puts copies of choices at a list's end, or none where memory ran out.

@@ -3,7 +3,7 @@ ghost use Rattle.std.specs.Borrow.{GName};
 
 use crate::{Episode, Notes};
 use block_book::Choice;
-use rx_io::IoFault;
+use rx_base::IoFault;
 
 impl<T: Notes> Notes for &mut T {
     ghost shown = { λ s. T.shown s.now };

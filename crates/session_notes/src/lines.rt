@@ -4,7 +4,7 @@ ghost use Rattle.session_notes.specs.Lines.{failure_text, try_text};
 
 use crate::episode::{Episode, Try};
 use crate::words::{cause_text, env_word, pc_text, tried_text};
-use rx_io::Bytes;
+use rx_base::Bytes;
 use std::alloc::{AllocError, Global};
 
 /// The line of a failure, with its line feed: `failure E point K cause C at PC`, by the number of the episode.

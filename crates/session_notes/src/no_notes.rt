@@ -5,7 +5,7 @@ ghost use Rattle.session_notes.specs.Lists.{shows_nothing};
 
 use crate::{Episode, Notes};
 use block_book::Choice;
-use rx_io::IoFault;
+use rx_base::IoFault;
 
 /// Notes that keep nothing and tell nothing. They never fail.
 #[derive(Clone, Copy, Debug)]

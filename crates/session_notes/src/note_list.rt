@@ -1,12 +1,12 @@
 // Notes in memory, of which certain calls fail.
 ghost use Rattle.std.specs.Prelude.{◌≡◌, [], ◌<◌, length};
-ghost use Rattle.rx_io.specs.Planned.{FailsBy, fails_next, after_call, first_plan};
+ghost use Rattle.rx_base.specs.Planned.{FailsBy, fails_next, after_call, first_plan};
 ghost use Rattle.session_notes.specs.Noting.{ChoicesShow, EpisodeShows};
 
 use crate::keeping::{keep_choices, keep_episode};
 use crate::{Episode, Notes};
 use block_book::Choice;
-use rx_io::{Fails, IoFault};
+use rx_base::{Fails, IoFault};
 use std::alloc::Global;
 
 /// Notes that are kept as two lists, and of which the calls with given numbers fail.

@@ -4,7 +4,7 @@ ghost use Rattle.session_notes.specs.Noting.{Shown, ChoicesShow, EpisodeShows};
 
 use crate::Episode;
 use block_book::Choice;
-use rx_io::IoFault;
+use rx_base::IoFault;
 
 /// What a session notes while it serves: its answers of the allocator and its episodes, two lists that grow at their ends.
 pub trait Notes {

@@ -5,7 +5,7 @@ pub use Rattle.std.proofs.lemmas.Bool.{and_parts, cases_lt, eq-eqb, eqb-true, tr
 pub use Rattle.std.proofs.lemmas.List.{drop-append-le, drop-drop, get_or-replicate, get_or-set_other, get_or_past, length-replicate, length-take-le, map-append, take-append-drop, take-append-le}
 pub use Rattle.std.proofs.lemmas.Option.{IfSome_then, none-some, same_Some}
 pub use Rattle.std.specs.Prelude.{All, IfOk, IfSome, IsErrOf, IsSome, MatchOption, is_some, option_map, replicate, slice_get, slice_set, sum, unwrap_or, ◌&&◌, ◌==◌, ◌||◌, ◌≢◌}
-pub use Rattle.rx_io.proofs.Composing.{rose_later}
+pub use Rattle.rx_base.proofs.Composing.{rose_later}
 pub use Rattle.links.proofs.Growing.{grew_more, grew_nothing, tells_nothing, tells_then}
 pub use Rattle.guest_cpu.proofs.RunLemmas.{runs_serve, runs_start, runs_write}
 pub use Rattle.guest_cpu.proofs.TakeLemmas.{asks_wants, takes_write}

@@ -6,7 +6,7 @@ use Rattle.block_book.specs.contracts.block.Block as block
 use Rattle.block_book.specs.contracts.choice.Choice as choice
 use Rattle.block_book.specs.declared.block.Block.{Block}
 use Rattle.alloc_env.specs.contracts.env.Env as env
-use Rattle.elf_image.specs.Memory.{Area}
+use Rattle.guest_image.specs.Memory.{Area}
 use Rattle.session_state.specs.Terms.{Send, LinkEvent, Choice, Heap, Env, Machine, State, Override, Path, Before}
 
 abbrev pub send_code : Coded Send

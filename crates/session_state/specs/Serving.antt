@@ -1,6 +1,6 @@
 -- What the parts of a session's code make of it.
 use Rattle.std.specs.Prelude.{◌≡◌, ◌≢◌, ◌⊎◌, ℕ, ◌+◌, ◌<◌, ◌≤◌, List, length, Bool, true, false, Option, None, Some, option_map, [], ◌∷◌, Result, Ok, Err, IfOk, IsErrOf}
-use Rattle.rx_io.specs.declared.fault.IoFault.TheVariants as note
+use Rattle.rx_base.specs.declared.fault.IoFault.TheVariants as note
 use Rattle.item_log.specs.Log as logs
 use Rattle.reply_ledger.specs.Ledger.{is_open}
 use Rattle.session_history.specs.declared.ends.SessionBreak.TheVariants as session_break

@@ -1,10 +1,10 @@
 -- The words that this crate's definitions are written in: those of crates below, and types of its code.
 pub use Rattle.std.specs.declared.alloc.AllocError.{AllocError}
-pub use Rattle.rx_io.specs.declared.bytes.Item.{Item}
-pub use Rattle.rx_io.specs.declared.fault.IoFault.{IoFault}
-pub use Rattle.rx_io.specs.Faults.{HasCause, Rose}
-pub use Rattle.rx_io.specs.Prefix.{Prefix}
-pub use Rattle.rx_io.specs.Sends.{Send, sent_to}
+pub use Rattle.rx_base.specs.declared.item.Item.{Item}
+pub use Rattle.rx_base.specs.declared.fault.IoFault.{IoFault}
+pub use Rattle.rx_base.specs.Faults.{HasCause, Rose}
+pub use Rattle.rx_base.specs.Prefix.{Prefix}
+pub use Rattle.rx_base.specs.Sends.{Send, sent_to}
 pub use Rattle.links.specs.declared.journal.Entry.{Entry}
 pub use Rattle.links.specs.declared.journal.LinkEvent.{LinkEvent}
 pub use Rattle.links.specs.Links.{Coming, Counts, Grew, HasEnded, IsFresh, IsNext, Phases, Refuses, Tells, Told, events_in}
@@ -23,7 +23,7 @@ pub use Rattle.reply_ledger.specs.Ledger.{Connection, IsOpened, Ledger, NotBefor
 unfoldable pub use Rattle.reply_ledger.specs.Ledger.{connection_of, stamped, stamps_of, times_of}
 pub use Rattle.reply_ledger.specs.Parts.{is_left}
 unfoldable pub use Rattle.reply_ledger.specs.Parts.{next_part, parts_behind, rest_part, settled, unpassed, waits}
-pub use Rattle.elf_image.specs.declared.image.Image.{Image}
+pub use Rattle.guest_image.specs.declared.image.Image.{Image}
 pub use Rattle.run_history.specs.declared.answer.Answer.{Answer}
 pub use Rattle.run_history.specs.declared.answer.Cause.{Cause}
 pub use Rattle.run_history.specs.Call.{may_send}

@@ -3,7 +3,7 @@ ghost use Rattle.std.specs.Prelude.{◌≡◌, ◌-◌, ◌≤◌, length};
 ghost use Rattle.session_state.specs.Recording.{NotesUpTo, KeepsNotes};
 
 use block_book::Choice;
-use rx_io::IoFault;
+use rx_base::IoFault;
 use session_notes::Notes;
 
 /// Notes the answers of the allocator up to the first `safe` ones of a run, of which the first `recorded` ones are noted, and `choices` are those behind

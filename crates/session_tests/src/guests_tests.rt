@@ -7,7 +7,7 @@ ghost use Rattle.run_history.specs.Run.{does};
 use alloc_env::Env;
 use guest_cpu::{Cpu, Event};
 use guest_space::AllMapped;
-use rx_io::{Bytes, Item, Steps};
+use rx_base::{Bytes, Item, Steps};
 use std::alloc::Global;
 use std::marker::Brand;
 use std::process::Abort;

@@ -1,7 +1,7 @@
 -- The words that this crate's definitions are written in: those of crates below, and types of its code.
-pub use Rattle.rx_io.specs.declared.bytes.Item.{Item}
-pub use Rattle.rx_io.specs.Prefix.{Prefix}
-pub use Rattle.rx_io.specs.Sends.{Send, sent_to}
+pub use Rattle.rx_base.specs.declared.item.Item.{Item}
+pub use Rattle.rx_base.specs.Prefix.{Prefix}
+pub use Rattle.rx_base.specs.Sends.{Send, sent_to}
 pub use Rattle.links.specs.declared.journal.Entry.{Entry}
 pub use Rattle.links.specs.declared.journal.LinkEvent.{LinkEvent}
 pub use Rattle.links.specs.declared.journal.LinkFault.{LinkFault}
@@ -13,7 +13,7 @@ pub use Rattle.item_log.specs.Connections.{in_order, is_open, rest_of}
 pub use Rattle.item_log.specs.Heard.{Heard, brought, hear, hear_parts, items_by, items_of}
 unfoldable pub use Rattle.item_log.specs.Heard.{items_from}
 pub use Rattle.item_log.specs.Log.{Fits, IsItemOf, Log, logged}
-pub use Rattle.elf_image.specs.declared.image.Image.{Image}
+pub use Rattle.guest_image.specs.declared.image.Image.{Image}
 pub use Rattle.run_history.specs.declared.answer.Answer.{Answer}
 pub use Rattle.run_history.specs.declared.answer.Cause.{Cause}
 pub use Rattle.run_history.specs.Machine.{Fails, Wants}

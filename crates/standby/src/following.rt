@@ -1,7 +1,7 @@
 // A record is followed.
 ghost use Rattle.std.specs.Prelude.{◌≡◌, ◌*◌, ◌<◌, ◌^◌, None};
 ghost use Rattle.links.specs.Links.{Told};
-ghost use Rattle.elf_image.specs.declared.image.Image.{Image};
+ghost use Rattle.guest_image.specs.declared.image.Image.{Image};
 ghost use Rattle.session_history.specs.Answering.{MayBegin};
 ghost use Rattle.replay.specs.Differing.{DiffersBy, HasFound};
 ghost use Rattle.replay.specs.Playing.{CountsSteps, LinkHears};
@@ -9,12 +9,12 @@ ghost use Rattle.standby.specs.Following.{CatchesUp, EndsAs, LinkCatches, Follow
 
 use crate::follower::Follower;
 use crate::kept::Kept;
-use elf_image::Image;
+use guest_image::Image;
 use guest_cpu::Question;
 use links::Link;
 use replay::{Difference, Player};
 use run_history::Answer;
-use rx_io::{Bytes, Steps};
+use rx_base::{Bytes, Steps};
 use schedule_file::Recorded;
 use std::alloc::{AllocError, Global};
 use std::sync::ledger::Ledger;

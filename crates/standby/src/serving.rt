@@ -3,7 +3,7 @@ ghost use Rattle.std.specs.Prelude.{◌≡◌, ◌≤◌, ◌+◌, ◌^◌, ℕ,
 ghost use Rattle.links.specs.declared.journal.Entry.{Entry};
 ghost use Rattle.item_log.specs.Log.{received};
 ghost use Rattle.links.specs.Links.{Told};
-ghost use Rattle.elf_image.specs.declared.image.Image.{Image};
+ghost use Rattle.guest_image.specs.declared.image.Image.{Image};
 ghost use Rattle.schedule_file.specs.declared.recorded.Recorded.{Recorded};
 ghost use Rattle.replay.specs.Playing.{CountsSteps, LinkTurns, LinkHears};
 ghost use Rattle.replay.specs.Replaying.{LinkAnswers};
@@ -19,7 +19,7 @@ use counts_file::Counts;
 use guest_cpu::Event;
 use links::Link;
 use run_history::Answer;
-use rx_io::Steps;
+use rx_base::Steps;
 use std::sync::ledger::Ledger;
 
 impl Follower {

@@ -5,7 +5,7 @@ ghost use Rattle.crowd.specs.Connections.{is_open};
 use crate::setting::patience_of;
 use crate::sockets::Sockets;
 use crowd::{Crowd, Ready};
-use rx_io::IoFault;
+use rx_base::IoFault;
 use std::alloc::Global;
 use std::net::{Ipv4Addr, Net, TcpListener};
 use std::time::Clock;

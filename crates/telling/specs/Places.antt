@@ -3,7 +3,7 @@ use Rattle.std.specs.Prelude.{◌≡◌, ℕ, ◌-◌, ◌*◌, ◌/◌, ◌<◌
 use Rattle.block_book.specs.Heap.{Heap, standing_at}
 use Rattle.block_book.specs.declared.standing.Standing.{Standing}
 use Rattle.block_book.specs.declared.standing.Standing.TheVariants.{Nothing, Live, Delayed}
-use Rattle.elf_image.specs.Memory.{Area, permitted, read, write}
+use Rattle.guest_image.specs.Memory.{Area, permitted, read, write}
 use Rattle.telling.specs.declared.place.Near.{Near}
 use Rattle.telling.specs.declared.place.Place.{Place}
 use Rattle.telling.specs.declared.place.TheConstants.{STEPS_DOWN}

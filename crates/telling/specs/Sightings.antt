@@ -1,8 +1,8 @@
 -- What is seen of a guest that failed.
 use Rattle.std.specs.Prelude.{◌≡◌, ℕ, ◌-◌, true, false, ◌&&◌, List, length, Option, Some, None, option_map, Result, Ok, Err, nat_le, nat_lt, if◌then◌else◌}
-use Rattle.rx_io.specs.declared.bytes.Item.{Item}
+use Rattle.rx_base.specs.declared.item.Item.{Item}
 use Rattle.block_book.specs.Heap.{Heap}
-use Rattle.elf_image.specs.Memory.{Area}
+use Rattle.guest_image.specs.Memory.{Area}
 use Rattle.item_log.specs.Log.{Log, item_at, number_in_connection, received}
 use Rattle.rv_isa.specs.declared.instr.Instr.{Instr}
 use Rattle.rv_isa.specs.declared.instr.Instr.TheVariants.{Load, Store}

@@ -1,7 +1,7 @@
 // Notes that let a teller know what was tried.
 use crate::teller::Teller;
 use block_book::Choice;
-use rx_io::IoFault;
+use rx_base::IoFault;
 use session_notes::{Episode, Notes};
 
 /// Notes that let a teller know of each episode that others noted. In all that a clause says they are those.

@@ -2,7 +2,7 @@
 ghost use Rattle.std.specs.Prelude.{◌≡◌, MatchOption};
 ghost use Rattle.block_book.specs.Heap.{Heap, standing_at};
 ghost use Rattle.block_book.specs.declared.standing.Standing.TheVariants.{Nothing};
-ghost use Rattle.elf_image.specs.Memory.{Area};
+ghost use Rattle.guest_image.specs.Memory.{Area};
 ghost use Rattle.guest_space.specs.Space.{flat};
 ghost use Rattle.telling.specs.Places.{IsNearest, IsPlace, in_heap, standing_in};
 

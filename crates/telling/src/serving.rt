@@ -13,7 +13,7 @@ use links::Link;
 use recovery::{NoWatch, Watch};
 use run_history::Answer;
 use rx_engine::Session;
-use rx_io::Steps;
+use rx_base::Steps;
 use session_following::{HandedOver, Unfollowed};
 use session_notes::Notes;
 use std::sync::ledger::Ledger;

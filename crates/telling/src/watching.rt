@@ -3,7 +3,7 @@ use crate::sight;
 use crate::teller::Teller;
 use guest_space::AccessRule;
 use recovery::{Recoverable, Watch};
-use rx_io::Steps;
+use rx_base::Steps;
 use std::alloc::AllocError;
 use std::sync::ledger::Ledger;
 

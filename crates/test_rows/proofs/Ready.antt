@@ -1,6 +1,6 @@
 -- A session that was begun is ready to serve.
 use Rattle.std.proofs.Common.{sym, subst}
-use Rattle.elf_image.specs.declared.image.Image.{Image}
+use Rattle.guest_image.specs.declared.image.Image.{Image}
 use Rattle.session_state.specs.declared.options.Options.{Options}
 use Rattle.session_state.specs.Sessions.{SessionState, IsBegun}
 use Rattle.session_state.specs.Serving.{IsReadyToServe}

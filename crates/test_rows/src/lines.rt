@@ -4,7 +4,7 @@ ghost use Rattle.links.specs.MemoryLinks.{seen_in};
 ghost use Rattle.links.specs.Seen.{IsFreshLink};
 
 use links::{Entry, LinkEvent, MemoryLink};
-use rx_io::Bytes;
+use rx_base::Bytes;
 use std::alloc::Global;
 use std::test::Fail;
 

@@ -14,13 +14,13 @@ use crate::rows::{Row, calls_of, large_number_of, number_of, options_of, value_o
 use crate::short_link::ShortLink;
 use crate::short_notes::ShortNotes;
 use crate::showing::{shown, text_of};
-use elf_image::Image;
+use guest_image::Image;
 use guest_space::AllMapped;
 use links::{Link, MemoryLink};
 use recovery::Watch;
 use run_history::Answer;
 use rx_engine::{Options, Session};
-use rx_io::Steps;
+use rx_base::Steps;
 use session_notes::{NoteList, Notes};
 use std::alloc::Global;
 use std::marker::Brand;

@@ -1,6 +1,6 @@
 // Programs that the example guests lack, by their names.
 use crate::rows::WINDOW;
-use elf_image::Image;
+use guest_image::Image;
 use example_guests::source_of;
 use rv_asm::assemble;
 use std::alloc::Global;

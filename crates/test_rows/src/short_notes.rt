@@ -3,7 +3,7 @@ ghost use Rattle.std.specs.Prelude.{None};
 ghost use Rattle.session_notes.specs.Noting.{noted};
 
 use block_book::Choice;
-use rx_io::IoFault;
+use rx_base::IoFault;
 use session_notes::{Episode, Notes};
 
 // Notes of which so many calls are done. Each call behind them answers `Memory` and does nothing. So they don't tell what a failed call was handed.

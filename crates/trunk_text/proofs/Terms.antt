@@ -4,7 +4,7 @@ pub use Rattle.std.proofs.lemmas.Bool.Decides.{nat_tests}
 pub use Rattle.std.proofs.lemmas.List.{append_cancel_left, nil_from_length}
 pub use Rattle.std.proofs.lemmas.List.Elements.{All-cons, All-head, All-nil, All-push, All-tail}
 pub use Rattle.std.specs.Prelude.{All, ⊤}
-pub use Rattle.rx_io.proofs.Composing.{gave_more, gave_nothing, took_more, took_nothing}
+pub use Rattle.rx_base.proofs.Composing.{gave_more, gave_nothing, took_more, took_nothing}
 pub use Rattle.trunk_wire.proofs.GrammarLemmas.{two_bytes_back}
 pub use Rattle.trunk_text.specs.Terms.{Appends, BYTES, CLOSE, Closes, Cut, FitsTwoBytes, Flaw, Form, Header, IoFault, IsDrained, Kind, Line, LongLine, LongPiece, Nothing, OPEN, Opens, Payload, Piece, SETTLE, Settles, Stream, Took, frame, from_two_bytes, header_bytes, header_of, high_byte, is_extra, is_known, list_all, low_byte}
 pub use Rattle.trunk_text.specs.declared.escapes.Before.TheVariants.{Whole}

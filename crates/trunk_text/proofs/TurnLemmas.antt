@@ -1,6 +1,6 @@
 -- What was taken and written of whole lines or frames, and of one more.
 use Rattle.std.proofs.lemmas.List.Concat.{flat_map-append}
-use Rattle.rx_io.specs.declared.fault.IoFault.TheVariants as io
+use Rattle.rx_base.specs.declared.fault.IoFault.TheVariants as io
 use Rattle.trunk_text.proofs.Terms.{List, Option, [], ap, append-nil, arith, flat_map, inl, inr, length, length-append, refl, subst, sym, ℕ, ◌++◌, ◌+◌, ◌∙◌, ◌∷◌, ◌≡◌, All-nil, All-push, Appends, IoFault, gave_more, gave_nothing, took_more, took_nothing, Stream, Took, Flaw, Ended, Finished, Limit, Memory, ReadFault, Refused, WriteFault, Turn, Ends, More, Breaks, EndsBy, Goes, IsGiven, Loses, Moved, Pair, Turned, TurnsBy, Way}
 use Rattle.trunk_text.specs.Streams.{read_ended}
 

@@ -1,6 +1,6 @@
 -- A frame that was taken, by its header and its payload.
 use Rattle.std.proofs.lemmas.Bool.{eqb-true}
-use Rattle.rx_io.specs.declared.fault.IoFault.TheVariants as io
+use Rattle.rx_base.specs.declared.fault.IoFault.TheVariants as io
 use Rattle.trunk_wire.specs.Calls.{Behind}
 use Rattle.trunk_text.proofs.Terms.{Bool, Err, List, None, Ok, Option, Result, Some, [], ap, append_assoc, arith, false, if◌then◌else◌, inl, inr, length, nat_lt, not, refl, subst, sym, true, ℕ, ◌&&◌, ◌++◌, ◌+◌, ◌<◌, ◌==◌, ◌∙◌, ◌∷◌, ◌≡◌, nat_tests, nil_from_length, Appends, IoFault, gave_nothing, took_more, took_nothing, Stream, Took, Header, BYTES, CLOSE, OPEN, SETTLE, two_bytes_back, FitsTwoBytes, header_bytes, header_of, high_byte, low_byte, is_extra, is_known, Flaw, Cut, Kind, Payload, Line, Closes, Opens, Piece, Settles, Turn, Ends, More, Read, End, Wrong, text_of, IsFrame, IsFrameOf, Breaks, Loses, Moved, TurnsBy, GivesSome, GivesText, IsCut, TakesFrame, header_flaw, says_of, unframing}
 use Rattle.trunk_text.specs.declared.turning.Ended.TheVariants as ended

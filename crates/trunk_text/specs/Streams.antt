@@ -1,6 +1,6 @@
 -- One byte of a source, and the bytes that a sink is given.
 use Rattle.std.specs.Prelude.{ℕ, List, [], ◌∷◌, Option, None, Some, Result, Ok, Err}
-use Rattle.rx_io.specs.declared.fault.IoFault.TheVariants as io
+use Rattle.rx_base.specs.declared.fault.IoFault.TheVariants as io
 use Rattle.trunk_text.specs.Terms.{IoFault}
 use Rattle.trunk_text.specs.declared.turning.Ended.{Ended}
 use Rattle.trunk_text.specs.declared.turning.Ended.TheVariants.{ReadFault, WriteFault, Memory}

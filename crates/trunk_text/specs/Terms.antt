@@ -2,9 +2,9 @@
 pub use Rattle.std.specs.declared.alloc.Global.{Global}
 pub use Rattle.std.specs.Io.KnownBytes.{Appends}
 pub use Rattle.std.specs.List.{All, list_all}
-pub use Rattle.rx_io.specs.declared.fault.IoFault.{IoFault}
-pub use Rattle.rx_io.specs.Outside.{IsDrained, Stream, Took}
-pub use Rattle.rx_io.specs.Prefix.{Prefix}
+pub use Rattle.rx_base.specs.declared.fault.IoFault.{IoFault}
+pub use Rattle.rx_base.specs.Outside.{IsDrained, Stream, Took}
+pub use Rattle.rx_base.specs.Prefix.{Prefix}
 pub use Rattle.trunk_wire.specs.declared.header.Header.{Header}
 pub use Rattle.trunk_wire.specs.declared.header.TheConstants.{BYTES, CLOSE, OPEN, SETTLE}
 pub use Rattle.trunk_wire.specs.Frames.{FitsTwoBytes, frame, from_two_bytes, header_bytes, header_of, high_byte, low_byte}

@@ -1,6 +1,6 @@
 -- Bytes of a source that are turned into bytes for a sink, one whole line or frame after another.
 use Rattle.std.specs.Prelude.{◌≡◌, ◌⊎◌, ℕ, ◌+◌, ◌^◌, ◌<◌, ◌≤◌, List, [], ◌++◌, length, flat_map, Option, All}
-use Rattle.rx_io.specs.declared.fault.IoFault.TheVariants as io
+use Rattle.rx_base.specs.declared.fault.IoFault.TheVariants as io
 use Rattle.trunk_text.specs.Terms.{Appends, IoFault, Stream, Took, Prefix, Flaw}
 use Rattle.trunk_text.specs.declared.turning.Ended.{Ended}
 use Rattle.trunk_text.specs.declared.turning.Ended.TheVariants.{Finished, Refused, ReadFault, WriteFault, Limit, Memory}

@@ -1,8 +1,8 @@
 // Lines are turned into frames.
 ghost use Rattle.std.specs.Prelude.{◌≡◌, ◌≢◌, ◌≤◌, ◌++◌, ◌∷◌, [], Some, ⊤};
 ghost use Rattle.std.specs.Io.KnownBytes.{Appends};
-ghost use Rattle.rx_io.specs.Faults.{HasCause, Rose};
-ghost use Rattle.rx_io.specs.Outside.{IsDrained, Took};
+ghost use Rattle.rx_base.specs.Faults.{HasCause, Rose};
+ghost use Rattle.rx_base.specs.Outside.{IsDrained, Took};
 ghost use Rattle.trunk_wire.specs.Calls.{WritesAll};
 ghost use Rattle.trunk_text.specs.Turns.{EndsBy, Goes, IsForward, IsGiven, Moved, TurnsBy};
 ghost use Rattle.trunk_text.specs.Frames.{IsShort, frame_of};
@@ -13,7 +13,8 @@ use crate::reading::read_line;
 use crate::streams::{give_all, take_byte};
 use crate::turning::{Ended, Turn, read_ended, write_ended};
 use crate::writing::frame_of;
-use rx_io::{IoFault, Sink, Source};
+use rx_io::{Sink, Source};
+use rx_base::IoFault;
 use std::alloc::Global;
 
 /// How many bytes a line has at most without its line feed: a number of five digits, an arrow, 65535 bytes of four each, and a backslash.

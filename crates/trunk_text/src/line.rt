@@ -1,5 +1,5 @@
 // What a line says, and why one isn't read.
-use rx_io::Bytes;
+use rx_base::Bytes;
 
 /// What a line says: a connection opens, has a piece of bytes or closes, or all output is asked for; or it says nothing.
 #[derive(Debug, Drop)]

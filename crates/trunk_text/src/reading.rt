@@ -8,7 +8,7 @@ ghost use Rattle.trunk_text.specs.Escapes.{spelled};
 use crate::escapes::spelled;
 use crate::line::{Flaw, Line, LineFault};
 use crate::numbers::{is_digit, number};
-use rx_io::Bytes;
+use rx_base::Bytes;
 use std::alloc::Global;
 
 // The number that these bytes are.

@@ -1,12 +1,13 @@
 // A byte that is taken of a source, and bytes that are given to a sink.
 ghost use Rattle.std.specs.Prelude.{◌≡◌, ◌≤◌, ◌<◌, length};
 ghost use Rattle.std.specs.Io.KnownBytes.{Appends};
-ghost use Rattle.rx_io.specs.Faults.{HasCause};
-ghost use Rattle.rx_io.specs.Outside.{IsDrained, Took};
+ghost use Rattle.rx_base.specs.Faults.{HasCause};
+ghost use Rattle.rx_base.specs.Outside.{IsDrained, Took};
 ghost use Rattle.trunk_wire.specs.Calls.{WritesAll};
 ghost use Rattle.trunk_text.specs.Streams.{TakesByte};
 
-use rx_io::{IoFault, Sink, Source};
+use rx_io::{Sink, Source};
+use rx_base::IoFault;
 
 /// Takes the next byte, and none behind it.
 pub(crate) fn take_byte<S: Source>(source: &mut S) -> Result<Option<u8>, IoFault>

@@ -3,7 +3,7 @@ ghost use Rattle.std.specs.Prelude.{◌≡◌};
 ghost use Rattle.trunk_text.specs.Streams.{read_ended, write_ended};
 
 use crate::line::Flaw;
-use rx_io::IoFault;
+use rx_base::IoFault;
 
 /// How the turning of an input ended.
 #[derive(Clone, Copy, Debug, PartialEq, Eq)]

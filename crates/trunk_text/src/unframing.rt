@@ -1,8 +1,8 @@
 // Frames are turned into lines.
 ghost use Rattle.std.specs.Prelude.{◌≡◌, ◌≢◌, ◌≤◌, ◌<◌, ◌++◌, ◌∷◌, [], length, MatchOption};
 ghost use Rattle.std.specs.Io.KnownBytes.{Appends};
-ghost use Rattle.rx_io.specs.Faults.{HasCause, Rose};
-ghost use Rattle.rx_io.specs.Outside.{IsDrained, Took};
+ghost use Rattle.rx_base.specs.Faults.{HasCause, Rose};
+ghost use Rattle.rx_base.specs.Outside.{IsDrained, Took};
 ghost use Rattle.trunk_wire.specs.Calls.{Behind, WritesAll};
 ghost use Rattle.trunk_wire.specs.Frames.{header_bytes};
 ghost use Rattle.trunk_text.specs.Turns.{Goes, IsForward, Moved, TurnsBy};
@@ -13,7 +13,8 @@ use crate::line::{Flaw, Line};
 use crate::streams::{give_all, take_byte};
 use crate::turning::{Ended, Turn, read_ended, write_ended};
 use crate::writing::text_of;
-use rx_io::{Bytes, IoFault, Sink, Source};
+use rx_io::{Sink, Source};
+use rx_base::{Bytes, IoFault};
 use std::alloc::Global;
 
 /// What was taken of a source: a whole frame and how many bytes it has, nothing at the end of the input, or what is refused.

@@ -1,6 +1,6 @@
 -- Bytes that are taken and written in parts.
 use borrow.Rule.Slice.PartMut.{put_mid, post_of}
-use Rattle.rx_io.specs.declared.fault.IoFault.TheVariants as io
+use Rattle.rx_base.specs.declared.fault.IoFault.TheVariants as io
 use Rattle.links.specs.declared.journal.LinkEvent.TheVariants as event
 use Rattle.trunk_wire.proofs.Terms.{Err, List, None, Ok, Option, Result, Some, [], ap, append_assoc, arith, drop, inl, inr, length, length-append, refl, subst, sym, take, ℕ, ◌++◌, ◌+◌, ◌<◌, ◌∙◌, ◌≡◌, ◌≤◌, take-append-add, length-take-le, take-append-drop, take-append-le, Appends, IoFault, Stream, Took, Prefix, LinkEvent, LinkFault, Memory, ReadFault, Refused, WriteFault, Phases, Header, FitsTwoBytes, IsFrameOf, header_bytes, piece_frame, Part, event_of, front, header_refusal, Behind, Brings, IsRefused, Reads, TakesBy, Writes, WritesAll, WritesBy, count_after, read_fault, write_fault, reads_more, writes_more}
 use Rattle.trunk_wire.proofs.GrammarLemmas.{front-refused, front-cut, frame-passes, passes_all}

@@ -1,6 +1,6 @@
 -- What several calls on the trunk take and write, one after another.
 use Rattle.std.proofs.Common.{◌≡◌, ℕ, ◌+◌, List, [], ◌++◌, length, Option, arith, sym, ap, ◌∙◌, length-append}
-use Rattle.rx_io.proofs.Composing.{took_nothing, took_more, gave_nothing, gave_more}
+use Rattle.rx_base.proofs.Composing.{took_nothing, took_more, gave_nothing, gave_more}
 use Rattle.trunk_wire.specs.Terms.{Stream}
 use Rattle.trunk_wire.specs.Calls.{Reads, Writes, count_after}
 

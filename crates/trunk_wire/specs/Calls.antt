@@ -1,7 +1,7 @@
 -- What a call on the trunk takes from its source and writes to its sink.
 use Rattle.std.specs.Prelude.{◌≡◌, ◌⊎◌, ℕ, ◌+◌, ◌-◌, ◌^◌, ◌<◌, min, max, List, [], ◌++◌, length, take, Option, None, Some, Result, Ok, Err, Vec}
 use Rattle.std.specs.declared.alloc.Global.{Global}
-use Rattle.rx_io.specs.declared.fault.IoFault.TheVariants as io
+use Rattle.rx_base.specs.declared.fault.IoFault.TheVariants as io
 use Rattle.links.specs.declared.journal.LinkEvent.TheVariants as event
 use Rattle.trunk_wire.specs.Terms.{Appends, IoFault, IsDrained, Stream, Took, Prefix, Given, All, Gone, LinkEvent, LinkFault, Memory, ReadFault, Refused, WriteFault, Phases}
 use Rattle.trunk_wire.specs.Frames.{IsFrameOf, piece_frame}

@@ -5,7 +5,7 @@ ghost use Rattle.trunk_wire.specs.Frames.{header_bytes};
 ghost use Rattle.trunk_wire.specs.Grammar.{is_known, is_extra, is_reopened, is_not_open, header_refusal, event_of};
 
 use links::{CONNECTIONS, ConnectionTable, LinkEvent};
-use rx_io::Bytes;
+use rx_base::Bytes;
 
 /// The kind of a frame by which a connection opens.
 pub const OPEN: u8 = 1;

@@ -1,15 +1,16 @@
 // One frame is read from a source, and no byte behind it.
 ghost use Rattle.std.specs.Prelude.{◌≡◌, ◌^◌, ◌<◌, ◌≤◌, ◌+◌, ℕ, Some, None, true, length, IfOk, IsErrOf};
 ghost use Rattle.links.specs.ConnectionTables.{phases_in};
-ghost use Rattle.rx_io.specs.Faults.{HasCause, Rose};
+ghost use Rattle.rx_base.specs.Faults.{HasCause, Rose};
 ghost use Rattle.links.specs.Links.{Enters};
-ghost use Rattle.rx_io.specs.Outside.{IsDrained};
+ghost use Rattle.rx_base.specs.Outside.{IsDrained};
 ghost use Rattle.trunk_wire.specs.Calls.{Reads, Fills, ReadsPayload, TakesBy, Behind, HasOffset, read_fault};
 ghost use Rattle.trunk_wire.specs.Frames.{header_bytes};
 
 use crate::header::{Header, event_of, header_from, header_refusal};
 use links::{ConnectionTable, LinkEvent, LinkFault};
-use rx_io::{Bytes, IoFault, Source};
+use rx_io::Source;
+use rx_base::{Bytes, IoFault};
 use std::alloc::Global;
 
 // The fault of a source, as that of a link.

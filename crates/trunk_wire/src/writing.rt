@@ -1,11 +1,12 @@
 // One frame is written to a sink.
 ghost use Rattle.std.specs.Prelude.{◌≡◌, ◌+◌, ◌^◌, ◌<◌, ◌≤◌, ◌++◌, length, take, IsErrOf};
-ghost use Rattle.rx_io.specs.Faults.{HasCause, Rose};
+ghost use Rattle.rx_base.specs.Faults.{HasCause, Rose};
 ghost use Rattle.trunk_wire.specs.Calls.{Writes, WritesAll, WritesBy, write_fault};
 
 use crate::header::{BYTES, Header, bytes_from};
 use links::{Given, LinkFault};
-use rx_io::{IoFault, Sink};
+use rx_io::Sink;
+use rx_base::IoFault;
 
 // How many bytes of a frame, its header among them, go by one write; and how many by one from a short array.
 const JOINED: usize = 4096;

@@ -1,8 +1,8 @@
 -- What clients had of both hosts, and the run that emits it.
 use Rattle.std.proofs.Common.{List, [], ap, append-nil, refl, subst, sym, take, ℕ, ◌++◌, ◌∙◌, ◌∷◌, ◌≡◌}
-use Rattle.rx_io.specs.declared.bytes.Item.{Item}
-use Rattle.rx_io.specs.Prefix.{Prefix}
-use Rattle.rx_io.specs.Sends.{sent_to}
+use Rattle.rx_base.specs.declared.item.Item.{Item}
+use Rattle.rx_base.specs.Prefix.{Prefix}
+use Rattle.rx_base.specs.Sends.{sent_to}
 use Rattle.links.specs.Links.{events_in}
 use Rattle.run_history.specs.Served.{Limits, Path, Served, origin}
 use Rattle.run_history.proofs.Outputs.{sent_to-append}

@@ -1,10 +1,10 @@
 -- Something meets what the laws ask for.
 use Rattle.std.proofs.Common.{List, None, [], ap, append-nil, arith, false, length, length-append, refl, subst, sym, ◌++◌, ◌∷◌, ◌≡◌}
-use Rattle.rx_io.specs.declared.bytes.Item.{Item}
-use Rattle.rx_io.specs.Prefix.{Prefix}
+use Rattle.rx_base.specs.declared.item.Item.{Item}
+use Rattle.rx_base.specs.Prefix.{Prefix}
 use Rattle.links.specs.declared.journal.LinkEvent.{LinkEvent}
 use Rattle.item_log.specs.Heard.{items_from, items_of}
-use Rattle.elf_image.specs.declared.image.Image.{Image}
+use Rattle.guest_image.specs.declared.image.Image.{Image}
 use Rattle.run_history.specs.Served.{origin}
 use Rattle.session_history.specs.Account.{IsAccount, Session}
 use Rattle.session_history.specs.Heeding.{AreHeeded, Bounds, heeded_behind, items_in, nothing_before}

@@ -1,8 +1,8 @@
 -- A host that was killed, and the one that went on for it.
 use Rattle.std.specs.Prelude.{◌≡◌, ℕ, List, [], take}
-use Rattle.rx_io.specs.declared.bytes.Item.{Item}
-use Rattle.rx_io.specs.Prefix.{Prefix}
-use Rattle.rx_io.specs.Sends.{sent_to}
+use Rattle.rx_base.specs.declared.item.Item.{Item}
+use Rattle.rx_base.specs.Prefix.{Prefix}
+use Rattle.rx_base.specs.Sends.{sent_to}
 use Rattle.links.specs.declared.journal.LinkEvent.{LinkEvent}
 use Rattle.run_history.specs.Run.{output}
 use Rattle.run_history.specs.Served.{Limits, Path}

@@ -1,8 +1,8 @@
 -- What holds of a host that was killed and of the one that went on for it.
 use Rattle.std.specs.Prelude.{◌≡◌, ℕ, true, List, [], ◌∷◌, ◌++◌}
-use Rattle.rx_io.specs.declared.bytes.Item.{Item}
-use Rattle.rx_io.specs.Prefix.{Prefix}
-use Rattle.rx_io.specs.Sends.{sent_to}
+use Rattle.rx_base.specs.declared.item.Item.{Item}
+use Rattle.rx_base.specs.Prefix.{Prefix}
+use Rattle.rx_base.specs.Sends.{sent_to}
 use Rattle.run_history.specs.Served.{Limits}
 use Rattle.session_history.specs.Account.{HasPassedAll, journal_of}
 use Rattle.session_history.specs.Heeding.{nothing_before}

@@ -3,7 +3,7 @@ ghost use Rattle.std.specs.Prelude.{◌≡◌, IfOk};
 ghost use Rattle.reply_ledger.specs.Ledger.{no_replies};
 
 use reply_ledger::Replies;
-use rx_io::Bytes;
+use rx_base::Bytes;
 use std::alloc::{AllocError, Global};
 use std::process::Abort;
 use std::test::Fail;

@@ -7,7 +7,7 @@ use crate::link_rows::{gifts_seen, list_seen, output_seen, trunk_seen};
 use crate::text_rows::{frames_seen, lines_seen, turned_back};
 use links::LinkEvent;
 use msg_frame::Framing;
-use rx_io::Bytes;
+use rx_base::Bytes;
 use std::alloc::Global;
 use std::process::Abort;
 use std::test::Fail;

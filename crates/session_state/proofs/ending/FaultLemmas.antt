@@ -1,7 +1,7 @@
 -- Faults of notes.
 use Rattle.session_history.specs.declared.ends.SessionBreak.TheVariants as session_break
 use Rattle.session_history.specs.declared.ends.Stop.TheVariants as stop
-use Rattle.rx_io.specs.declared.fault.IoFault.TheVariants as note
+use Rattle.rx_base.specs.declared.fault.IoFault.TheVariants as note
 use Rattle.session_state.proofs.Terms.{[], subst, sym, ◌≡◌, IoFault, Seen, SessionBreak, Session, EndsBy, HandedLast, Rules, IsNoteFault, IsNoteAnswer}
 
 -- nothing more is asked of a fault of notes

@@ -5,7 +5,7 @@ use Rattle.session_history.proofs.Ended.{is_end_answer}
 use Rattle.session_history.specs.declared.ends.SessionBreak.TheVariants as session_break
 use Rattle.session_history.specs.declared.ends.SessionEnd.TheVariants as session_end
 use Rattle.link_gate.specs.declared.heard.HearFault.TheVariants as hear
-use Rattle.rx_io.specs.declared.fault.IoFault.TheVariants as note
+use Rattle.rx_base.specs.declared.fault.IoFault.TheVariants as note
 use Rattle.session_state.proofs.Lemmas.{oldest_then, trimmed_still, known_heard, known_kept, known_same, known_stopped, known_then, known_unless, noted_still, once_at, once_given, once_heard, once_noted, once_passing, once_stopped, once_then, takes_given, takes_stopped, unless_broken}
 use Rattle.session_state.proofs.Terms.{Bool, Err, Ok, Option, Result, Some, ap, arith, inl, inr, refl, subst, sym, true, ℕ, ◌∙◌, ◌≡◌, ◌≤◌, IfOk, IsErrOf, IoFault, rose_later, Rose, Coming, Counts, Seen, Ledger, Cause, SessionBreak, SessionEnd, Stop, HasAnswerCause, AtBreak, AtEnd, IsEnd, break_answer, HearFault, Heard, PassFault, HearShows, CanGive, HasPassCause, KeepsPassing, Episode, EpisodeShows, Shown, Unnoted, Adopted, SessionState, IsNoteFault, IsCutShort, IsTrimmed, KeepsOldest, BreaksAt, BreaksNoting, BreaksPassing, HasNoteRest, HasStopCause, IsAnswerTo, IsNoteAnswer, IsOkOrMemory, IsStopAt, IsUnnoted, LinkAnswers, LinkFinishes, LinkPasses, LinkServes, MayServe, NotesAnswer, NotesServe, StaysKnown, TakesAtEnd, TrimsAt, TrimsBy, UnlessBroken, end_of, KeepsNotes}
 use Rattle.session_state.proofs.recovering.RecoverLemmas.{adopted_takes}

@@ -1,0 +1,5 @@
+pub mod Terms
+pub mod Written
+pub mod ProgramFile
+pub mod Refusals
+pub mod RefusedFields

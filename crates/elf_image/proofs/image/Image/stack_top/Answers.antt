@@ -1,8 +1,0 @@
-use Rattle.elf_image.proofs.Terms.{rules}
-use Rattle.elf_image.proofs.Refusing.{top_below}
-use Rattle.elf_image.proofs.image.Image.stack_top.Goals as goal
-
-pub overflow_add-result : goal.overflow_add-result
-overflow_add-result c =
-    let top = top_below _ _ _ c.args.self.now.accepted in
-    rw c.base.ensures (search rules)

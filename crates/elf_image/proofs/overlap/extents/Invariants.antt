@@ -1,5 +1,0 @@
-use Rattle.elf_image.proofs.Terms.{map, take, ◌≡◌, extent_of}
-use Rattle.elf_image.proofs.overlap.extents.Given as goal
-
-abbrev pub invariant-segments : goal.invariant-segments
-invariant-segments l = l.extents.items ≡ map extent_of (take l.segment-index l.segments)

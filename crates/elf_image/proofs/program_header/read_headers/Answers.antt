@@ -1,7 +1,0 @@
-use Rattle.elf_image.proofs.Terms.{ap, arith, length}
-use Rattle.elf_image.proofs.Headers.{length-headers_from}
-use Rattle.elf_image.proofs.program_header.read_headers.Goals as goal
-
-pub returns-clause-few : goal.returns-clause-few
-returns-clause-few c =
-    omega (arith, ap length c.headers.invariant, length-headers_from c.args.offset c.headers.i c.args.bytes.now)

@@ -1,5 +1,0 @@
-use Rattle.elf_image.proofs.Terms.{map, take, ◌≡◌, filter, is_loaded, segment_of}
-use Rattle.elf_image.proofs.program_header.segments.Given as goal
-
-abbrev pub invariant-headers : goal.invariant-headers
-invariant-headers l = l.segments.items ≡ map (segment_of l.bytes) (filter is_loaded (take l.header-index l.headers))

@@ -1,8 +1,0 @@
-pub mod Terms
-pub mod Memory
-pub mod Layout
-pub mod Extents
-pub mod Image
-pub mod ProgramFile
-pub mod Refusals
-pub mod RefusedFields

@@ -1,0 +1,5 @@
+pub mod Terms
+pub mod Memory
+pub mod Layout
+pub mod Extents
+pub mod Image

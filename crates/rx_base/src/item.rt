@@ -1,0 +1,13 @@
+// What a guest receives.
+use crate::Bytes;
+
+/// The number of a connection. It is wider than the two bytes that a frame has for it, and as wide as a register of a guest.
+pub type Conn = u32;
+
+/// What a guest receives: an open (kind 1), a message (2) or a close (3) of a connection. An open and a close have no bytes.
+#[derive(Debug, Drop)]
+pub struct Item {
+    pub kind: u8,
+    pub conn: Conn,
+    pub bytes: Bytes,
+}
