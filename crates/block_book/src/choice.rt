@@ -5,7 +5,6 @@ ghost use Rattle.block_book.specs.Answer.{bytes_asked, is_calloc, same_ask};
 
 use rx_base::Listed;
 
-
 /// What a program asks for: a block of so many bytes, and how it asks.
 #[derive(Clone, Copy, Debug, PartialEq, Eq)]
 pub enum Ask {

@@ -66,9 +66,9 @@ impl ConnSet {
         ensures { self.new ≡ connections_after item.now self.old }
     {
         if item.kind == 1 {
-            self.set(u32::from(item.conn), true);
+            self.set(item.conn, true);
         } else if item.kind == 3 {
-            self.set(u32::from(item.conn), false);
+            self.set(item.conn, false);
         }
     }
 

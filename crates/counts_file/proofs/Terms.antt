@@ -7,7 +7,7 @@ pub use Rattle.text_lines.proofs.Lines.{first-behind, is_line-decimal, joined, l
 pub use Rattle.text_lines.specs.Lines.{behind_line, first_line, is_line, lines_of}
 pub use Rattle.text_lines.specs.Numbers.{clipped, first_number, second_number}
 pub use Rattle.counts_file.specs.declared.counts.CountsRefusal.TheVariants.{Refused}
-pub use Rattle.counts_file.specs.declared.counts.TheConstants.{CONNECTIONS}
+pub use Rattle.rx_base.specs.declared.item.TheConstants.{CONNECTIONS}
 pub use Rattle.counts_file.specs.Answers.{ReadsCounts}
 pub use Rattle.counts_file.specs.Counts.{AreCounts, IsBelow, IsCount, IsReading, count_of}
 pub use Rattle.counts_file.specs.Lines.{text_of, written_count}

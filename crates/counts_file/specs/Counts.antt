@@ -1,6 +1,6 @@
 -- Which values counts may have, what a reading of a text is, and what a connection has.
 use Rattle.std.specs.Prelude.{◌≡◌, ℕ, ◌^◌, ◌<◌, List, [], ◌∷◌, All, AllPairs, if◌then◌else◌, ◌==◌}
-use Rattle.counts_file.specs.declared.counts.TheConstants.{CONNECTIONS}
+use Rattle.rx_base.specs.declared.item.TheConstants.{CONNECTIONS}
 use Rattle.counts_file.specs.Lines.{text_of}
 
 -- the numbers of a line are in their ranges

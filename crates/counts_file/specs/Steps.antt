@@ -1,7 +1,7 @@
 -- What the parts of the code answer. Nothing here is promised to callers of the crate.
 use Rattle.std.specs.Prelude.{◌≡◌, ℕ, ◌+◌, ◌≤◌, List, [], ◌∷◌, ◌++◌, length, None}
 use Rattle.text_lines.specs.Lines.{first_line}
-use Rattle.counts_file.specs.declared.counts.TheConstants.{CONNECTIONS}
+use Rattle.rx_base.specs.declared.item.TheConstants.{CONNECTIONS}
 use Rattle.counts_file.specs.Counts.{IsCount}
 use Rattle.counts_file.specs.Lines.{text_of}
 use Rattle.counts_file.specs.Telling.{count_in}

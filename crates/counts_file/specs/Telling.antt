@@ -3,7 +3,7 @@
 use Rattle.std.specs.Prelude.{ℕ, ◌^◌, Bool, ◌&&◌, List, Option, nat_le, nat_lt}
 use Rattle.text_lines.specs.Numbers.{first_number, second_number}
 use Rattle.text_lines.specs.Written.{if_written}
-use Rattle.counts_file.specs.declared.counts.TheConstants.{CONNECTIONS}
+use Rattle.rx_base.specs.declared.item.TheConstants.{CONNECTIONS}
 use Rattle.counts_file.specs.Lines.{written_count}
 
 abbrev pub count_told : List ℕ → ℕ × ℕ

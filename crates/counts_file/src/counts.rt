@@ -3,17 +3,15 @@ ghost use Rattle.std.specs.Prelude.{◌≡◌, ℕ, List};
 ghost use Rattle.counts_file.specs.Counts.{count_of};
 ghost use Rattle.counts_file.specs.declared.counts.CountsRefusal.TheVariants.{Memory};
 
+use rx_base::Conn;
 use std::alloc::AllocError;
 use std::marker::Model;
-
-/// How many connections there are: they have the numbers below this.
-pub const CONNECTIONS: u16 = 4096;
 
 /// How many bytes each client has: a line for each of some connections, with its count of bytes, in rising order of the
 /// connections.
 #[derive(Debug, Drop)]
 pub struct Counts {
-    lines: Vec<(u16, u64)>,
+    lines: Vec<(Conn, u64)>,
 }
 
 impl Model for Counts {
@@ -24,21 +22,21 @@ impl Model for Counts {
 
 impl Counts {
     /// The lines of a vector, in its order.
-    pub fn from_vec(v: Vec<(u16, u64)>) -> Counts
+    pub fn from_vec(v: Vec<(Conn, u64)>) -> Counts
         ensures { result ≡ v.items }
     {
         Counts { lines: v }
     }
 
     /// The lines, each a connection and its count.
-    pub fn as_slice(&self) -> &[(u16, u64)]
+    pub fn as_slice(&self) -> &[(Conn, u64)]
         ensures { result.now ≡ self.now }
     {
         &self.lines
     }
 
     /// How many bytes a connection's client has: 0 where the connection has no line. It looks at one line after another.
-    pub fn of(&self, conn: u16) -> u64
+    pub fn of(&self, conn: Conn) -> u64
         ensures { result ≡ count_of self.now conn }
     {
         for line in &self.lines {

@@ -11,6 +11,6 @@ mod reading;
 mod telling;
 mod writing;
 
-pub use counts::{CONNECTIONS, Counts, CountsRefusal};
+pub use counts::{Counts, CountsRefusal};
 pub use reading::read_counts;
 pub use writing::count_line;

@@ -5,15 +5,16 @@ ghost use Rattle.counts_file.specs.Steps.{AreAllLines};
 
 use crate::counts::{Counts, CountsRefusal};
 use crate::telling::count_in;
+use rx_base::Conn;
 use std::alloc::{AllocError, Global};
 use text_lines::split_line;
 
 // The counts whose lines a text begins with, and the text behind these lines.
-fn take_lines(alloc: Global, text: &[u8]) -> Result<(Vec<(u16, u64)>, &[u8]), AllocError>
+fn take_lines(alloc: Global, text: &[u8]) -> Result<(Vec<(Conn, u64)>, &[u8]), AllocError>
     ensures { IfOk result (λ taken. AreAllLines text.now taken.0.items taken.1.now) }
 {
     let mut counts = Vec::new(alloc);
-    let mut least: u16 = 0;
+    let mut least: Conn = 0;
     let mut rest = text;
     'lines: loop {
         let (line, behind) = split_line(rest);

@@ -4,12 +4,12 @@ ghost use Rattle.std.specs.Prelude.{◌≡◌};
 ghost use Rattle.text_lines.specs.Written.{Tells};
 ghost use Rattle.counts_file.specs.Telling.{is_count, count_in};
 
-use crate::counts::CONNECTIONS;
 use crate::writing::count_line;
+use rx_base::{CONNECTIONS, Conn};
 use std::alloc::{AllocError, Global};
 use text_lines::{is_same, two_numbers};
 
-fn is_count(least: u16, conn: u64, count: u64) -> bool
+fn is_count(least: Conn, conn: u64, count: u64) -> bool
     ensures { result ≡ is_count least (conn, count) }
 {
     u64::from(least) <= conn && conn < u64::from(CONNECTIONS) && count < 1 << 63
@@ -18,16 +18,16 @@ fn is_count(least: u16, conn: u64, count: u64) -> bool
 // What a line says, if it is one of a connection from `least` on.
 pub(crate) fn count_in(
     alloc: Global,
-    least: u16,
+    least: Conn,
     line: &[u8],
-) -> Result<Option<(u16, u64)>, AllocError>
+) -> Result<Option<(Conn, u64)>, AllocError>
     ensures { Tells (count_in least line.now) result }
 {
     let (conn, count) = two_numbers(line);
     if !is_count(least, conn, count) {
         return Ok(None);
     }
-    let conn = conn as u16;
+    let conn = conn as Conn;
     let text = count_line(alloc, conn, count)?;
     if is_same(text.as_slice(), line) {
         Ok(Some((conn, count)))

@@ -7,7 +7,7 @@ ghost use Rattle.rx_base.specs.Faults.{HasCause};
 ghost use Rattle.rx_base.specs.Taking.{IsPart};
 
 use crate::{CrowdEntry, Ready};
-use rx_base::IoFault;
+use rx_base::{Conn, IoFault};
 
 /// A port at which connections are accepted, of which several are open at the same time. They are numbered from 0 in the order in
 /// which they are accepted, anew behind each bind.
@@ -61,7 +61,7 @@ pub trait Crowd {
 
     /// Takes at most as many bytes of an open connection as `buf` has, puts them at its front, and answers how many. 0 is the
     /// end. After an `Err` no byte was taken.
-    fn take(&mut self, conn: u16, buf: &mut [u8]) -> Result<usize, IoFault>
+    fn take(&mut self, conn: Conn, buf: &mut [u8]) -> Result<usize, IoFault>
         requires connected { is_open conn (connections self.old) ≡ true }
         requires room { 0 < length buf.old }
         ensures count { IfOk result (λ n. n ≤ length buf.old) }
@@ -72,7 +72,7 @@ pub trait Crowd {
         ensures other { faults self.new ≡ faults self.old };
 
     /// Gives bytes to an open connection, which takes the first ones, at least one, and answers how many. After an `Err` it took none.
-    fn give(&mut self, conn: u16, bytes: &[u8]) -> Result<usize, IoFault>
+    fn give(&mut self, conn: Conn, bytes: &[u8]) -> Result<usize, IoFault>
         requires connected { is_open conn (connections self.old) ≡ true }
         requires offered { 0 < length bytes.now }
         ensures count { IfOk result (λ n. IsPart n (length bytes.now)) }
@@ -83,7 +83,7 @@ pub trait Crowd {
         ensures other { faults self.new ≡ faults self.old };
 
     /// Ends an open connection. The numbers of the others stay.
-    fn close(&mut self, conn: u16)
+    fn close(&mut self, conn: Conn)
         requires { is_open conn (connections self.old) ≡ true }
         ensures call { Logs (told self.old) (told self.new) (closed conn) }
         ensures connections { connections self.new ≡ without conn (connections self.old) }

@@ -1,11 +1,11 @@
 // What a crowd was asked and what it answered, as plain data.
-use rx_base::Bytes;
+use rx_base::{Bytes, Conn};
 
 /// What can be done without waiting: a client can be accepted, or a connection be read of.
 #[derive(Clone, Copy, Debug, PartialEq, Eq)]
 pub enum Ready {
     Accepts,
-    Reads(u16),
+    Reads(Conn),
 }
 
 /// A kind of calls on a crowd that can fail.
@@ -24,8 +24,8 @@ pub enum FailedCall {
     Bind,
     Wait,
     Accept,
-    Take(u16),
-    Give(u16),
+    Take(Conn),
+    Give(Conn),
 }
 
 /// A call on a crowd with its answer. `Accepted`, `Took`, `Gave` and `Closed` have the number of their connection. `Took` has
@@ -38,17 +38,17 @@ pub enum CrowdEntry {
         may_accept: bool,
         ready: Ready,
     },
-    Accepted(u16),
+    Accepted(Conn),
     Took {
-        conn: u16,
+        conn: Conn,
         bytes: Bytes,
         room: usize,
     },
     Gave {
-        conn: u16,
+        conn: Conn,
         bytes: Bytes,
         offered: usize,
     },
-    Closed(u16),
+    Closed(Conn),
     Failed(FailedCall),
 }

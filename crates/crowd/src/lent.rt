@@ -2,7 +2,7 @@
 ghost use Rattle.std.specs.Borrow.{GName};
 
 use crate::{Crowd, Ready};
-use rx_base::IoFault;
+use rx_base::{Conn, IoFault};
 
 impl<T: Crowd> Crowd for &mut T {
     ghost told = { λ s. T.told s.now };
@@ -29,15 +29,15 @@ impl<T: Crowd> Crowd for &mut T {
         Crowd::accept(&mut **self)
     }
 
-    fn take(&mut self, conn: u16, buf: &mut [u8]) -> Result<usize, IoFault> {
+    fn take(&mut self, conn: Conn, buf: &mut [u8]) -> Result<usize, IoFault> {
         Crowd::take(&mut **self, conn, buf)
     }
 
-    fn give(&mut self, conn: u16, bytes: &[u8]) -> Result<usize, IoFault> {
+    fn give(&mut self, conn: Conn, bytes: &[u8]) -> Result<usize, IoFault> {
         Crowd::give(&mut **self, conn, bytes)
     }
 
-    fn close(&mut self, conn: u16) {
+    fn close(&mut self, conn: Conn) {
         Crowd::close(&mut **self, conn)
     }
 }

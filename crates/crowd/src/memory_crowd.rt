@@ -14,7 +14,7 @@ ghost use Rattle.rx_base.specs.Outside.{piece_len};
 
 use crate::crowd_fails::CrowdFails;
 use crate::{Crowd, CrowdCall, CrowdEntry, FailedCall, Ready, TameCrowd};
-use rx_base::IoFault;
+use rx_base::{Conn, IoFault};
 use std::alloc::Global;
 
 /// Connections whose inputs are prepared, a script of what is ready, and calls that fail. An accept past the last input fails too.
@@ -121,7 +121,7 @@ impl Crowd for MemoryCrowd {
         self.crowd.accept()
     }
 
-    fn take(&mut self, conn: u16, buf: &mut [u8]) -> Result<usize, IoFault>
+    fn take(&mut self, conn: Conn, buf: &mut [u8]) -> Result<usize, IoFault>
         requires connected { is_open conn (memory_connections self.old) ≡ true }
         requires room { 0 < length buf.old }
         ensures count { IfOk result (λ n. n ≤ length buf.old) }
@@ -141,7 +141,7 @@ impl Crowd for MemoryCrowd {
         self.crowd.take(conn, buf)
     }
 
-    fn give(&mut self, conn: u16, bytes: &[u8]) -> Result<usize, IoFault>
+    fn give(&mut self, conn: Conn, bytes: &[u8]) -> Result<usize, IoFault>
         requires connected { is_open conn (memory_connections self.old) ≡ true }
         requires offered { 0 < length bytes.now }
         ensures count { IfOk result (λ n. IsPart n (length bytes.now)) }
@@ -159,7 +159,7 @@ impl Crowd for MemoryCrowd {
         self.crowd.give(conn, bytes)
     }
 
-    fn close(&mut self, conn: u16)
+    fn close(&mut self, conn: Conn)
         requires { is_open conn (memory_connections self.old) ≡ true }
         ensures call { Logs (Some (memory_calls self.old)) (Some (memory_calls self.new)) (closed conn) }
         ensures connections { memory_connections self.new ≡ without conn (memory_connections self.old) }

@@ -12,7 +12,7 @@ ghost use Rattle.std.specs.Vec.Iter.{into_iter_items, into_iter_len};
 
 use crate::input::Input;
 use crate::{Crowd, CrowdEntry, FailedCall, Ready};
-use rx_base::{Bytes, IoFault};
+use rx_base::{Bytes, Conn, IoFault};
 use std::alloc::Global;
 use std::vec::IntoIter;
 
@@ -38,7 +38,7 @@ pub struct TameCrowd {
 }
 
 // Whether a connection is open.
-fn is_open(conn: u16, opened: &[bool]) -> bool
+fn is_open(conn: Conn, opened: &[bool]) -> bool
     ensures { result ≡ is_open conn opened.now }
 {
     match opened.get(conn as usize) {
@@ -65,12 +65,12 @@ fn first_place(opened: &[bool]) -> Option<usize>
 }
 
 // The open connection with the lowest number.
-fn first_open(opened: &[bool]) -> u16
+fn first_open(opened: &[bool]) -> Conn
     requires few { length opened.now ≤ 2 ^ 16 }
     ensures { result ≡ first_open opened.now }
 {
     match first_place(opened) {
-        Some(conn) => conn as u16,
+        Some(conn) => conn as Conn,
         None => 0,
     }
 }
@@ -233,7 +233,7 @@ impl Crowd for TameCrowd {
             Some(input) => input,
             None => Vec::new(self.alloc),
         };
-        let conn = self.opened.len() as u16;
+        let conn = self.opened.len() as Conn;
         self.begun.push_reserved(Input::make(input));
         self.opened.push_reserved(true);
         self.count += 1;
@@ -241,7 +241,7 @@ impl Crowd for TameCrowd {
         Ok(())
     }
 
-    fn take(&mut self, conn: u16, buf: &mut [u8]) -> Result<usize, IoFault>
+    fn take(&mut self, conn: Conn, buf: &mut [u8]) -> Result<usize, IoFault>
         requires connected { is_open conn (tame_connections self.old) ≡ true }
         requires room { 0 < length buf.old }
         ensures count { IfOk result (λ n. n ≤ length buf.old) }
@@ -273,7 +273,7 @@ impl Crowd for TameCrowd {
         Ok(count)
     }
 
-    fn give(&mut self, conn: u16, bytes: &[u8]) -> Result<usize, IoFault>
+    fn give(&mut self, conn: Conn, bytes: &[u8]) -> Result<usize, IoFault>
         requires connected { is_open conn (tame_connections self.old) ≡ true }
         requires offered { 0 < length bytes.now }
         ensures count { IfOk result (λ n. IsPart n (length bytes.now)) }
@@ -303,7 +303,7 @@ impl Crowd for TameCrowd {
         Ok(count)
     }
 
-    fn close(&mut self, conn: u16)
+    fn close(&mut self, conn: Conn)
         requires { is_open conn (tame_connections self.old) ≡ true }
         ensures call { Logs (Some (tame_calls self.old)) (Some (tame_calls self.new)) (closed conn) }
         ensures connections { tame_connections self.new ≡ without conn (tame_connections self.old) }

@@ -10,6 +10,7 @@ use crate::place::{Closing, Limits, Place, fresh_stages};
 use crate::taking::next_event;
 use crowd::Crowd;
 use links::{Given, Link, LinkEvent, LinkFault};
+use rx_base::Conn;
 use std::alloc::Global;
 
 /// A link over a crowd that was bound. Its connections are numbered from 0, in the order in which they are accepted, and several
@@ -21,7 +22,7 @@ pub struct CrowdLink<C: Crowd> {
     crowd: C,
     limits: Limits,
     place: Place,
-    handed: Option<(u16, usize)>,
+    handed: Option<(Conn, usize)>,
     takes: bool,
     gives: bool,
     gones: u64,
@@ -110,7 +111,7 @@ impl<C: Crowd> Link for CrowdLink<C> {
 
     /// Gives a piece to a connection that isn't closed. Where a give fails, the connection is gone.
     #[tactic(auto, using(crate::proofs::ShowLemmas::given_below))]
-    fn give(&mut self, conn: u16, bytes: &[u8]) -> Result<Given, LinkFault>
+    fn give(&mut self, conn: Conn, bytes: &[u8]) -> Result<Given, LinkFault>
         requires may { (seen_of C.told C.faults self.old).gives ≡ true }
         requires connected { (seen_of C.told C.faults self.old).gives_to conn ≡ true }
         requires some { 0 < length bytes.now }

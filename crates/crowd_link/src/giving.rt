@@ -10,10 +10,10 @@ ghost use Rattle.crowd_link.specs.Gives.{GivesTo, GivesPiece};
 use crate::place::{Limits, Place, Stage, stage_behind};
 use crowd::Crowd;
 use links::{Given, LinkFault};
-use rx_base::IoFault;
+use rx_base::{Conn, IoFault};
 
 // Gives bytes to an open connection, over as many calls as it wants.
-fn give_piece<C: Crowd>(crowd: &mut C, conn: u16, bytes: &[u8]) -> Result<Given, LinkFault>
+fn give_piece<C: Crowd>(crowd: &mut C, conn: Conn, bytes: &[u8]) -> Result<Given, LinkFault>
     requires connected { is_open conn (C.connections crowd.old) ≡ true }
     requires some { 0 < length bytes.now }
     ensures calls { GivesTo conn (C.told crowd.old) (C.told crowd.new) bytes.now result }
@@ -42,7 +42,7 @@ pub(crate) fn give_present<C: Crowd>(
     crowd: &mut C,
     place: &mut Place,
     limits: Limits,
-    conn: u16,
+    conn: Conn,
     bytes: &[u8],
 ) -> Result<Given, LinkFault>
     requires few { conn < 4096 }

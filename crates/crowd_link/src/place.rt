@@ -4,6 +4,7 @@ ghost use Rattle.crowd_link.specs.Stages.{first_broken, is_broken, is_present, s
 ghost use Rattle.crowd_link.specs.StageTables.{stage_in};
 
 use links::{Given, LinkFault};
+use rx_base::Conn;
 
 /// What was answered of a connection.
 #[derive(Clone, Copy, Debug, Drop)]
@@ -27,14 +28,14 @@ pub enum Stage {
 #[derive(Clone, Copy, Debug, Drop)]
 pub enum Closing {
     Nothing,
-    Due(u16),
-    Made(u16),
+    Due(Conn),
+    Made(Conn),
 }
 
 /// How many connections a link has, at most 4096, and how many of them are open at the same time at most.
 #[derive(Clone, Copy, Debug, Drop)]
 pub struct Limits {
-    pub conns: u16,
+    pub conns: Conn,
     pub at_once: u16,
 }
 
@@ -42,8 +43,8 @@ pub struct Limits {
 #[derive(Debug, Drop)]
 pub struct Place {
     pub stages: [Stage; 4096],
-    pub accepted: u16,
-    pub closed: u16,
+    pub accepted: Conn,
+    pub closed: Conn,
     pub closing: Closing,
     pub ends: u64,
 }

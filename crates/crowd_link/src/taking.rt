@@ -9,7 +9,7 @@ ghost use Rattle.crowd_link.specs.Taking.{may_accept, NoneBroken};
 use crate::place::{Closing, Limits, Place, Stage, first_broken};
 use crowd::{Crowd, Ready};
 use links::{LinkEvent, LinkFault};
-use rx_base::{Bytes, IoFault};
+use rx_base::{Bytes, Conn, IoFault};
 use std::alloc::Global;
 
 // Closes the connection whose close was answered last, if that wasn't done before.
@@ -50,7 +50,7 @@ fn may_accept(place: &Place, limits: Limits) -> bool
     ensures { result ≡ may_accept limits place.now }
 {
     place.accepted < limits.conns
-        && u32::from(place.accepted) < u32::from(place.closed) + u32::from(limits.at_once)
+        && place.accepted < place.closed + Conn::from(limits.at_once)
 }
 
 // Waits for a client, where one may be accepted, or an open connection.
@@ -105,7 +105,7 @@ fn open_next<C: Crowd>(
 
 // Takes at most 4096 bytes of a connection: none at the end of its input, or where the take failed. The room for them is made
 // before, so that none is lost.
-fn take_piece<C: Crowd>(alloc: Global, crowd: &mut C, conn: u16) -> Result<Vec<u8>, LinkFault>
+fn take_piece<C: Crowd>(alloc: Global, crowd: &mut C, conn: Conn) -> Result<Vec<u8>, LinkFault>
     requires { is_open conn (C.connections crowd.old) ≡ true }
     ensures calls { TakesPiece conn (C.told crowd.old) (C.told crowd.new) result }
     ensures connections { C.connections crowd.new ≡ C.connections crowd.old }
@@ -131,7 +131,7 @@ fn take_next<C: Crowd>(
     crowd: &mut C,
     place: &mut Place,
     limits: Limits,
-    conn: u16,
+    conn: Conn,
 ) -> Result<LinkEvent, LinkFault>
     requires connected { is_open conn (C.connections crowd.old) ≡ true }
     requires within { conn < 4096 }
@@ -208,7 +208,7 @@ fn drop_broken<C: Crowd>(
     crowd: &mut C,
     place: &mut Place,
     limits: Limits,
-    conn: u16,
+    conn: Conn,
 ) -> Result<LinkEvent, LinkFault>
     requires broken { is_broken (stage_at place.old conn) ≡ true }
     requires within { conn < 4096 }
@@ -269,7 +269,7 @@ fn answer_next<C: Crowd>(
     ensures fixed { C.fixed crowd.new ≡ C.fixed crowd.old }
 {
     match first_broken(&place.stages) {
-        Some(conn) => drop_broken(crowd, place, limits, conn as u16),
+        Some(conn) => drop_broken(crowd, place, limits, conn as Conn),
         None => end_or_wait(alloc, crowd, place, limits),
     }
 }

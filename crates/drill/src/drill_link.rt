@@ -3,6 +3,7 @@ ghost use Rattle.std.specs.Prelude.{◌≡◌, ◌<◌, ◌^◌, true, length, [
 ghost use Rattle.drill.specs.Links.{IsTame};
 
 use links::{Entry, Given, Link, LinkEvent, LinkFault, MemoryLink};
+use rx_base::Conn;
 use std::alloc::Global;
 
 /// A link in memory that plays a list of events, keeps its journal, and never fails.
@@ -63,7 +64,7 @@ impl Link for DrillLink {
         self.link.next()
     }
 
-    fn give(&mut self, conn: u16, bytes: &[u8]) -> Result<Given, LinkFault>
+    fn give(&mut self, conn: Conn, bytes: &[u8]) -> Result<Given, LinkFault>
         requires may { (quiet (seen_in self.old.link)).gives ≡ true }
         requires connected { (quiet (seen_in self.old.link)).gives_to conn ≡ true }
         requires some { 0 < length bytes.now }

@@ -3,7 +3,7 @@ ghost use Rattle.std.specs.Prelude.{◌≡◌, ◌++◌, ◌∷◌, [], ◌<◌,
 ghost use Rattle.drill.specs.Generator.{next_state, drawn, third_state, line_of, message, messages, opening, closing, drill_events};
 
 use links::LinkEvent;
-use rx_base::Bytes;
+use rx_base::{Bytes, Conn};
 use std::alloc::{AllocError, Global};
 
 // The constants of the linear congruential generator of "Numerical Recipes", modulo 2^32.
@@ -48,7 +48,7 @@ fn message(alloc: Global, state: &mut u32) -> Result<LinkEvent, AllocError>
     ensures message { IfOk result (λ event. event ≡ message state.old) }
     ensures state { state.new ≡ third_state state.old }
 {
-    let conn = (draw(state) % 4) as u16;
+    let conn = (draw(state) % 4) as Conn;
     let key = draw(state);
     let kind = draw(state);
     let line = line_of(alloc, key, kind)?;

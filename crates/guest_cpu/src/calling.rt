@@ -20,7 +20,7 @@ use block_book::Ask;
 use call_gate::{Call, MOST_SENT, check_call, read_call};
 use guest_space::{AccessRule, GuestSpace};
 use run_history::{Cause, kept_count};
-use rx_base::{Bytes, Steps};
+use rx_base::{Bytes, Conn, Steps};
 use std::alloc::{AllocError, Global};
 use std::sync::ledger::Ledger;
 
@@ -100,7 +100,7 @@ fn send<L: Ledger>(
     core.answer(0);
     core.marks.sends += 1;
     steps.tick();
-    Ok(Some(Met::Emits(conn as u16, Bytes::from_vec(bytes))))
+    Ok(Some(Met::Emits(conn as Conn, Bytes::from_vec(bytes))))
 }
 
 // The guest ends itself with a code.

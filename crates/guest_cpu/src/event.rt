@@ -2,7 +2,7 @@
 
 use block_book::{Ask, Choice};
 use run_history::Cause;
-use rx_base::Bytes;
+use rx_base::{Bytes, Conn};
 
 /// Why a run in an environment stopped.
 #[derive(Debug, Drop)]
@@ -10,7 +10,7 @@ pub enum Event {
     /// It asks for an item: the recv isn't executed.
     Asks,
     /// It sent bytes to a connection.
-    Emits(u16, Bytes),
+    Emits(Conn, Bytes),
     /// It asked the allocator, which answered so.
     Chooses(Choice),
     /// It ended itself with a code.
@@ -25,7 +25,7 @@ pub enum Question {
     /// It asks for an item: the recv isn't executed.
     Asks,
     /// It sent bytes to a connection.
-    Emits(u16, Bytes),
+    Emits(Conn, Bytes),
     /// It asks the allocator: the call isn't executed.
     Wants(Ask),
     /// It ended itself with a code.
@@ -42,7 +42,7 @@ pub enum Met {
     /// It asks for an item: the recv isn't executed.
     Asks,
     /// It sent bytes to a connection.
-    Emits(u16, Bytes),
+    Emits(Conn, Bytes),
     /// It asks the allocator for a block: the call isn't executed.
     Allocates(Ask),
     /// It frees the block at an address: the call isn't executed.

@@ -27,7 +27,7 @@ pub fn receive(core: &mut Core, space: &mut GuestSpace, windows: &mut Windows, i
     let (front, _) = bytes.split_at((core.regs.x[11] as usize).min(bytes.len()));
     write_front(space, windows, core.regs.x[10], front);
     core.regs.x[12] = u32::from(item.kind);
-    core.regs.x[11] = u32::from(item.conn);
+    core.regs.x[11] = item.conn;
     core.regs.x[10] = bytes.len() as u32;
     core.regs.pc = core.regs.pc.wrapping_add(4);
     core.connections.take(item);

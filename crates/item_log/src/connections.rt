@@ -7,7 +7,7 @@ ghost use Rattle.item_log.specs.Watching.{FeedsOne, IsMessageOf};
 
 use crate::kinds::CONNECTIONS;
 use msg_frame::{FrameRefusal, Framer, Framing};
-use rx_base::Bytes;
+use rx_base::{Bytes, Conn};
 use std::alloc::{AllocError, Global};
 use std::marker::Model;
 
@@ -47,7 +47,7 @@ impl Connections {
     }
 
     /// Whether a connection is open.
-    pub fn is_open(&self, conn: u16) -> bool
+    pub fn is_open(&self, conn: Conn) -> bool
         ensures { result ≡ is_open self.now.rests conn }
     {
         let place = conn as usize;
@@ -55,7 +55,7 @@ impl Connections {
     }
 
     /// A connection opens.
-    pub fn open(&mut self, conn: u16)
+    pub fn open(&mut self, conn: Conn)
         requires { conn < CONNECTIONS }
         ensures { self.new ≡ record self.old { rests = slice_set self.old.rests conn (Some []) } }
     {
@@ -63,7 +63,7 @@ impl Connections {
     }
 
     /// A connection closes, and its rest is dropped.
-    pub fn close(&mut self, conn: u16)
+    pub fn close(&mut self, conn: Conn)
         requires { IsTrue (is_open self.old.rests conn) }
         ensures { self.new ≡ record self.old { rests = slice_set self.old.rests conn None } }
     {
@@ -71,7 +71,7 @@ impl Connections {
     }
 
     /// How many messages a piece of a connection makes whole; `None` where one is too long.
-    pub fn completes(&self, conn: u16, piece: &[u8]) -> Option<usize>
+    pub fn completes(&self, conn: Conn, piece: &[u8]) -> Option<usize>
         requires { IsTrue (is_open self.now.rests conn) }
         ensures { result ≡ count_of (cut self.now.framing (unwrap_or (rest_of self.now.rests conn) []) piece.now) }
     {
@@ -83,7 +83,7 @@ impl Connections {
 
     /// Whether a piece of a connection is one message, with nothing before it and nothing behind it. It is a quick way to what
     /// `feed` gives: `false` says nothing.
-    pub fn is_message(&self, conn: u16, piece: &[u8]) -> bool
+    pub fn is_message(&self, conn: Conn, piece: &[u8]) -> bool
         requires { IsTrue (is_open self.now.rests conn) }
         ensures { result ≡ true → IsMessageOf self.now.framing self.now.rests conn piece.now }
     {
@@ -94,7 +94,7 @@ impl Connections {
     }
 
     /// The messages that a piece of a connection makes whole.
-    pub fn feed(&mut self, conn: u16, piece: &[u8]) -> Result<Vec<Bytes>, FrameRefusal>
+    pub fn feed(&mut self, conn: Conn, piece: &[u8]) -> Result<Vec<Bytes>, FrameRefusal>
         requires { IsTrue (is_open self.old.rests conn) }
         ensures { FeedsOne self.old conn piece.now self.new result }
     {

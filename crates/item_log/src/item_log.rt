@@ -11,7 +11,7 @@ use crate::kinds::{CLOSED, CONNECTIONS, OPENED};
 use crate::{ItemRefusal, counting};
 use links::LinkEvent;
 use msg_frame::Framing;
-use rx_base::Item;
+use rx_base::{Conn, Item};
 use std::alloc::{AllocError, Global};
 use std::collections::VecDeque;
 use std::marker::Model;
@@ -71,7 +71,7 @@ impl ItemLog {
     }
 
     /// Whether a connection is open by the events so far.
-    pub fn is_open(&self, conn: u16) -> bool
+    pub fn is_open(&self, conn: Conn) -> bool
         ensures { result ≡ is_open self.now.rests conn }
     {
         self.connections.is_open(conn)
@@ -181,7 +181,7 @@ impl ItemLog {
         }
     }
 
-    fn open(&mut self, conn: u16) -> Result<(), AllocError>
+    fn open(&mut self, conn: Conn) -> Result<(), AllocError>
         requires in_order { IsTrue (in_order self.old.rests (LinkEvent.Opens conn)) }
         requires room { received self.old + 1 ≤ self.old.max_items }
         ensures { Takes self.old (LinkEvent.Opens conn) self.new result }
@@ -191,7 +191,7 @@ impl ItemLog {
         Ok(())
     }
 
-    fn close(&mut self, conn: u16) -> Result<(), AllocError>
+    fn close(&mut self, conn: Conn) -> Result<(), AllocError>
         requires in_order { IsTrue (in_order self.old.rests (LinkEvent.Closes conn)) }
         requires room { received self.old + 1 ≤ self.old.max_items }
         ensures { Takes self.old (LinkEvent.Closes conn) self.new result }
@@ -202,7 +202,7 @@ impl ItemLog {
     }
 
     // Logs a piece that is one message.
-    fn put_message(&mut self, conn: u16, piece: &[u8]) -> Result<(), ItemRefusal>
+    fn put_message(&mut self, conn: Conn, piece: &[u8]) -> Result<(), ItemRefusal>
         requires in_order { IsTrue (in_order self.old.rests (LinkEvent.Piece conn piece.now)) }
         requires message { IsMessageOf self.old.framing self.old.rests conn piece.now }
         ensures { Logs self.old (LinkEvent.Piece conn piece.now) self.new result }
@@ -214,7 +214,7 @@ impl ItemLog {
         Ok(())
     }
 
-    fn put_messages(&mut self, conn: u16, piece: &[u8], count: usize) -> Result<(), AllocError>
+    fn put_messages(&mut self, conn: Conn, piece: &[u8], count: usize) -> Result<(), AllocError>
         requires in_order { IsTrue (in_order self.old.rests (LinkEvent.Piece conn piece.now)) }
         requires brings { HasReceived (received self.old + count) (logged self.old (LinkEvent.Piece conn piece.now)) }
         requires room { received self.old + count ≤ self.old.max_items }

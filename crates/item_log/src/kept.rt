@@ -6,7 +6,7 @@ ghost use Rattle.item_log.specs.Heard.{bare_item, message_item};
 
 use crate::counting::count_one;
 use crate::kinds::MESSAGE;
-use rx_base::{Bytes, Item};
+use rx_base::{Bytes, Conn, Item};
 use std::alloc::{AllocError, Global};
 use std::collections::VecDeque;
 
@@ -15,7 +15,7 @@ pub fn push_bare(
     alloc: Global,
     items: &mut VecDeque<Item>,
     kind: u8,
-    conn: u16,
+    conn: Conn,
 ) -> Result<(), AllocError>
     ensures ok { OnOk result (items.new.items ≡ items.old.items ++ bare_item kind conn ∷ []) }
     ensures err { OnErr result (items.new.items ≡ items.old.items) }
@@ -33,7 +33,7 @@ pub fn push_bare(
 pub fn push_message(
     alloc: Global,
     items: &mut VecDeque<Item>,
-    conn: u16,
+    conn: Conn,
     message: &[u8],
 ) -> Result<(), AllocError>
     ensures ok { OnOk result (items.new.items ≡ items.old.items ++ message_item conn message.now ∷ []) }
@@ -49,7 +49,7 @@ pub fn push_message(
 }
 
 /// Puts messages of a connection at the end, where room was made for them.
-pub fn push_messages(items: &mut VecDeque<Item>, conn: u16, messages: Vec<Bytes>)
+pub fn push_messages(items: &mut VecDeque<Item>, conn: Conn, messages: Vec<Bytes>)
     requires { deque_len items.old + length messages.items ≤ deque_capacity items.old }
     ensures { items.new.items ≡ items.old.items ++ map (message_item conn) messages.items }
 {

@@ -10,4 +10,4 @@ pub const MESSAGE: u8 = 2;
 pub const CLOSED: u8 = 3;
 
 /// How many connections there are; their numbers are below this.
-pub const CONNECTIONS: usize = links::CONNECTIONS as usize;
+pub const CONNECTIONS: usize = rx_base::CONNECTIONS as usize;

@@ -1,4 +1,5 @@
 // What is heard of a link's next event.
+use rx_base::Conn;
 
 /// What the next event was.
 #[derive(Clone, Copy, Debug, PartialEq, Eq)]
@@ -6,7 +7,7 @@ pub enum Heard {
     /// A connection opened, or sent a piece: the log has the items that it brought, of which there may be none.
     Items,
     /// A connection closed: the log has the item of it, and the ledger doesn't know of it yet.
-    Closes(u16),
+    Closes(Conn),
     /// All that is held back is asked for.
     Settles,
     /// The link has ended.
@@ -21,7 +22,7 @@ pub enum HearFault {
     /// The event is one more than a session may have.
     LimitEvents,
     /// A message of this connection is too long.
-    TooLong(u16),
+    TooLong(Conn),
     /// More items would be received than a session may receive.
     LimitItems,
     /// Taking an event failed: the link's count of failed takes rose.

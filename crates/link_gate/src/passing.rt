@@ -12,6 +12,7 @@ ghost use Rattle.link_gate.specs.Noting.{IsWithin, IsNoted};
 use crate::PassFault;
 use links::{Given, Link, LinkFault};
 use reply_ledger::Replies;
+use rx_base::Conn;
 
 /// Passes what was sent to open connections with so many items taken, or fewer, in the order of the sends: of each what its
 /// connection wasn't passed yet, as one piece. `stamp` is the number of items received so far. A connection that is gone
@@ -52,7 +53,7 @@ pub fn pass_until<K: Link>(
 pub fn pass_rest<K: Link>(
     replies: &mut Replies,
     link: &mut K,
-    conn: u16,
+    conn: Conn,
     stamp: u64,
 ) -> Result<(), PassFault>
     requires may { MayPass stamp (K.seen link.old) replies.old }
@@ -81,7 +82,7 @@ pub fn pass_rest<K: Link>(
 #[tactic(auto, using(crate::proofs::NotingLemmas::known_passed))]
 fn note(
     replies: &mut Replies,
-    conn: u16,
+    conn: Conn,
     count: usize,
     given: Result<Given, LinkFault>,
     stamp: u64,

@@ -2,9 +2,7 @@
 ghost use Rattle.std.specs.Prelude.{◌≡◌, ◌<◌, ℕ, true};
 
 use crate::LinkEvent;
-
-/// How many connections a link has.
-pub const CONNECTIONS: u16 = 4096;
+use rx_base::{CONNECTIONS, Conn};
 
 #[derive(Clone, Copy, Drop, PartialEq, Eq)]
 enum State {
@@ -33,7 +31,7 @@ impl ConnectionTable {
     }
 
     /// Whether a connection was never opened.
-    pub fn is_unopened(&self, conn: u16) -> bool
+    pub fn is_unopened(&self, conn: Conn) -> bool
         requires { conn < 4096 }
         ensures { result ≡ is_unopened (phases_in self.now conn) }
     {
@@ -45,7 +43,7 @@ impl ConnectionTable {
     }
 
     /// Whether a connection is open.
-    pub fn is_open(&self, conn: u16) -> bool
+    pub fn is_open(&self, conn: Conn) -> bool
         requires { conn < 4096 }
         ensures { result ≡ is_open (phases_in self.now conn) }
     {

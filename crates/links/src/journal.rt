@@ -1,13 +1,13 @@
 // What a link was asked and what it answered, as plain data.
-use rx_base::Bytes;
+use rx_base::{Bytes, Conn};
 
 /// What comes next over a link: a connection opens, sends a piece of bytes or closes, all output is asked for, or the
 /// link ends.
 #[derive(Debug, Drop)]
 pub enum LinkEvent {
-    Opens(u16),
-    Piece(u16, Bytes),
-    Closes(u16),
+    Opens(Conn),
+    Piece(Conn, Bytes),
+    Closes(Conn),
     Settles,
     Ends,
 }
@@ -37,5 +37,9 @@ pub enum Given {
 #[derive(Debug, Drop)]
 pub enum Entry {
     Took(LinkEvent),
-    Gave { conn: u16, bytes: Bytes, gone: bool },
+    Gave {
+        conn: Conn,
+        bytes: Bytes,
+        gone: bool,
+    },
 }

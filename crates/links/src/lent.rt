@@ -3,6 +3,7 @@ ghost use Rattle.std.specs.Prelude.{◌≡◌, refl};
 ghost use Rattle.std.proofs.Common.{◌∙◌};
 
 use crate::{Given, Link, LinkEvent, LinkFault};
+use rx_base::Conn;
 
 impl<T: Link> Link for &mut T {
     ghost seen = { λ s. T.seen s.now };
@@ -19,7 +20,7 @@ impl<T: Link> Link for &mut T {
         Link::next(&mut **self)
     }
 
-    fn give(&mut self, conn: u16, bytes: &[u8]) -> Result<Given, LinkFault> {
+    fn give(&mut self, conn: Conn, bytes: &[u8]) -> Result<Given, LinkFault> {
         Link::give(&mut **self, conn, bytes)
     }
 }

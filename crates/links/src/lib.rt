@@ -11,7 +11,7 @@ mod lent;
 mod link;
 mod memory_link;
 
-pub use connection_table::{CONNECTIONS, ConnectionTable};
+pub use connection_table::ConnectionTable;
 pub use journal::{Entry, Given, LinkEvent, LinkFault};
 pub use link::Link;
 pub use memory_link::MemoryLink;

@@ -3,6 +3,7 @@ ghost use Rattle.std.specs.Prelude.{◌≡◌, ◌^◌, ◌<◌, true, length};
 ghost use Rattle.links.specs.Seen.{Seen, IsSound, NextShows, GiveShows};
 
 use crate::{Given, LinkEvent, LinkFault};
+use rx_base::Conn;
 
 /// A link to clients over connections below 4096. Events are taken from it one after another, and pieces of output are given
 /// to its connections.
@@ -32,7 +33,7 @@ pub trait Link {
     /// # Errors
     ///
     /// `WriteFault` only where the count of failed gives rose; `Memory`. Never `Refused` or `ReadFault`.
-    fn give(&mut self, conn: u16, bytes: &[u8]) -> Result<Given, LinkFault>
+    fn give(&mut self, conn: Conn, bytes: &[u8]) -> Result<Given, LinkFault>
         requires may { (seen self.old).gives ≡ true }
         requires connected { (seen self.old).gives_to conn ≡ true }
         requires some { 0 < length bytes.now }

@@ -5,7 +5,7 @@ ghost use Rattle.links.specs.ConnectionTables.{phases_in, is_in_order};
 ghost use Rattle.links.specs.MemoryLinks.{event_or_ends, gone_at, given_of, IsWithin, AnswersAs, taken_after, counts_in, counts_after_next, counts_after_give, after_taking, after_giving};
 
 use crate::{ConnectionTable, Entry, Given, Link, LinkEvent, LinkFault};
-use rx_base::{Bytes, Fails};
+use rx_base::{Bytes, Conn, Fails};
 use std::alloc::{AllocError, Global};
 
 // How often a link has failed to take and to give, and how often a connection was gone.
@@ -26,7 +26,7 @@ pub struct MemoryLink {
     gones: Vec<(u64, usize)>,
     table: ConnectionTable,
     journal: Vec<Entry>,
-    handed: Option<(u16, usize)>,
+    handed: Option<(Conn, usize)>,
     takes: bool,
     gives: bool,
     counts: LinkCounts,
@@ -142,7 +142,7 @@ fn given_at(call: u64, gones: &[(u64, usize)], len: usize) -> Given
 fn note_given(
     alloc: Global,
     journal: &mut Vec<Entry>,
-    conn: u16,
+    conn: Conn,
     bytes: &[u8],
     given: Given,
 ) -> Result<Given, LinkFault>
@@ -239,7 +239,7 @@ impl MemoryLink {
     }
 
     // The answer of a `give`, before its fault is counted.
-    fn play_give(&mut self, conn: u16, bytes: &[u8]) -> Result<Given, LinkFault>
+    fn play_give(&mut self, conn: Conn, bytes: &[u8]) -> Result<Given, LinkFault>
         ensures answer { AnswersAs (planned_give (length bytes.now) (link_script self.old)) result }
         ensures script { link_script self.new ≡ after_script_call (link_script self.old) }
         ensures journal { link_journal self.new ≡ after_giving conn bytes.now (link_journal self.old) result }
@@ -287,7 +287,7 @@ impl Link for MemoryLink {
     }
 
     /// Gives a piece, as the call's number has it.
-    fn give(&mut self, conn: u16, bytes: &[u8]) -> Result<Given, LinkFault>
+    fn give(&mut self, conn: Conn, bytes: &[u8]) -> Result<Given, LinkFault>
         requires may { (seen_in self.old).gives ≡ true }
         requires connected { (seen_in self.old).gives_to conn ≡ true }
         requires some { 0 < length bytes.now }

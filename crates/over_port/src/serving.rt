@@ -11,7 +11,7 @@ use port_link::PortLink;
 use run_history::Answer;
 use rx_engine::Session;
 use rx_io::Listener;
-use rx_base::Steps;
+use rx_base::{Conn, Steps};
 use session_notes::Notes;
 use std::alloc::Global;
 use std::sync::ledger::Ledger;
@@ -25,7 +25,7 @@ pub fn serve_port<R: AccessRule, E: Listener, N: Notes, T: Teller, L: Ledger>(
     alloc: Global,
     session: &mut Session<R>,
     listener: &mut E,
-    conns: u16,
+    conns: Conn,
     notes: &mut N,
     teller: &T,
     steps: &mut Steps<L>,

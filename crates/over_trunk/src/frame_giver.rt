@@ -1,6 +1,7 @@
 // Who gives the sends of a replay to a trunk.
 use links::{Given, Link, LinkFault};
 use replay::Giver;
+use rx_base::Conn;
 use rx_io::{Sink, Source};
 use trunk_wire::TrunkLink;
 
@@ -18,7 +19,7 @@ impl<S: Source, K: Sink> Giver<TrunkLink<S, K>> for FrameGiver {
     fn give(
         &self,
         link: &mut TrunkLink<S, K>,
-        conn: u16,
+        conn: Conn,
         bytes: &[u8],
     ) -> Result<Given, LinkFault> {
         link.give(conn, bytes)

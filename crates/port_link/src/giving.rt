@@ -9,7 +9,7 @@ ghost use Rattle.port_link.specs.Gives.{GivesTo, GivesPiece};
 use crate::place::{Place, Stage, stage_behind};
 use links::{Given, LinkFault};
 use rx_io::Listener;
-use rx_base::IoFault;
+use rx_base::{Conn, IoFault};
 
 // Gives bytes to the present connection, over as many calls as it wants.
 fn give_piece<N: Listener>(listener: &mut N, bytes: &[u8]) -> Result<Given, LinkFault>
@@ -40,7 +40,7 @@ fn give_piece<N: Listener>(listener: &mut N, bytes: &[u8]) -> Result<Given, Link
 pub fn give_present<N: Listener>(
     listener: &mut N,
     place: &mut Place,
-    conns: u16,
+    conns: Conn,
     bytes: &[u8],
 ) -> Result<Given, LinkFault>
     requires present { is_present place.old.stage ≡ true }

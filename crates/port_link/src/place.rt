@@ -3,6 +3,7 @@ ghost use Rattle.std.specs.Prelude.{◌≡◌};
 ghost use Rattle.port_link.specs.Stages.{is_present, stage_behind};
 
 use links::{Given, LinkFault};
+use rx_base::Conn;
 
 /// What was answered of the present connection.
 #[derive(Clone, Copy, Debug, Drop)]
@@ -22,7 +23,7 @@ pub enum Stage {
 /// The number of the present connection, or of the next one: so many were closed. Its stage, and how often `Ends` was answered.
 #[derive(Debug, Drop)]
 pub struct Place {
-    pub conn: u16,
+    pub conn: Conn,
     pub stage: Stage,
     pub ends: u64,
 }

@@ -9,6 +9,7 @@ use crate::giving::give_present;
 use crate::place::{Place, Stage};
 use crate::taking::next_event;
 use links::{Given, Link, LinkEvent, LinkFault};
+use rx_base::Conn;
 use rx_io::Listener;
 use std::alloc::Global;
 
@@ -19,9 +20,9 @@ use std::alloc::Global;
 pub struct PortLink<N: Listener> {
     alloc: Global,
     listener: N,
-    conns: u16,
+    conns: Conn,
     place: Place,
-    handed: Option<(u16, usize)>,
+    handed: Option<(Conn, usize)>,
     takes: bool,
     gives: bool,
     gones: u64,
@@ -47,7 +48,7 @@ impl<N: Listener> PortLink<N> {
 
     /// No connection was accepted. The listener was bound, and no connection was accepted since. It takes no memory; `alloc` is for
     /// the pieces to come.
-    pub fn make(alloc: Global, listener: N, conns: u16) -> PortLink<N>
+    pub fn make(alloc: Global, listener: N, conns: Conn) -> PortLink<N>
         requires some { 1 ≤ conns }
         requires few { conns ≤ 4096 }
         requires bound { IsJustBound (N.told listener) }
@@ -103,7 +104,7 @@ impl<N: Listener> Link for PortLink<N> {
     }
 
     /// Gives a piece to the present connection. Where a give fails, the connection is gone.
-    fn give(&mut self, conn: u16, bytes: &[u8]) -> Result<Given, LinkFault>
+    fn give(&mut self, conn: Conn, bytes: &[u8]) -> Result<Given, LinkFault>
         requires may { (seen_of N.told N.faults self.old).gives ≡ true }
         requires connected { (seen_of N.told N.faults self.old).gives_to conn ≡ true }
         requires some { 0 < length bytes.now }

@@ -7,11 +7,11 @@ ghost use Rattle.port_link.specs.Steps.{StepsTo, TakesPiece, TakesNext, HasOpenC
 use crate::place::{Place, Stage};
 use links::{LinkEvent, LinkFault};
 use rx_io::Listener;
-use rx_base::{Bytes, IoFault};
+use rx_base::{Bytes, Conn, IoFault};
 use std::alloc::Global;
 
 // Closes the present connection, of which nothing more is answered.
-fn close_present<N: Listener>(listener: &mut N, place: &mut Place, conns: u16)
+fn close_present<N: Listener>(listener: &mut N, place: &mut Place, conns: Conn)
     requires done { is_done place.old.stage ≡ true }
     requires stands { Stands (N.told listener.old) (N.present listener.old) conns place.old }
     ensures place { place.new ≡ closed_place place.old }
@@ -40,7 +40,7 @@ fn read_fault(fault: IoFault) -> LinkFault
 fn open_next<N: Listener>(
     listener: &mut N,
     place: &mut Place,
-    conns: u16,
+    conns: Conn,
 ) -> Result<LinkEvent, LinkFault>
     requires waits { place.old.stage ≡ Stage.Waiting }
     requires few { conns ≤ 4096 }
@@ -92,7 +92,7 @@ fn take_next<N: Listener>(
     alloc: Global,
     listener: &mut N,
     place: &mut Place,
-    conns: u16,
+    conns: Conn,
 ) -> Result<LinkEvent, LinkFault>
     requires opened { place.old.stage ≡ Stage.Open }
     requires few { conns ≤ 4096 }
@@ -117,7 +117,7 @@ fn take_next<N: Listener>(
 fn close_and_open<N: Listener>(
     listener: &mut N,
     place: &mut Place,
-    conns: u16,
+    conns: Conn,
 ) -> Result<LinkEvent, LinkFault>
     requires done { is_done place.old.stage ≡ true }
     requires few { conns ≤ 4096 }
@@ -135,7 +135,7 @@ pub fn next_event<N: Listener>(
     alloc: Global,
     listener: &mut N,
     place: &mut Place,
-    conns: u16,
+    conns: Conn,
 ) -> Result<LinkEvent, LinkFault>
     requires few { conns ≤ 4096 }
     requires stands { Stands (N.told listener.old) (N.present listener.old) conns place.old }

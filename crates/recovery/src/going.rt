@@ -17,7 +17,7 @@ use guest_cpu::{Cpu, Event};
 use guest_space::AccessRule;
 use item_log::ItemLog;
 use reply_ledger::Replies;
-use rx_base::{Bytes, Steps};
+use rx_base::{Bytes, Conn, Steps};
 use session_notes::Tried;
 use std::alloc::AllocError;
 use std::sync::ledger::Ledger;
@@ -37,7 +37,7 @@ fn judge(survived: Tried, replies: &Replies) -> Tried
 // The trial sent bytes: they are noted, and compared with what was passed.
 fn emit(
     replies: &mut Replies,
-    conn: u16,
+    conn: Conn,
     bytes: Bytes,
     taken: u64,
 ) -> Result<Option<Tried>, AllocError>

@@ -3,6 +3,7 @@ ghost use Rattle.std.specs.Prelude.{◌≡◌, ◌^◌, ◌<◌, ℕ, true, List
 ghost use Rattle.links.specs.Seen.{GiveShows};
 
 use links::{Given, Link, LinkFault};
+use rx_base::Conn;
 
 /// Gives a send to a link. Its one call is a `give` of the link, of which more may be known than each link says.
 pub trait Giver<K: Link> {
@@ -10,7 +11,7 @@ pub trait Giver<K: Link> {
     ghost Gave: { K → K → ℕ → List ℕ → Type 0 };
 
     /// Gives 1 to 65,535 bytes to a connection, as `give` of a link does.
-    fn give(&self, link: &mut K, conn: u16, bytes: &[u8]) -> Result<Given, LinkFault>
+    fn give(&self, link: &mut K, conn: Conn, bytes: &[u8]) -> Result<Given, LinkFault>
         requires may { (K.seen link.old).gives ≡ true }
         requires connected { (K.seen link.old).gives_to conn ≡ true }
         requires some { 0 < length bytes.now }
@@ -29,7 +30,7 @@ impl<K: Link> Giver<K> for AnyGiver {
 
     ghost Gave = { WasHanded K.seen };
 
-    fn give(&self, link: &mut K, conn: u16, bytes: &[u8]) -> Result<Given, LinkFault> {
+    fn give(&self, link: &mut K, conn: Conn, bytes: &[u8]) -> Result<Given, LinkFault> {
         link.give(conn, bytes)
     }
 }

@@ -12,7 +12,7 @@ use crate::hearing::answer_to;
 use crate::player::Player;
 use links::{Given, Link};
 use run_history::Answer;
-use rx_base::Bytes;
+use rx_base::{Bytes, Conn};
 
 impl Player {
     // Gives what the guest has just sent, as one piece. Nothing is given to a connection that was found gone.
@@ -20,7 +20,7 @@ impl Player {
         &mut self,
         giver: &G,
         link: &mut K,
-        conn: u16,
+        conn: Conn,
         bytes: &Bytes,
     ) -> Result<(), Answer>
         requires sends { StandsSending (K.seen link.old) conn bytes.now (stage_of self.old) }
@@ -32,13 +32,13 @@ impl Player {
         ensures link { LinkTurns (K.seen link.old) (K.seen link.new) result }
         ensures went { K.Went link.old link.new }
     {
-        if self.gone.has(u32::from(conn)) {
+        if self.gone.has(conn) {
             return Ok(());
         }
         match giver.give(link, conn, bytes.as_slice()) {
             Ok(Given::All) => Ok(()),
             Ok(Given::Gone(_)) => {
-                self.gone.add(u32::from(conn));
+                self.gone.add(conn);
                 Ok(())
             }
             Err(fault) => Err(answer_to(fault)),

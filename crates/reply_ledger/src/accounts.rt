@@ -7,9 +7,10 @@ ghost use Rattle.reply_ledger.specs.Accounts.{new_account, account_at, is_covere
 
 use crate::account::Account;
 use indexmap::IndexMap;
+use rx_base::Conn;
 use std::alloc::{AllocError, Global};
 
-pub type Accounts = IndexMap<u16, Account>;
+pub type Accounts = IndexMap<Conn, Account>;
 
 /// Where a connection's stream stands: where the bytes of the sends that aren't kept any more end, those that were passed, and the stream
 /// that is being written.
@@ -22,7 +23,7 @@ pub struct StreamPlaces {
 
 /// Opens a connection that wasn't opened before.
 #[tactic(auto, using(crate::proofs::AccountLemmas::opening))]
-pub fn open(accounts: &mut Accounts, alloc: Global, conn: u16) -> Result<(), AllocError>
+pub fn open(accounts: &mut Accounts, alloc: Global, conn: Conn) -> Result<(), AllocError>
     requires { lookup (nat_eq conn) accounts.old.entries ≡ None }
     ensures ok { OnOk result (accounts.new.entries ≡ accounts.old.entries ++ (conn, new_account) ∷ []) }
     ensures err { OnErr result (accounts.new.entries ≡ accounts.old.entries) }
@@ -34,7 +35,7 @@ pub fn open(accounts: &mut Accounts, alloc: Global, conn: u16) -> Result<(), All
 
 /// Marks a connection closed.
 #[tactic(auto, using(crate::proofs::AccountLemmas::writing))]
-pub fn close(accounts: &mut Accounts, conn: u16)
+pub fn close(accounts: &mut Accounts, conn: Conn)
     ensures { accounts.new.entries ≡ set_value (nat_eq conn) accounts.old.entries (record (account_at accounts.old.entries conn) { closed = true }) }
 {
     if let Some(account) = accounts.get_mut(&conn) {
@@ -44,7 +45,7 @@ pub fn close(accounts: &mut Accounts, conn: u16)
 
 /// Marks a connection gone.
 #[tactic(auto, using(crate::proofs::AccountLemmas::writing))]
-pub fn leave(accounts: &mut Accounts, conn: u16)
+pub fn leave(accounts: &mut Accounts, conn: Conn)
     ensures { accounts.new.entries ≡ set_value (nat_eq conn) accounts.old.entries (record (account_at accounts.old.entries conn) { gone = true }) }
 {
     if let Some(account) = accounts.get_mut(&conn) {
@@ -54,7 +55,7 @@ pub fn leave(accounts: &mut Accounts, conn: u16)
 
 /// Whether a connection is open.
 #[tactic(auto, unfolding(crate::specs::Accounts::account_at))]
-pub fn is_open(accounts: &Accounts, conn: u16) -> bool
+pub fn is_open(accounts: &Accounts, conn: Conn) -> bool
     ensures { result ≡ is_open_account (account_at accounts.now.entries conn) }
 {
     match accounts.get(&conn) {
@@ -65,7 +66,7 @@ pub fn is_open(accounts: &Accounts, conn: u16) -> bool
 
 /// Where the bytes end that were passed to a connection.
 #[tactic(auto, unfolding(crate::specs::Accounts::account_at))]
-pub fn passed(accounts: &Accounts, conn: u16) -> u64
+pub fn passed(accounts: &Accounts, conn: Conn) -> u64
     ensures { result ≡ passed_end (account_at accounts.now.entries conn) }
 {
     match accounts.get(&conn) {
@@ -76,7 +77,7 @@ pub fn passed(accounts: &Accounts, conn: u16) -> u64
 
 /// Where a connection's stream ends that is being written.
 #[tactic(auto, unfolding(crate::specs::Accounts::account_at))]
-pub fn end(accounts: &Accounts, conn: u16) -> u64
+pub fn end(accounts: &Accounts, conn: Conn) -> u64
     ensures { result ≡ (account_at accounts.now.entries conn).end }
 {
     match accounts.get(&conn) {
@@ -87,7 +88,7 @@ pub fn end(accounts: &Accounts, conn: u16) -> u64
 
 /// Where a connection's stream stands.
 #[tactic(auto, unfolding(crate::specs::Accounts::account_at))]
-pub fn places(accounts: &Accounts, conn: u16) -> StreamPlaces
+pub fn places(accounts: &Accounts, conn: Conn) -> StreamPlaces
     ensures earlier { result.earlier ≡ (account_at accounts.now.entries conn).earlier }
     ensures passed { result.passed ≡ passed_end (account_at accounts.now.entries conn) }
     ensures end { result.end ≡ (account_at accounts.now.entries conn).end }
@@ -109,7 +110,7 @@ pub fn places(accounts: &Accounts, conn: u16) -> StreamPlaces
 /// Moves the end of a connection's stream by so many bytes, and answers where it is then, and whether the connection is open: nothing, where
 /// the end would pass 2^64 - 1, or where it wasn't opened.
 #[tactic(auto, using(crate::proofs::AccountLemmas::writing))]
-pub fn send(accounts: &mut Accounts, conn: u16, count: u64) -> Option<(u64, bool)>
+pub fn send(accounts: &mut Accounts, conn: Conn, count: u64) -> Option<(u64, bool)>
     ensures end { IfSome result (λ at. at.0 ≡ (account_at accounts.old.entries conn).end + count) }
     ensures opened { IfSome result (λ at. at.1 ≡ is_open_account (account_at accounts.old.entries conn)) }
     ensures moved { OnSome result (accounts.new.entries ≡ set_value (nat_eq conn) accounts.old.entries (record (account_at accounts.old.entries conn) { end = (account_at accounts.old.entries conn).end + count })) }
@@ -129,7 +130,7 @@ pub fn send(accounts: &mut Accounts, conn: u16, count: u64) -> Option<(u64, bool
 
 /// Moves the end of a connection's stream.
 #[tactic(auto, using(crate::proofs::AccountLemmas::writing))]
-pub fn set_end(accounts: &mut Accounts, conn: u16, end: u64)
+pub fn set_end(accounts: &mut Accounts, conn: Conn, end: u64)
     ensures { accounts.new.entries ≡ set_value (nat_eq conn) accounts.old.entries (record (account_at accounts.old.entries conn) { end = end }) }
 {
     if let Some(account) = accounts.get_mut(&conn) {
@@ -139,7 +140,7 @@ pub fn set_end(accounts: &mut Accounts, conn: u16, end: u64)
 
 /// The next so many bytes of a connection's stream were passed at a stamp.
 #[tactic(auto, using(crate::proofs::AccountLemmas::writing))]
-pub fn pass(accounts: &mut Accounts, conn: u16, count: usize, stamp: u64) -> Result<(), AllocError>
+pub fn pass(accounts: &mut Accounts, conn: Conn, count: usize, stamp: u64) -> Result<(), AllocError>
     requires { passed_end (account_at accounts.old.entries conn) + count ≤ (account_at accounts.old.entries conn).end }
     ensures ok { OnOk result (accounts.new.entries ≡ set_value (nat_eq conn) accounts.old.entries (record (account_at accounts.old.entries conn) { stamps = (account_at accounts.old.entries conn).stamps ++ replicate count stamp })) }
     ensures err { OnErr result (accounts.new.entries ≡ accounts.old.entries) }
@@ -152,7 +153,7 @@ pub fn pass(accounts: &mut Accounts, conn: u16, count: usize, stamp: u64) -> Res
 
 /// Gives up the oldest bytes of a connection's stream.
 #[tactic(auto, using(crate::proofs::AccountLemmas::writing))]
-pub fn give_up(accounts: &mut Accounts, conn: u16, count: u64)
+pub fn give_up(accounts: &mut Accounts, conn: Conn, count: u64)
     requires { (account_at accounts.old.entries conn).earlier + count ≤ (account_at accounts.old.entries conn).end }
     ensures { accounts.new.entries ≡ set_value (nat_eq conn) accounts.old.entries (record (account_at accounts.old.entries conn) { earlier = (account_at accounts.old.entries conn).earlier + count; stamps = drop count (account_at accounts.old.entries conn).stamps }) }
 {

@@ -14,7 +14,7 @@ use crate::comparing::compare;
 use crate::entry::{Entry, part_of, rest_of};
 use crate::sends::{drop_oldest, first_of_more, first_waiting, first_with_rest, recount, reserve};
 use indexmap::IndexMap;
-use rx_base::Bytes;
+use rx_base::{Bytes, Conn};
 use std::alloc::{AllocError, Global};
 use std::collections::VecDeque;
 use std::marker::Model;
@@ -77,7 +77,7 @@ impl Replies {
 
     /// Opens a connection that wasn't opened before.
     #[tactic(auto, using(crate::proofs::StandsLemmas::opening))]
-    pub fn opens(&mut self, conn: u16) -> Result<(), AllocError>
+    pub fn opens(&mut self, conn: Conn) -> Result<(), AllocError>
         requires { connection_of self.old.connections conn ≡ None }
         ensures ok { OnOk result (self.new ≡ with_connection self.old conn) }
         ensures err { OnErr result (self.new ≡ self.old) }
@@ -88,7 +88,7 @@ impl Replies {
 
     /// Marks a connection closed. Nothing more is due on it.
     #[tactic(auto, using(crate::proofs::StandsLemmas::changing))]
-    pub fn closes(&mut self, conn: u16)
+    pub fn closes(&mut self, conn: Conn)
         requires { IsOpened self.old conn }
         ensures { self.new ≡ with_change self.old conn closed_connection }
     {
@@ -98,7 +98,7 @@ impl Replies {
 
     /// Marks a connection gone: its link takes nothing more.
     #[tactic(auto, using(crate::proofs::StandsLemmas::changing))]
-    pub fn gone(&mut self, conn: u16)
+    pub fn gone(&mut self, conn: Conn)
         requires { IsOpened self.old conn }
         ensures { self.new ≡ with_change self.old conn gone_connection }
     {
@@ -108,7 +108,7 @@ impl Replies {
 
     /// Whether a connection was opened, wasn't closed, and isn't gone.
     #[tactic(auto, using(crate::proofs::StandsLemmas::opened))]
-    pub fn is_open(&self, conn: u16) -> bool
+    pub fn is_open(&self, conn: Conn) -> bool
         ensures { result ≡ is_open self.now.connections conn }
     {
         accounts::is_open(&self.accounts, conn)
@@ -116,7 +116,7 @@ impl Replies {
 
     /// A send of the survivor, made with so many items taken. After an `Err` the handed bytes are given up.
     #[tactic(auto, using(crate::proofs::StandsLemmas::sending))]
-    pub fn sent(&mut self, conn: u16, bytes: Bytes, taken: u64) -> Result<(), AllocError>
+    pub fn sent(&mut self, conn: Conn, bytes: Bytes, taken: u64) -> Result<(), AllocError>
         requires opened { IsOpened self.old conn }
         requires nonempty { 0 < length bytes }
         requires survivor { self.old.trial ≡ None }
@@ -157,7 +157,7 @@ impl Replies {
 
     /// A send of the trial, made with so many items taken: whether it differs at no place from what was passed. After an `Err` the handed
     /// bytes are given up.
-    pub fn trial_sent(&mut self, conn: u16, bytes: Bytes, taken: u64) -> Result<bool, AllocError>
+    pub fn trial_sent(&mut self, conn: Conn, bytes: Bytes, taken: u64) -> Result<bool, AllocError>
         requires opened { IsOpened self.old conn }
         requires nonempty { 0 < length bytes }
         requires trial { IsSome self.old.trial }
@@ -241,7 +241,7 @@ impl Replies {
     /// The first part that wasn't passed, of a send to an open connection that was made with so many items taken at most: its connection
     /// and its bytes, of which there is at least one.
     #[tactic(auto, using(crate::proofs::StandsLemmas::nexting))]
-    pub fn next_piece(&self, until: u64) -> Option<(u16, &[u8])>
+    pub fn next_piece(&self, until: u64) -> Option<(Conn, &[u8])>
         ensures { option_map (λ piece. (piece.0, piece.1.now)) result ≡ option_map shown_part (next_part self.now until) }
     {
         if self.next >= self.sends.len() {
@@ -259,7 +259,7 @@ impl Replies {
 
     /// The first part of one connection that wasn't passed, whenever it was sent, and whether or not the connection is open.
     #[tactic(auto, using(crate::proofs::StandsLemmas::resting))]
-    pub fn rest_of(&self, conn: u16) -> Option<&[u8]>
+    pub fn rest_of(&self, conn: Conn) -> Option<&[u8]>
         requires { IsOpened self.now conn }
         ensures { option_copied result ≡ option_map (λ part. part.bytes) (rest_part self.now conn) }
     {
@@ -276,7 +276,7 @@ impl Replies {
 
     /// The next bytes of a connection's stream were passed with so many items received.
     #[tactic(auto, using(crate::proofs::StandsLemmas::changing))]
-    pub fn passed(&mut self, conn: u16, count: usize, stamp: u64) -> Result<(), AllocError>
+    pub fn passed(&mut self, conn: Conn, count: usize, stamp: u64) -> Result<(), AllocError>
         requires survivor { self.old.trial ≡ None }
         requires opened { IsOpened self.old conn }
         requires sent { length (passed_to self.old conn) + count ≤ length (sent_to conn self.old.kept) }

@@ -10,6 +10,7 @@ use crate::account::first_left;
 use crate::accounts;
 use crate::accounts::Accounts;
 use crate::entry::{Entry, rest_of};
+use rx_base::Conn;
 use std::alloc::AllocError;
 use std::collections::VecDeque;
 
@@ -52,7 +53,7 @@ pub fn first_of_more(next: usize, count: usize, opened: bool) -> usize
 
 /// A place before which no send has anything of a connection that wasn't passed: the place of the first that may still be passed, where the
 /// connection is open.
-pub fn first_with_rest(accounts: &Accounts, conn: u16, next: usize) -> usize
+pub fn first_with_rest(accounts: &Accounts, conn: Conn, next: usize) -> usize
     ensures { result ≡ (if is_open_account (account_at accounts.now.entries conn) then next else 0) }
 {
     first_left(accounts::is_open(accounts, conn), next)

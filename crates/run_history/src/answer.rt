@@ -1,4 +1,5 @@
 // How a command ends.
+use rx_base::Conn;
 
 /// Why a guest program fails: the sensor that fires at an instruction. The failing instruction changes nothing.
 #[derive(Clone, Copy, Debug, PartialEq, Eq)]
@@ -39,7 +40,7 @@ pub enum Answer {
     /// The file of counts has no reading from this line on.
     CountsRefused { line: u32 },
     /// The client of this connection has more bytes than the run that was followed sent it.
-    Short { conn: u16 },
+    Short { conn: Conn },
     /// The run isn't the one that a record or a report tells of, from so many steps on.
     Mismatch { step: u64 },
     /// A loaded file has more bytes than its limit.
@@ -47,7 +48,7 @@ pub enum Answer {
     /// The input has no frame at this offset, by the number of the refusal.
     InputRefused { kind: u8, offset: u64 },
     /// A message of this connection is too long.
-    MessageTooLong { conn: u16 },
+    MessageTooLong { conn: Conn },
     /// The program failed with so many items taken, and nothing helped.
     GaveUp { point: u64, cause: Cause },
     /// More items came than a session may receive.

@@ -4,6 +4,7 @@ use crate::sentences::{RunMessage, recorded_window, refused_field};
 use crate::standby_sentences::write_refused_counts;
 use command_line::ResumeCommand;
 use run_history::Answer;
+use rx_base::Conn;
 use rx_io::{Files, StdFiles};
 use rx_serve::{MAX_COUNTS, MAX_PROGRAM, MAX_RECORD, MAX_REPORT};
 use schedule_file::{VERSION, read_unfinished};
@@ -107,7 +108,7 @@ impl ResumeMessage<'_> {
         )
     }
 
-    fn short<W: fmt::Write>(&self, f: &mut fmt::Formatter<W>, conn: u16) -> fmt::Result {
+    fn short<W: fmt::Write>(&self, f: &mut fmt::Formatter<W>, conn: Conn) -> fmt::Result {
         let recorded = self.recorded;
         let counts = self.counts;
         write!(

@@ -10,6 +10,7 @@ use crate::Session;
 use guest_space::AccessRule;
 use link_gate::{PassFault, pass_rest, pass_until};
 use links::Link;
+use rx_base::Conn;
 use session_history::{SessionBreak, Stop};
 
 impl<R: AccessRule> Session<R> {
@@ -43,7 +44,7 @@ impl<R: AccessRule> Session<R> {
     }
 
     /// Passes all that was sent to a connection whose close was just heard, unless it is gone, and marks it closed.
-    pub(crate) fn close<K: Link>(&mut self, link: &mut K, conn: u16) -> Result<(), Stop>
+    pub(crate) fn close<K: Link>(&mut self, link: &mut K, conn: Conn) -> Result<(), Stop>
         requires { StandsClosing (K.seen link.old) conn self.old }
         ensures passes { (rules : Rules) (image : Image) (began : Since) (story : Story) → rules.hold ≡ self.old.hold → IsToldBy rules image began (K.seen link.old) story self.old → IsClosing rules (sends story) (moment story) conn self.old.replies
             → PassesDue rules image began (K.seen link.new) story self.new result }

@@ -17,7 +17,7 @@ ghost use Rattle.session_following.specs.Turning.{HasRunOn, StandsRun, TurnsTo};
 
 use crate::Session;
 use guest_space::AccessRule;
-use rx_base::Bytes;
+use rx_base::{Bytes, Conn};
 use session_following::remembering::Sent;
 use session_following::{Missing, Turned, Unfollowed, note_held};
 use session_history::{SessionBreak, Stop};
@@ -28,7 +28,7 @@ impl<R: AccessRule> Session<R> {
     pub(crate) fn follow_send(
         &mut self,
         missing: &mut Missing,
-        conn: u16,
+        conn: Conn,
         bytes: Bytes,
     ) -> Result<Turned, Unfollowed>
         requires { (handed : Handed) × StandsRun (rules_by R.rule self.old) handed missing.old (event.Emits conn bytes) self.old }

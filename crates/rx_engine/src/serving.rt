@@ -18,7 +18,7 @@ use link_gate::pass_until;
 use links::Link;
 use recovery::{NoWatch, Watch};
 use run_history::Answer;
-use rx_base::{Bytes, Steps};
+use rx_base::{Bytes, Conn, Steps};
 use session_history::{SessionBreak, SessionEnd, Stop};
 use session_notes::Notes;
 use std::sync::ledger::Ledger;
@@ -213,7 +213,7 @@ impl<R: AccessRule> Session<R> {
     }
 
     // The guest sent bytes to a connection.
-    fn send<K: Link>(&mut self, link: &mut K, conn: u16, bytes: Bytes) -> Result<(), Stop>
+    fn send<K: Link>(&mut self, link: &mut K, conn: Conn, bytes: Bytes) -> Result<(), Stop>
         requires { StandsEmitting (rules_by R.rule self.old) (K.seen link.old) conn bytes self.old }
         ensures turns { (image : Image) (began : Since) (lost : ℕ) → (K.seen link.old).takes ≡ true → HasRun (rules_by R.rule self.old) image began (K.seen link.old) (event.Emits conn bytes) self.old
             → lost + self.new.steps ≡ began.lost + self.old.cpu.slots.live.steps

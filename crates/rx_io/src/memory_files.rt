@@ -5,10 +5,9 @@ ghost use Rattle.rx_io.specs.Named.{Loads, Starts, Adds};
 ghost use Rattle.rx_base.specs.Planned.{fails_next, after_call, after_load, first_plan, FailsBy, LoadFailsBy};
 ghost use Rattle.rx_io.specs.Shelves.{found, LeavesNone};
 
-use rx_base::Fails;
-use crate::shelf::Shelf;
 use crate::Files;
-use rx_base::{IoFault, LoadFault};
+use crate::shelf::Shelf;
+use rx_base::{Fails, IoFault, LoadFault};
 use std::alloc::Global;
 
 /// Named files of which the calls with given numbers fail.

@@ -4,9 +4,8 @@ ghost use Rattle.std.specs.Io.KnownBytes.{WriteAppends};
 ghost use Rattle.rx_base.specs.Faults.{HasCause};
 ghost use Rattle.rx_base.specs.Planned.{GivesBy, fails_next, after_call, first_plan};
 
-use rx_base::Fails;
 use crate::{Sink, TameSink};
-use rx_base::IoFault;
+use rx_base::{Fails, IoFault};
 use std::alloc::Global;
 
 /// A sink that keeps its bytes, and of which the calls with given numbers fail.

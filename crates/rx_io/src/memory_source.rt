@@ -3,9 +3,8 @@ ghost use Rattle.std.specs.Prelude.{◌≡◌, ℕ, ◌<◌, ◌≤◌, length, 
 ghost use Rattle.rx_base.specs.Faults.{HasCause};
 ghost use Rattle.rx_base.specs.Taking.{Takes};
 
-use rx_base::Fails;
 use crate::{Source, TameSource};
-use rx_base::IoFault;
+use rx_base::{Fails, IoFault};
 
 /// A list of bytes as a source of which the calls with given numbers fail.
 #[derive(Drop)]

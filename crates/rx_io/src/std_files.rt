@@ -3,8 +3,8 @@ ghost use Rattle.std.specs.Prelude.{◌≡◌, ◌≤◌, None, IfOk, true, vec_
 ghost use Rattle.std.specs.Io.KnownBytes.{Appends};
 ghost use Rattle.rx_io.specs.Reading.{ReadsWhole};
 
-use crate::attempts::{TRIES, read_some, write_some};
 use crate::Files;
+use crate::attempts::{TRIES, read_some, write_some};
 use rx_base::{IoFault, LoadFault};
 use std::alloc::Global;
 use std::fs::OpenOptions;

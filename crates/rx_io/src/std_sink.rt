@@ -1,8 +1,8 @@
 // The standard output as a sink.
 ghost use Rattle.std.specs.Prelude.{◌≡◌, None};
 
-use crate::attempts::write_some;
 use crate::Sink;
+use crate::attempts::write_some;
 use rx_base::IoFault;
 use std::io;
 

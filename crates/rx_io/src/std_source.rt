@@ -1,8 +1,8 @@
 // The standard input as a source.
 ghost use Rattle.std.specs.Prelude.{◌≡◌, None};
 
-use crate::read_ahead::ReadAhead;
 use crate::Source;
+use crate::read_ahead::ReadAhead;
 use rx_base::IoFault;
 
 /// The standard input, of which nothing is told. It reads ahead of what is asked for, up to 4096 bytes by one system read, and

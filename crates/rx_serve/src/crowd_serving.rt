@@ -33,7 +33,7 @@ use over_crowd::serve_crowd;
 use run_history::Answer;
 use rx_engine::Session;
 use rx_io::Files;
-use rx_base::Steps;
+use rx_base::{Conn, Steps};
 use std::alloc::Global;
 use std::sync::ledger::Ledger;
 use telling::Teller;
@@ -67,7 +67,7 @@ fn serve_crowd_noted<R: AccessRule, F: Files, C: Crowd, T: Teller, L: Ledger>(
     };
     let mut notes = FileNotes::make(alloc, &mut *files, names, report_form(serve.session.form));
     let limits = Limits {
-        conns: serve.conns as u16,
+        conns: serve.conns as Conn,
         at_once: serve.at_once as u16,
     };
     let answer = serve_crowd(alloc, session, crowd, limits, &mut notes, teller, steps);

@@ -30,7 +30,7 @@ use over_port::serve_port;
 use run_history::Answer;
 use rx_engine::Session;
 use rx_io::{Files, Listener};
-use rx_base::{IoFault, Steps};
+use rx_base::{Conn, IoFault, Steps};
 use std::alloc::Global;
 use std::sync::ledger::Ledger;
 use telling::Teller;
@@ -72,7 +72,7 @@ fn serve_port_noted<R: AccessRule, F: Files, E: Listener, T: Teller, L: Ledger>(
         report: serve.session.report,
     };
     let mut notes = FileNotes::make(alloc, &mut *files, names, report_form(serve.session.form));
-    let conns = serve.conns as u16;
+    let conns = serve.conns as Conn;
     let answer = serve_port(alloc, session, listener, conns, &mut notes, teller, steps);
     let _ = notes.is_whole();
     answer

@@ -10,6 +10,7 @@ ghost use Rattle.session_following.specs.Judging.{Agree, HasFiles, IsBehind, IsE
 use crate::handed_over::{HandedOver, Place};
 use crate::missing::Missing;
 use block_book::Choice;
+use rx_base::Conn;
 use session_notes::Episode;
 
 /// How a run stands where it can be judged: at its request for an item, at its exit, or at a failure.
@@ -30,7 +31,7 @@ pub enum Judged {
     /// Record and report aren't of this program and these items.
     Unlike,
     /// The client of this connection has more than was sent to it.
-    Short(u16),
+    Short(Conn),
 }
 
 // Whether it is past the failure of the last episode, if there is one.

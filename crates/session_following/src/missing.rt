@@ -4,6 +4,7 @@ ghost use Rattle.follow.specs.Terms.{Send};
 ghost use Rattle.session_following.specs.declared.missing.TheConstants.{NUMBERS};
 ghost use Rattle.session_following.specs.Missing.{HasCounts, IsFirst, IsLeast, IsMissing};
 
+use rx_base::Conn;
 use std::alloc::{AllocError, Global};
 use std::marker::Model;
 
@@ -53,7 +54,7 @@ fn zeros(alloc: Global, count: usize) -> Result<Vec<u64>, AllocError>
 }
 
 // Writes the number of one line.
-fn put_line(numbers: &mut [u64], conn: u16, count: u64)
+fn put_line(numbers: &mut [u64], conn: Conn, count: u64)
     requires { length numbers.old ≡ NUMBERS }
     ensures { (lines : List (ℕ × ℕ)) → HasCounts numbers.old lines → HasCounts numbers.new ((conn, count) ∷ lines) }
 {
@@ -61,7 +62,7 @@ fn put_line(numbers: &mut [u64], conn: u16, count: u64)
 }
 
 // Writes the number of each line, from the last one on: where two lines are of one connection the first counts.
-fn put_lines(numbers: &mut [u64], counts: &[(u16, u64)])
+fn put_lines(numbers: &mut [u64], counts: &[(Conn, u64)])
     requires as_many { length numbers.old ≡ NUMBERS }
     requires none { HasCounts numbers.old [] }
     ensures { HasCounts numbers.new counts.now }
@@ -79,7 +80,7 @@ impl Missing {
     /// # Errors
     ///
     /// `AllocError`: want of memory.
-    pub fn of(alloc: Global, counts: &[(u16, u64)]) -> Result<Missing, AllocError>
+    pub fn of(alloc: Global, counts: &[(Conn, u64)]) -> Result<Missing, AllocError>
         ensures { IfOk result (IsMissing counts.now []) }
     {
         let mut numbers = zeros(alloc, NUMBERS)?;
@@ -88,14 +89,14 @@ impl Missing {
     }
 
     /// How many bytes the client of a connection lacks.
-    pub fn left(&self, conn: u16) -> u64
+    pub fn left(&self, conn: Conn) -> u64
         ensures { result ≡ slice_index self.now conn }
     {
         self.numbers[conn as usize]
     }
 
     /// So many bytes were sent to a connection: its client lacks that many fewer, or none.
-    pub fn sent(&mut self, conn: u16, count: u64)
+    pub fn sent(&mut self, conn: Conn, count: u64)
         ensures { (counts : List (ℕ × ℕ)) (sends : List Send) (send : Send) → send.conn ≡ conn → length send.bytes ≡ count → IsMissing counts sends self.old → IsMissing counts (sends ++ send ∷ []) self.new }
     {
         let index = conn as usize;
@@ -103,12 +104,12 @@ impl Missing {
     }
 
     /// The least connection whose client lacks bytes, if there is one.
-    pub fn least(&mut self) -> Option<u16>
+    pub fn least(&mut self) -> Option<Conn>
         ensures same { self.new ≡ self.old }
         ensures least { IsLeast self.old result }
     {
         let at = first_from(self.numbers.as_slice(), self.cursor);
         self.cursor = at;
-        if at < NUMBERS { Some(at as u16) } else { None }
+        if at < NUMBERS { Some(at as Conn) } else { None }
     }
 }

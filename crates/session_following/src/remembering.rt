@@ -8,7 +8,7 @@ use block_book::Choice;
 use guest_cpu::Cpu;
 use guest_space::AccessRule;
 use links::LinkEvent;
-use rx_base::Bytes;
+use rx_base::{Bytes, Conn};
 use session_notes::Episode;
 use session_state::{Past, Remembers};
 
@@ -51,7 +51,7 @@ impl<'a, R: AccessRule> Remembers for Chose<'a, R> {
 pub struct Sent<'a, R: AccessRule> {
     pub past: &'a Past,
     pub cpu: &'a Cpu<R>,
-    pub conn: u16,
+    pub conn: Conn,
     pub bytes: &'a Bytes,
     pub taken: u64,
     pub count: u64,

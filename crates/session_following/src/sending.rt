@@ -4,7 +4,7 @@ ghost use Rattle.reply_ledger.specs.Ledger.{IsOpened, NotBefore, times_of, stamp
 ghost use Rattle.session_following.specs.Sending.{with_held};
 
 use reply_ledger::Replies;
-use rx_base::Bytes;
+use rx_base::{Bytes, Conn};
 use std::alloc::AllocError;
 
 /// Notes a send, made with so many items taken. Clients have `left` more bytes of its connection than were sent before: so many of its first bytes, or all,
@@ -15,7 +15,7 @@ use std::alloc::AllocError;
 /// `AllocError`: want of memory. The send may be noted then, with nothing of it passed.
 pub fn note_held(
     replies: &mut Replies,
-    conn: u16,
+    conn: Conn,
     bytes: Bytes,
     taken: u64,
     left: u64,

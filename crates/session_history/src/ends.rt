@@ -3,6 +3,7 @@ ghost use Rattle.std.specs.Prelude.{◌≡◌};
 ghost use Rattle.session_history.specs.Ends.{answer_of, break_answer, end_answer};
 
 use run_history::{Answer, Cause};
+use rx_base::Conn;
 
 /// An end that a session comes to: what is held back is passed then.
 #[derive(Clone, Copy, Debug, PartialEq, Eq)]
@@ -16,7 +17,7 @@ pub enum SessionEnd {
     /// The input has no frame at this offset, by the number of the refusal.
     InputRefused { kind: u8, offset: u64 },
     /// A message of this connection is too long.
-    MessageTooLong { conn: u16 },
+    MessageTooLong { conn: Conn },
     /// More items came than a session may receive.
     LimitItems,
     /// More events came than a session may have.

@@ -7,6 +7,7 @@ use crate::kept::{Kept, passes};
 use block_book::Choices;
 use counts_file::Counts;
 use replay::Player;
+use rx_base::Conn;
 
 /// Who follows a record and serves on: its player, what the run sent while it was followed, and the code with which it ended itself by then, if
 /// it did.
@@ -27,7 +28,7 @@ pub struct Followed {
 
 impl Follower {
     /// The least connection whose count passes the bytes that the recorded run sent to it, if there is one. It takes no memory.
-    pub fn short(&self, counts: &Counts) -> Option<u16>
+    pub fn short(&self, counts: &Counts) -> Option<Conn>
         requires counts { AreCounts counts.now }
         ensures { IsShort counts.now self.now.kept.items result }
     {

@@ -14,7 +14,7 @@ use guest_cpu::Question;
 use links::Link;
 use replay::{Difference, Player};
 use run_history::Answer;
-use rx_base::{Bytes, Steps};
+use rx_base::{Bytes, Conn, Steps};
 use schedule_file::Recorded;
 use std::alloc::{AllocError, Global};
 use std::sync::ledger::Ledger;
@@ -160,7 +160,7 @@ impl Follower {
     }
 
     // Keeps what the guest has just sent.
-    fn keep(&mut self, conn: u16, bytes: Bytes) -> Result<(), Answer>
+    fn keep(&mut self, conn: Conn, bytes: Bytes) -> Result<(), Answer>
         ensures { KeepsBy conn bytes self.old self.new result }
     {
         match self.kept.push(Kept { conn, bytes }) {

@@ -12,6 +12,7 @@ use crate::follower::Follower;
 use links::{Given, Link};
 use replay::answer_to;
 use run_history::Answer;
+use rx_base::Conn;
 
 // The most bytes of a piece.
 const PIECE: usize = 65535;
@@ -21,7 +22,7 @@ impl Follower {
     pub(crate) fn pass<K: Link>(
         &mut self,
         link: &mut K,
-        conn: u16,
+        conn: Conn,
         bytes: &[u8],
     ) -> Result<(), Answer>
         requires may { MayPass (K.seen link.old) conn }
@@ -33,13 +34,13 @@ impl Follower {
         ensures link { LinkPasses (K.seen link.old) (K.seen link.new) result }
         ensures went { K.Went link.old link.new }
     {
-        if self.player.gone.has(u32::from(conn)) {
+        if self.player.gone.has(conn) {
             return Ok(());
         }
         match link.give(conn, bytes) {
             Ok(Given::All) => Ok(()),
             Ok(Given::Gone(_)) => {
-                self.player.gone.add(u32::from(conn));
+                self.player.gone.add(conn);
                 Ok(())
             }
             Err(fault) => Err(answer_to(fault)),
@@ -50,7 +51,7 @@ impl Follower {
     pub(crate) fn pass_all<K: Link>(
         &mut self,
         link: &mut K,
-        conn: u16,
+        conn: Conn,
         bytes: &[u8],
     ) -> Result<(), Answer>
         requires may { MayPass (K.seen link.old) conn }

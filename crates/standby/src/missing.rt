@@ -15,6 +15,7 @@ use crate::kept::joined;
 use counts_file::Counts;
 use links::Link;
 use run_history::Answer;
+use rx_base::Conn;
 
 impl Follower {
     // Gives what the clients of open connections miss, one connection after another, in rising order.
@@ -39,7 +40,7 @@ impl Follower {
     }
 
     // Gives what the client of a connection misses, if it is open.
-    fn give_rest<K: Link>(&mut self, conn: u16, counts: &Counts, link: &mut K) -> Result<(), Answer>
+    fn give_rest<K: Link>(&mut self, conn: Conn, counts: &Counts, link: &mut K) -> Result<(), Answer>
         requires stands { StandsHeard (K.seen link.old) (stage_of self.old.player) }
         requires low { conn < 4096 }
         ensures passes { (recorded : Recorded) (began : Told) (entries : List Entry) → HasHeard recorded began (K.seen link.old) entries (stage_of self.old.player)

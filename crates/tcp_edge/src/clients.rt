@@ -2,6 +2,7 @@
 ghost use Rattle.std.specs.Prelude.{◌<◌, ◌≤◌, length, IfSome};
 
 use libc::types::pollfd;
+use rx_base::Conn;
 use rx_io::{read_some, write_some};
 use std::io::{Read, Write};
 use std::time::{Duration, Instant};
@@ -18,7 +19,7 @@ pub enum Seen {
 /// for it in vain.
 #[derive(Drop)]
 pub struct Client<S: Drop> {
-    pub conn: u16,
+    pub conn: Conn,
     pub stream: S,
     pub idle_since: Option<Instant>,
     pub seen: Seen,
@@ -95,7 +96,7 @@ pub fn note_answers<S: Drop>(
 
 /// The connection whose turn it is, of those that are ready or late: the first one from the number `next` on, or else the first
 /// one. Clients stand in the order of their numbers.
-pub fn next_turn<S: Drop>(clients: &[Client<S>], next: u16) -> Option<u16> {
+pub fn next_turn<S: Drop>(clients: &[Client<S>], next: Conn) -> Option<Conn> {
     let mut first = None;
     'clients: for client in clients {
         if let Seen::Quiet = client.seen {
@@ -110,7 +111,7 @@ pub fn next_turn<S: Drop>(clients: &[Client<S>], next: u16) -> Option<u16> {
 }
 
 /// The place of a connection among the clients.
-pub fn place_of<S: Drop>(clients: &[Client<S>], conn: u16) -> Option<usize>
+pub fn place_of<S: Drop>(clients: &[Client<S>], conn: Conn) -> Option<usize>
     ensures { IfSome result (λ place. place < length clients.now) }
 {
     clients.iter().position(|client| client.conn == conn)

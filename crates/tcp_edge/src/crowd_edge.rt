@@ -5,7 +5,7 @@ ghost use Rattle.crowd.specs.Connections.{is_open};
 use crate::setting::patience_of;
 use crate::sockets::Sockets;
 use crowd::{Crowd, Ready};
-use rx_base::IoFault;
+use rx_base::{Conn, IoFault};
 use std::alloc::Global;
 use std::net::{Ipv4Addr, Net, TcpListener};
 use std::time::Clock;
@@ -26,7 +26,7 @@ pub struct TcpCrowdEdge<'a, R: Net + Clock> {
 }
 
 // Whether a connection is open.
-fn is_open(conn: u16, opened: &[bool]) -> bool
+fn is_open(conn: Conn, opened: &[bool]) -> bool
     ensures { result ≡ is_open conn opened.now }
 {
     match opened.get(conn as usize) {
@@ -96,7 +96,7 @@ impl<R: Net + Clock> Crowd for TcpCrowdEdge<'_, R> {
         if self.opened.reserve(1).is_err() {
             return Err(IoFault::Memory);
         }
-        match self.sockets.accept(self.opened.len() as u16) {
+        match self.sockets.accept(self.opened.len() as Conn) {
             Ok(()) => {
                 self.opened.push_reserved(true);
                 Ok(())
@@ -109,7 +109,7 @@ impl<R: Net + Clock> Crowd for TcpCrowdEdge<'_, R> {
         }
     }
 
-    fn take(&mut self, conn: u16, buf: &mut [u8]) -> Result<usize, IoFault> {
+    fn take(&mut self, conn: Conn, buf: &mut [u8]) -> Result<usize, IoFault> {
         match self.sockets.take(conn, buf) {
             Some(count) => Ok(count),
             None => {
@@ -119,7 +119,7 @@ impl<R: Net + Clock> Crowd for TcpCrowdEdge<'_, R> {
         }
     }
 
-    fn give(&mut self, conn: u16, bytes: &[u8]) -> Result<usize, IoFault> {
+    fn give(&mut self, conn: Conn, bytes: &[u8]) -> Result<usize, IoFault> {
         match self.sockets.give(conn, bytes) {
             Some(count) => Ok(count),
             None => {
@@ -129,7 +129,7 @@ impl<R: Net + Clock> Crowd for TcpCrowdEdge<'_, R> {
         }
     }
 
-    fn close(&mut self, conn: u16) {
+    fn close(&mut self, conn: Conn) {
         self.sockets.close(conn);
         self.opened[conn as usize] = false;
     }

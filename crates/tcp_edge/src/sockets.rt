@@ -7,7 +7,7 @@ use crowd::Ready;
 use libc::net::{POLLIN, poll};
 use libc::types::pollfd;
 use rx_io::TRIES;
-use rx_base::IoFault;
+use rx_base::{Conn, IoFault};
 use std::alloc::Global;
 use std::io::{Read, Write};
 use std::net::{OpenListener, OpenStream};
@@ -21,7 +21,7 @@ pub struct Sockets<L: Drop, S: Drop> {
     listener: Option<L>,
     clients: Vec<Client<S>>,
     asked: Vec<pollfd>,
-    next: u16,
+    next: Conn,
 }
 
 // A question whether a descriptor can be read of. That of no descriptor is answered by nothing.
@@ -138,7 +138,7 @@ where
     }
 
     /// Accepts the next client, under this number, which is larger than that of each other one.
-    pub fn accept(&mut self, conn: u16) -> Result<(), IoFault> {
+    pub fn accept(&mut self, conn: Conn) -> Result<(), IoFault> {
         if self.clients.reserve(1).is_err() {
             return Err(IoFault::Memory);
         }
@@ -161,20 +161,20 @@ where
     }
 
     // The client of a connection, if it has one.
-    fn client(&mut self, conn: u16) -> Option<&mut Client<S>> {
+    fn client(&mut self, conn: Conn) -> Option<&mut Client<S>> {
         let place = place_of(&self.clients, conn)?;
         self.clients.get_mut(place)
     }
 
     /// Takes bytes of a client, or none where that failed.
-    pub fn take(&mut self, conn: u16, buf: &mut [u8]) -> Option<usize>
+    pub fn take(&mut self, conn: Conn, buf: &mut [u8]) -> Option<usize>
         ensures { IfSome result (λ n. n ≤ length buf.old) }
     {
         self.client(conn)?.take(buf)
     }
 
     /// Gives a client at least a byte, or none where that failed.
-    pub fn give(&mut self, conn: u16, bytes: &[u8]) -> Option<usize>
+    pub fn give(&mut self, conn: Conn, bytes: &[u8]) -> Option<usize>
         ensures some { IfSome result (λ n. 0 < n) }
         ensures count { IfSome result (λ n. n ≤ length bytes.now) }
     {
@@ -183,7 +183,7 @@ where
     }
 
     /// Closes a client's socket.
-    pub fn close(&mut self, conn: u16) {
+    pub fn close(&mut self, conn: Conn) {
         if let Some(place) = place_of(&self.clients, conn) {
             drop(self.clients.remove(place));
         }

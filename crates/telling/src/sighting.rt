@@ -14,13 +14,14 @@ use item_log::ItemLog;
 use run_history::Regs;
 use rv_exec::next_instr;
 use rv_isa::{Instr, bytes_loaded, bytes_stored, displace};
+use rx_base::Conn;
 
 /// An item: its kind, its connection, its number among the messages of that connection since it opened, and how many bytes it has. The
 /// first message has number 1, an open 0, and a close that of the last message before it.
 #[derive(Clone, Copy, Debug, PartialEq, Eq)]
 pub struct SeenItem {
     pub kind: u8,
-    pub conn: u16,
+    pub conn: Conn,
     pub number: u64,
     pub len: usize,
 }

@@ -1,6 +1,7 @@
 // What a command is run over: files, streams, a listener and a crowd, all in memory.
 use crate::cells::{bytes_of, cell_of, number_of, put_bytes, text_of};
 use crowd::{CrowdCall, MemoryCrowd, Ready};
+use rx_base::Conn;
 use rx_io::{ListenCall, MemoryFiles, MemoryListener, MemorySink, MemorySource, Source};
 use std::alloc::{AllocError, Global};
 use std::test::Fail;
@@ -150,7 +151,7 @@ fn ready_of(word: &str) -> Result<Ready, Fail> {
     if word == "client" {
         return Ok(Ready::Accepts);
     }
-    Ok(Ready::Reads(word.parse::<u16>()?))
+    Ok(Ready::Reads(word.parse::<Conn>()?))
 }
 
 // What the waits of a row answer.

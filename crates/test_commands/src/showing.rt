@@ -1,5 +1,6 @@
 // What a command shows at its end, as texts.
 use crowd::{CrowdEntry, Ready};
+use rx_base::Conn;
 use rx_io::ListenEntry;
 use rx_serve::End;
 use std::alloc::{AllocError, Global};
@@ -104,7 +105,7 @@ pub(crate) fn crowd_calls_shown(alloc: Global, calls: &[CrowdEntry]) -> Result<S
 }
 
 // Adds what a call gave to a connection.
-fn push_given(given: &mut Vec<u8>, call: &CrowdEntry, of: u16) -> Result<(), AllocError> {
+fn push_given(given: &mut Vec<u8>, call: &CrowdEntry, of: Conn) -> Result<(), AllocError> {
     if let CrowdEntry::Gave { conn, bytes, .. } = call {
         if *conn == of {
             given.extend_from_slice(bytes.as_slice())?;
@@ -114,7 +115,7 @@ fn push_given(given: &mut Vec<u8>, call: &CrowdEntry, of: u16) -> Result<(), All
 }
 
 // Adds what a connection was given, and a `|`.
-fn push_connection(given: &mut Vec<u8>, calls: &[CrowdEntry], of: u16) -> Result<(), AllocError> {
+fn push_connection(given: &mut Vec<u8>, calls: &[CrowdEntry], of: Conn) -> Result<(), AllocError> {
     for call in calls {
         push_given(given, call, of)?;
     }

@@ -4,7 +4,7 @@ ghost use Rattle.links.specs.MemoryLinks.{seen_in};
 ghost use Rattle.links.specs.Seen.{IsFreshLink};
 
 use links::{Entry, LinkEvent, MemoryLink};
-use rx_base::Bytes;
+use rx_base::{Bytes, Conn};
 use std::alloc::Global;
 use std::test::Fail;
 
@@ -13,7 +13,7 @@ fn event_of(alloc: Global, text: &[u8]) -> Result<LinkEvent, Fail> {
     let [kind, conn @ b'0'..=b'9', bytes @ ..] = text else {
         return Err(Fail::new("it is no event"));
     };
-    let conn = u16::from(*conn - b'0');
+    let conn = Conn::from(*conn - b'0');
     match kind {
         b'o' => Ok(LinkEvent::Opens(conn)),
         b'p' => Ok(LinkEvent::Piece(conn, Bytes::from_vec(bytes.to_vec(alloc)?))),
@@ -53,7 +53,7 @@ pub fn link_of(
 }
 
 // Writes a letter, a connection's digit, bytes and a bar.
-fn write_entry(line: &mut Vec<u8>, letter: u8, conn: u16, bytes: &[u8]) -> Result<(), Fail> {
+fn write_entry(line: &mut Vec<u8>, letter: u8, conn: Conn, bytes: &[u8]) -> Result<(), Fail> {
     if conn > 9 {
         return Err(Fail::new("another connection"));
     }

@@ -1,5 +1,6 @@
 // A link that runs out of memory in mid-stream.
 use links::{Given, Link, LinkEvent, LinkFault};
+use rx_base::Conn;
 
 // A link of which so many calls are done. Each call behind them answers `Memory` and does nothing. It tells nothing.
 #[derive(Drop)]
@@ -32,7 +33,7 @@ impl<K: Link> Link for ShortLink<K> {
         self.link.next()
     }
 
-    fn give(&mut self, conn: u16, bytes: &[u8]) -> Result<Given, LinkFault> {
+    fn give(&mut self, conn: Conn, bytes: &[u8]) -> Result<Given, LinkFault> {
         if self.calls_left == 0 {
             self.gives = false;
             return Err(LinkFault::Memory);

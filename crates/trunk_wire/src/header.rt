@@ -1,11 +1,11 @@
 // The five bytes before a frame's payload, and what is refused by them.
 ghost use Rattle.std.specs.Prelude.{◌≡◌, ◌<◌, ◌≤◌, true, false, None, length};
 ghost use Rattle.links.specs.ConnectionTables.{phases_in, is_in_order};
-ghost use Rattle.trunk_wire.specs.Frames.{header_bytes};
+ghost use Rattle.trunk_wire.specs.Frames.{header_bytes, FitsTwoBytes};
 ghost use Rattle.trunk_wire.specs.Grammar.{is_known, is_extra, is_reopened, is_not_open, header_refusal, event_of};
 
-use links::{CONNECTIONS, ConnectionTable, LinkEvent};
-use rx_base::Bytes;
+use links::{ConnectionTable, LinkEvent};
+use rx_base::{Bytes, CONNECTIONS, Conn};
 
 /// The kind of a frame by which a connection opens.
 pub const OPEN: u8 = 1;
@@ -23,18 +23,19 @@ pub const SETTLE: u8 = 4;
 #[derive(Clone, Copy, Drop)]
 pub struct Header {
     pub kind: u8,
-    pub conn: u16,
+    pub conn: Conn,
     pub length: u16,
 }
 
 /// The header that these bytes are.
 pub fn header_from(bytes: [u8; 5]) -> Header
-    ensures { header_bytes result ≡ bytes }
+    ensures bytes { header_bytes result ≡ bytes }
+    ensures fits { FitsTwoBytes result.conn }
 {
     let [kind, conn_low, conn_high, length_low, length_high] = bytes;
     Header {
         kind,
-        conn: u16::from(conn_low) + 256 * u16::from(conn_high),
+        conn: Conn::from(conn_low) + 256 * Conn::from(conn_high),
         length: u16::from(length_low) + 256 * u16::from(length_high),
     }
 }

@@ -3,6 +3,7 @@ use crate::reading::take_event;
 use crate::refusal::{Refusal, refusal_in};
 use crate::writing::write_frame;
 use links::{ConnectionTable, Given, Link, LinkEvent, LinkFault};
+use rx_base::Conn;
 use rx_io::{Sink, Source};
 use std::alloc::Global;
 
@@ -16,7 +17,7 @@ pub struct TrunkLink<S, K> {
     table: ConnectionTable,
     took: u64,
     wrote: u64,
-    handed: Option<(u16, usize)>,
+    handed: Option<(Conn, usize)>,
     takes: bool,
     refused: Option<Refusal>,
     gives: bool,
@@ -95,7 +96,7 @@ impl<S: Source, K: Sink> Link for TrunkLink<S, K> {
     }
 
     /// Gives a piece as one frame. After an `Err` a first part of the frame was written, perhaps none or all of it.
-    fn give(&mut self, conn: u16, bytes: &[u8]) -> Result<Given, LinkFault>
+    fn give(&mut self, conn: Conn, bytes: &[u8]) -> Result<Given, LinkFault>
         requires may { (seen_of S.told S.faults K.told K.faults self.old).gives ≡ true }
         requires connected { (seen_of S.told S.faults K.told K.faults self.old).gives_to conn ≡ true }
         requires some { 0 < length bytes.now }

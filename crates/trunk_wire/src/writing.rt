@@ -6,7 +6,7 @@ ghost use Rattle.trunk_wire.specs.Calls.{Writes, WritesAll, WritesBy, write_faul
 use crate::header::{BYTES, Header, bytes_from};
 use links::{Given, LinkFault};
 use rx_io::Sink;
-use rx_base::IoFault;
+use rx_base::{Conn, IoFault};
 
 // How many bytes of a frame, its header among them, go by one write; and how many by one from a short array.
 const JOINED: usize = 4096;
@@ -94,7 +94,7 @@ fn write_behind<K: Sink>(
 pub fn write_frame<K: Sink>(
     sink: &mut K,
     wrote: &mut u64,
-    conn: u16,
+    conn: Conn,
     bytes: &[u8],
 ) -> Result<Given, LinkFault>
     requires { length bytes.now < 2 ^ 16 }

@@ -7,7 +7,7 @@ use crate::link_rows::{gifts_seen, list_seen, output_seen, trunk_seen};
 use crate::text_rows::{frames_seen, lines_seen, turned_back};
 use links::LinkEvent;
 use msg_frame::Framing;
-use rx_base::Bytes;
+use rx_base::{Bytes, Conn};
 use std::alloc::Global;
 use std::process::Abort;
 use std::test::Fail;
@@ -15,7 +15,7 @@ use std::test::Fail;
 fn event_of(alloc: Global, text: &[u8]) -> Result<LinkEvent, Fail> {
     let (kind, conn, bytes) = match text {
         [b'x'] => return Ok(LinkEvent::Opens(4096)),
-        [kind, digit @ b'0'..=b'9', bytes @ ..] => (*kind, u16::from(*digit - b'0'), bytes),
+        [kind, digit @ b'0'..=b'9', bytes @ ..] => (*kind, Conn::from(*digit - b'0'), bytes),
         _ => return Err(Fail::new("it is no event")),
     };
     match kind {
