@@ -1,5 +1,6 @@
 -- What the session of a drill is held to: every option at its default.
 use Rattle.std.specs.Prelude.{ℕ, ◌*◌, ◌^◌, Bool, true}
+use Rattle.rx_base.specs.declared.item.TheConstants.{MAX_ITEMS}
 use Rattle.msg_frame.specs.declared.framing.Framing.TheVariants.{Line}
 use Rattle.block_book.specs.Heap.{Heap}
 use Rattle.recovery.specs.Handling.{Keeping}
@@ -16,7 +17,7 @@ settings = record {
   every = 1;
   frames = 4;
   budget = 1000000;
-  max_items = 2 ^ 20;
+  max_items = MAX_ITEMS;
   max_events = 2 ^ 32;
 }
 

@@ -19,15 +19,15 @@ use crate::generating::drill_events;
 use crate::passing::passed_bytes;
 use crate::settings::{WINDOW, settings};
 use crate::summary::{Summary, end_status, summary_text, write_all};
-use guest_image::Image;
 use example_guests::keys_source;
+use guest_image::Image;
 use guest_space::AllMapped;
 use links::LinkEvent;
 use run_history::Answer;
 use rv_asm::{AsmRefusal, assemble};
+use rx_base::{IoFault, Steps};
 use rx_engine::Session;
 use rx_io::Sink;
-use rx_base::{IoFault, Steps};
 use std::alloc::Global;
 use std::sync::ledger::Ledger;
 

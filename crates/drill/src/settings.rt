@@ -3,6 +3,7 @@ ghost use Rattle.std.specs.Prelude.{◌≡◌};
 ghost use Rattle.drill.specs.Settings.{settings};
 
 use msg_frame::Framing;
+use rx_base::MAX_ITEMS;
 use rx_engine::Options;
 
 /// The window of the program, in bytes.
@@ -20,7 +21,7 @@ pub fn settings() -> Options
         every: 1,
         frames: 4,
         budget: 1_000_000,
-        max_items: 1 << 20,
+        max_items: MAX_ITEMS,
         max_events: 1 << 32,
     }
 }

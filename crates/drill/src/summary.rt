@@ -4,8 +4,8 @@ ghost use Rattle.drill.specs.Summary.{summary_text, end_status, WritesAll};
 ghost use Rattle.rx_base.specs.Faults.{HasCause};
 
 use run_history::Answer;
-use rx_io::Sink;
 use rx_base::{Bytes, IoFault};
+use rx_io::Sink;
 use std::alloc::{AllocError, Global};
 
 /// What a drill tells of its session.

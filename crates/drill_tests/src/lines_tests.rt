@@ -3,8 +3,8 @@ ghost use Rattle.std.specs.Prelude.{◌≡◌, ◌<◌};
 
 use drill::run_drill;
 use run_history::Answer;
-use rx_io::{MemorySink, TameSink};
 use rx_base::Steps;
+use rx_io::{MemorySink, TameSink};
 use std::alloc::Global;
 use std::marker::Brand;
 use std::process::Abort;

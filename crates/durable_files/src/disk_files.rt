@@ -1,8 +1,8 @@
 // The files of the system, of which two are written through to the disk.
 ghost use Rattle.std.specs.Prelude.{◌≡◌, None};
 
-use rx_io::{Files, StdFiles};
 use rx_base::{IoFault, LoadFault};
+use rx_io::{Files, StdFiles};
 use std::alloc::Global;
 use std::fs::{OpenFile, OpenOptions};
 use std::rt;

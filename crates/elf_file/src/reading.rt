@@ -4,12 +4,11 @@ ghost use Rattle.elf_file.specs.ProgramFile.{program_headers};
 ghost use Rattle.elf_file.specs.Refusals.{header_refusal, IsImage, IsReason};
 ghost use Rattle.guest_image.specs.Layout.{IsWindow};
 
+use crate::ElfRefusal;
 use crate::fields::{half_at, word_at};
 use crate::file_header::{E_ENTRY, E_PHNUM, E_PHOFF, refusal_of_header};
-use guest_image::refusal_of_layout;
 use crate::program_header::{ProgramHeader, places, read_headers, refusal_of_table, segments};
-use crate::ElfRefusal;
-use guest_image::{Image, Segments};
+use guest_image::{Image, Segments, refusal_of_layout};
 use std::alloc::{AllocError, Global};
 
 /// The program headers of a file whose ELF header isn't refused.

@@ -12,10 +12,9 @@ use crate::file_header::{
     E_ENTRY, E_FLAGS, E_MACHINE, E_PHENTSIZE, E_PHNUM, E_PHOFF, E_TYPE, E_VERSION, EI_CLASS,
     EI_DATA, HEADER, PROGRAM_HEADER, refusal_of_header,
 };
-use guest_image::{PAGE, STACK_AND_GUARD, window_start};
-use guest_image::has_overlap;
 use crate::program_header::{ProgramHeader, is_bad, is_loaded, places, refusal_of_table};
 use crate::reading::headers_of;
+use guest_image::{PAGE, STACK_AND_GUARD, has_overlap, window_start};
 use std::alloc::{AllocError, Global};
 use std::fmt;
 

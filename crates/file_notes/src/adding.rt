@@ -12,8 +12,8 @@ ghost use Rattle.file_notes.specs.Texts.{told_text};
 
 use block_book::{Ask, Choice};
 use run_report::{Form, episode_text, head_text};
-use rx_io::Files;
 use rx_base::{Bytes, IoFault};
+use rx_io::Files;
 use schedule_file::add_choice;
 use session_notes::Episode;
 use std::alloc::{AllocError, Global};

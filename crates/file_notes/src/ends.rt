@@ -3,7 +3,8 @@ ghost use Rattle.std.specs.Prelude.{◌≡◌, ◌≤◌, ◌<◌, ◌^◌};
 ghost use Rattle.rx_base.specs.Faults.{HasCause};
 ghost use Rattle.run_report.specs.Report.{head_text, end_text};
 ghost use Rattle.schedule_file.specs.Lines.{head_line, end_line};
-ghost use Rattle.schedule_file.specs.declared.recorded.TheConstants.{MAX_WINDOW, MAX_TAKEN, VERSION};
+ghost use Rattle.schedule_file.specs.declared.recorded.TheConstants.{MAX_WINDOW, VERSION};
+ghost use Rattle.rx_base.specs.declared.item.TheConstants.{MAX_ITEMS};
 ghost use Rattle.file_notes.specs.Names.{AreTwo, names_in};
 ghost use Rattle.file_notes.specs.Calling.{CallsUpTo, starting, ending, taking_over};
 ghost use Rattle.file_notes.specs.Texts.{told_text};
@@ -14,8 +15,8 @@ use crate::file_names::FileNames;
 use crate::writing::{add_both, start_both, take_over_both};
 use msg_frame::Framing;
 use run_report::{Form, end_text, head_text};
-use rx_io::Files;
 use rx_base::IoFault;
+use rx_io::Files;
 use schedule_file::{end_line, head_line};
 use session_notes::Episode;
 use std::alloc::Global;
@@ -112,7 +113,7 @@ pub fn end_files<F: Files>(
 ) -> Result<(), IoFault>
     requires two { AreTwo (names_in names.now) }
     requires steps { last.now.steps < 2 ^ 63 }
-    requires taken { last.now.taken ≤ MAX_TAKEN }
+    requires taken { last.now.taken ≤ MAX_ITEMS }
     ensures ends { AddsBoth (names_in names.now) (end_line last.now.steps last.now.taken) (end_text last.now.status last.now.taken last.now.steps form) (F.told files.old) (F.told files.new) result }
     ensures calls { CallsUpTo (F.calls files.old) (F.calls files.new) (ending (names_in names.now)) result }
     ensures fixed { F.fixed files.new ≡ F.fixed files.old }

@@ -7,8 +7,8 @@ use crate::file_names::FileNames;
 use crate::past::{Fresh, LostChoices, LostEpisode, MoreChoices, OneEpisode, Past};
 use block_book::Choice;
 use run_report::Form;
-use rx_io::Files;
 use rx_base::IoFault;
+use rx_io::Files;
 use session_notes::{Episode, Notes};
 use std::alloc::Global;
 

@@ -7,8 +7,8 @@ ghost use Rattle.file_notes.specs.Calling.{CallsUpTo, starts_of, starting, endin
 ghost use Rattle.file_notes.specs.Writing.{Writes, StartsBoth, AddsBoth, TakesOverBoth, nothing_kept, all_kept};
 
 use crate::file_names::FileNames;
-use rx_io::Files;
 use rx_base::IoFault;
+use rx_io::Files;
 
 /// Starts a file, and adds a text to it.
 ///

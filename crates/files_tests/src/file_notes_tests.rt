@@ -5,8 +5,8 @@ use file_notes::{FileNames, FileNotes, FirstLine, LastLines, end_files, start_fi
 use msg_frame::Framing;
 use run_history::Cause;
 use run_report::Form;
-use rx_io::MemoryFiles;
 use rx_base::IoFault;
+use rx_io::MemoryFiles;
 use session_notes::{Episode, Notes, Tried, Tries, Try};
 use std::alloc::{AllocError, Global};
 use std::process::Abort;

@@ -1,7 +1,7 @@
 -- The definitions at values that were worked out by hand from the ELF specification.
 use Rattle.std.specs.List.{All}
 use Rattle.std.proofs.lemmas.List.Elements.{All-cons, All-nil}
-use Rattle.std.proofs.Common.{Bool, List, None, [], false, lit<, lit≤, length, refl, replicate, true, ℕ, ◌++◌, ◌∷◌, ◌≡◌}
+use Rattle.std.proofs.Common.{Bool, List, None, Some, [], false, lit<, lit≤, length, refl, replicate, true, ℕ, ◌++◌, ◌∷◌, ◌≡◌}
 use Rattle.guest_image.specs.declared.segment.Segment.{Segment}
 use Rattle.guest_image.specs.declared.image.Image.{Image}
 use Rattle.guest_image.specs.Layout.{heap_floor, IsPlaced, overlap, no_load, bad_entry, too_large, layout_refusal}

@@ -1,8 +1,8 @@
 // A sink that keeps nothing.
 ghost use Rattle.std.specs.Prelude.{None};
 
-use rx_io::Sink;
 use rx_base::IoFault;
+use rx_io::Sink;
 
 // Takes all bytes, tells none of them, and never fails.
 #[derive(Clone, Copy, Debug)]

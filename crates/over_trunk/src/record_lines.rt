@@ -2,7 +2,7 @@
 ghost use Rattle.std.specs.Prelude.{◌≡◌, ◌≤◌, ◌<◌, ◌^◌, ◌++◌, OnOk};
 ghost use Rattle.schedule_file.specs.Answers.{Writes};
 ghost use Rattle.schedule_file.specs.Lines.{choice_lines, end_line};
-ghost use Rattle.schedule_file.specs.declared.recorded.TheConstants.{MAX_TAKEN};
+ghost use Rattle.rx_base.specs.declared.item.TheConstants.{MAX_ITEMS};
 
 use block_book::Choice;
 use rx_base::Bytes;
@@ -27,7 +27,7 @@ pub fn rest_lines(
     taken: u64,
 ) -> Result<Bytes, AllocError>
     requires some_steps { steps < 2 ^ 63 }
-    requires some_taken { taken ≤ MAX_TAKEN }
+    requires some_taken { taken ≤ MAX_ITEMS }
     ensures { Writes (choice_lines choices.now ++ end_line steps taken) result }
 {
     let end = end_line(alloc, steps, taken)?;

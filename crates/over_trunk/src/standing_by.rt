@@ -13,8 +13,8 @@ ghost use Rattle.over_trunk.specs.StandingBy.{CatchesUpTrunk, IsNewTrunk, Serves
 use counts_file::Counts;
 use guest_image::Image;
 use run_history::Answer;
-use rx_io::{Sink, Source};
 use rx_base::Steps;
+use rx_io::{Sink, Source};
 use schedule_file::Recorded;
 use standby::{Follower, Unfollowed, catch_up};
 use std::alloc::Global;

@@ -8,8 +8,8 @@ ghost use Rattle.port_link.specs.Gives.{GivesTo, GivesPiece};
 
 use crate::place::{Place, Stage, stage_behind};
 use links::{Given, LinkFault};
-use rx_io::Listener;
 use rx_base::{Conn, IoFault};
+use rx_io::Listener;
 
 // Gives bytes to the present connection, over as many calls as it wants.
 fn give_piece<N: Listener>(listener: &mut N, bytes: &[u8]) -> Result<Given, LinkFault>

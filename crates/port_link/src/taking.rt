@@ -6,8 +6,8 @@ ghost use Rattle.port_link.specs.Steps.{StepsTo, TakesPiece, TakesNext, HasOpenC
 
 use crate::place::{Place, Stage};
 use links::{LinkEvent, LinkFault};
-use rx_io::Listener;
 use rx_base::{Bytes, Conn, IoFault};
+use rx_io::Listener;
 use std::alloc::Global;
 
 // Closes the present connection, of which nothing more is answered.

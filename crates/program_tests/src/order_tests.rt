@@ -1,8 +1,8 @@
 // In which order a command makes its calls: a reply is written before the next read, and the files are called in their order.
 ghost use Rattle.std.specs.Prelude.{◌≡◌, ◌<◌, None};
 
-use rx_io::{FileCall, Sink, Source, TameFiles};
 use rx_base::IoFault;
+use rx_io::{FileCall, Sink, Source, TameFiles};
 use rx_serve::End;
 use std::alloc::{AllocError, Global};
 use std::cell::RefCell;

@@ -1,5 +1,6 @@
 -- A session's checkpoints as runs, one lemma for each event of a session.
 use Rattle.circular_buffer.proofs.Places.{slice_get-drop}
+use Rattle.rx_base.specs.declared.item.TheConstants.{MAX_ITEMS}
 use Rattle.run_history.specs.Machine as M
 use Rattle.recovery.proofs.Terms.{Bool, IfSome, List, None, Option, Some, [], ap, arith, drop, false, inl, inr, length, length-drop, refl, subst, suc, sym, take, zero, ℕ, ◌++◌, ◌+◌, ◌<◌, ◌^◌, ◌∙◌, ◌∷◌, ◌≡◌, ◌≤◌, both_ways, drop-map, length-take, take-map, take_all, slice_get_within, map, replicate, slice_get, Item, Entry, Choice, Env, saved_in_ring, Checkpoint, Slots, Log, Ledger, Image, base, no_connections_may, may_send, start, Limits, Override, Path, Served, origin, runs_start, writes_more, writes_none, writes_on, CpuState, with_live, standing_of, Live, Standing, Writes, served_same, items_in, KeepsItems, KeepsReplies, Rules, Carries, asks_under_all, chained_adopt, AreChained, AreCheckpoints, plan_of_trial, AreKept, HasFailed, HasSaved, Held, IsKept, KeepsSaved, StandsOn, Brings, CanSave, HasNoCheckpoint, IsAtStart, KeepsRing, Adopts}
 use Rattle.recovery.proofs.Stands.{saved_states}
@@ -110,7 +111,7 @@ module _ {R : Type 0} {rules : Rules} {image : Image} {entries : List Entry} {pl
   ring_beside same still = ring_more (brings_none rules entries) same still
 
   -- The survivor failed: with what its session has beside the ring, this is all that is known of a session that failed.
-  pub ring_fails : rules.bounds.max_items ≤ 2 ^ 20 → KeepsItems rules.bounds entries log → KeepsReplies rules.bounds entries None now.state.sends ledger → Carries rules image entries plan now → HasFailed rules image entries plan now ring cpu log ledger
+  pub ring_fails : rules.bounds.max_items ≤ MAX_ITEMS → KeepsItems rules.bounds entries log → KeepsReplies rules.bounds entries None now.state.sends ledger → Carries rules image entries plan now → HasFailed rules image entries plan now ring cpu log ledger
   ring_fails few items replies carries = record {
     items = items;
     few_items = few;

@@ -1,5 +1,6 @@
 -- The guest of a trial runs to its next event: what that makes of the trial.
-use Rattle.std.proofs.lemmas.Nat.{mul-le}
+use Rattle.rx_base.proofs.Budgets.{few_in_all}
+use Rattle.rx_base.specs.declared.item.TheConstants.{MAX_ITEMS}
 use Rattle.guest_cpu.specs.declared.event.Event.TheVariants as event
 use Rattle.run_history.specs.Touching.{Range}
 use Rattle.guest_cpu.specs.Running.{RunsBy}
@@ -16,9 +17,9 @@ use Rattle.recovery.proofs.Starting.{failed_still}
 pub force_is : (env : Env) (point taken : ℕ) → taken ≤ point → env_at (everywhere env point) taken ≡ env
 force_is env point taken early = env_within [] 0 (point + 4) env taken (omega arith) (omega (arith, early))
 
-room : (steps at taken since budget : ℕ) → at ≡ steps → steps ≤ taken * (budget + 1) + since → since ≤ budget → taken ≤ 2 ^ 20 → budget ≤ 2 ^ 24 → at + budget < 2 ^ 64 - 1
+room : (steps at taken since budget : ℕ) → at ≡ steps → steps ≤ taken * (budget + 1) + since → since ≤ budget → taken ≤ MAX_ITEMS → budget ≤ 2 ^ 24 → at + budget < 2 ^ 64 - 1
 room steps at taken since budget same bounded last few budgeted =
-    omega (arith, same, bounded, last, budgeted, mul-le taken (budget + 1) (2 ^ 20) (2 ^ 24 + 1) few (omega (arith, budgeted)))
+    omega (arith, same, bounded, last, budgeted, few_in_all taken budget few (omega (arith, budgeted)))
 
 -- the second state sent as much, and took as many items
 pub unharmed_still : (pieces : List Send) (point : ℕ) (s t : State) → t.sends ≡ s.sends → t.machine.taken ≡ s.machine.taken → IsUnharmed pieces point s → IsUnharmed pieces point t

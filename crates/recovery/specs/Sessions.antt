@@ -1,5 +1,6 @@
 -- Where a session stands whose program failed.
 use Rattle.std.specs.Prelude.{◌≡◌, ℕ, ◌≤◌, ◌^◌, List, [], ◌∷◌, length, map, Bool, true, false, None}
+use Rattle.rx_base.specs.declared.item.TheConstants.{MAX_ITEMS}
 use Rattle.recovery.specs.Terms.{Item, Send, sent_to, Entry, Choice, Heap, Checkpoint, Log, Ledger, Image, may_send, Override, Path, limits_of, CpuState, IsBounded, standing_of, Standing, events_of, heeded, items_in, received, AreSendable, KeepsItems, KeepsReplies, Rules, opens, AreBetween, AreInOrder, Covers, IsFeasible, passed_in, AreChained, AreCheckpoints}
 
 -- A run of a session, from which its guest can go on unless it has ended: it is within the budget, it may send to connections alone that
@@ -30,7 +31,7 @@ HasSaved cpu ring = map (λ (one : Checkpoint Standing). one.state) cpu.slots.sa
 -- them, log and ledger have the journal's items and replies, and the survivor emits what was passed, each byte in time.
 pub record HasFailed {R : Type 0} (rules : Rules) (image : Image) (entries : List Entry) (plan : List Override) (failed : Path) (ring : List Path) (cpu : CpuState R) (log : Log) (ledger : Ledger) : Type 0 where
   pub items : KeepsItems rules.bounds entries log
-  pub few_items : rules.bounds.max_items ≤ 2 ^ 20
+  pub few_items : rules.bounds.max_items ≤ MAX_ITEMS
   pub replies : KeepsReplies rules.bounds entries None failed.state.sends ledger
   pub taken : failed.state.machine.taken ≤ received rules.bounds entries
   pub ordered : AreInOrder (received rules.bounds entries) (passed_in rules.bounds entries)

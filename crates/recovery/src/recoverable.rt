@@ -3,8 +3,8 @@ ghost use Rattle.std.specs.Prelude.{◌≤◌, IfOk};
 ghost use Rattle.recovery.specs.Recoverables.{IsFresh};
 
 use block_book::Choice;
-use guest_image::Image;
 use guest_cpu::Cpu;
+use guest_image::Image;
 use guest_space::AccessRule;
 use item_log::ItemLog;
 use msg_frame::Framing;

@@ -1,5 +1,6 @@
 -- A replay at its start, and at its end.
 use Rattle.item_log.specs.Log as logs
+use Rattle.rx_base.specs.declared.item.TheConstants.{MAX_ITEMS}
 use Rattle.run_history.specs.declared.answer.Answer.TheVariants as answer
 use Rattle.replay.proofs.Terms.{List, None, Option, [], ap, arith, drop, false, length, refl, subst, sym, true, ℕ, ◌+◌, ◌^◌, ◌≡◌, both_ways, length-replicate, Err, Send, tells_nothing, IsFresh, Phases, Seen, Choice, items_from, items_of, Log, Image, Answer, no_connections_may, no_connections, start_machine, start_standing, Standing, MayBegin, Bounds, heeded, heeded_behind, items_in, Recorded, Difference, Player, BreaksOff, IsLastSend, HasReplayedBy, LinkAnswers, bounds_of, DiffersBy, HasFilledBy, HasFound, AreOpen, AreOpenThen, IsBetween, IsEnd, LinkTurns, Stage, has, replay_of, stage_of}
 use Rattle.replay.specs.Giving as giving
@@ -28,7 +29,7 @@ all_places = length-replicate 4096 false
 abbrev start_stage : Image → Log → Stage
 start_stage image log = record { live = start_standing image; log = log; events = 0; gone = no_connections; choices = [] }
 
-starts : {image : Image} {recording : Recorded} {seen : Seen} {log : Log} → IsFresh seen.phases → logs.Shows recording.frame [] log → log ≡ logs.empty_log recording.frame (2 ^ 20)
+starts : {image : Image} {recording : Recorded} {seen : Seen} {log : Log} → IsFresh seen.phases → logs.Shows recording.frame [] log → log ≡ logs.empty_log recording.frame MAX_ITEMS
     → IsBetween image recording seen.told seen (start_stage image log)
 unfolding start_machine
 starts {recording = recording} {seen = seen} fresh shows is = record {

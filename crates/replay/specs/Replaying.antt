@@ -1,5 +1,6 @@
 -- What a replay of a record is: the run that the record tells of, over the events of a link, and its sends given again.
 use Rattle.std.specs.Prelude.{◌≡◌, ◌≢◌, ℕ, ◌+◌, ◌<◌, ◌≤◌, ◌^◌, List, [], ◌∷◌, ◌++◌, length, slice_get, unwrap_or, false, None, Some, Option, IsSome, IfSome, ◌⊎◌, true}
+use Rattle.rx_base.specs.declared.item.TheConstants.{MAX_ITEMS}
 use Rattle.links.specs.declared.journal.Entry.TheVariants as entry
 use Rattle.links.specs.declared.journal.LinkEvent.TheVariants as event
 use Rattle.run_history.specs.declared.answer.Answer.TheVariants as answer
@@ -9,7 +10,7 @@ use Rattle.replay.specs.Giving.{AreGiven, AreGivenInPart}
 
 -- what a record allows a link: its own framing, and the most items and events that any session may have; nothing comes before a replay
 abbrev pub bounds_of : Recorded → Bounds
-bounds_of recorded = record { framing = recorded.frame; max_items = 2 ^ 20; max_events = 2 ^ 32; before = nothing_before }
+bounds_of recorded = record { framing = recorded.frame; max_items = MAX_ITEMS; max_events = 2 ^ 32; before = nothing_before }
 
 -- an answer has this ask, where one is known
 abbrev pub HasAsk : Option Ask → Choice → Type 0

@@ -6,18 +6,18 @@ ghost use Rattle.replay.specs.Making.{IsMade};
 use crate::difference::Difference;
 use block_book::{Choice, Choices};
 use call_gate::ConnSet;
-use guest_image::Image;
 use guest_cpu::Cpu;
+use guest_image::Image;
 use guest_space::AllMapped;
 use item_log::ItemLog;
 use msg_frame::Framing;
 use run_history::Answer;
+use rx_base::MAX_ITEMS;
 use std::alloc::{AllocError, Global};
 
 const PAGE: u32 = 4096;
 
 // The most items that a session may receive.
-const MAX_ITEMS: u64 = 1 << 20;
 
 /// Who replays a record: the guest, the items received, how many events came, the connections that were found gone, the answers of
 /// the allocator that were used, and what differs from the record.

@@ -15,8 +15,8 @@ use crate::layout::Layout;
 use crate::placed::Placed;
 use crate::sections::Sections;
 use asm_lines::{Flaw, Part, Section, Statement};
-use rx_base::Bytes;
 use rv_isa::{BranchOp, ImmOp, Instr, encode};
+use rx_base::Bytes;
 use std::alloc::{AllocError, Global};
 
 // Puts a word behind other bytes, its lowest byte first.

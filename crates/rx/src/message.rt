@@ -2,7 +2,8 @@
 use elf_file::{ElfRefusal, RefusedField};
 use msg_frame::MAX_MESSAGE;
 use run_history::{Answer, Cause};
-use rx_serve::{MAX_EVENTS, MAX_ITEMS};
+use rx_base::MAX_ITEMS;
+use rx_serve::MAX_EVENTS;
 use std::fmt;
 
 // What is wrong with a frame of the input, by the number of the refusal.

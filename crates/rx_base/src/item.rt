@@ -7,6 +7,9 @@ pub type Conn = u32;
 /// How many connections there are: they have the numbers below this.
 pub const CONNECTIONS: Conn = 4096;
 
+/// The most items that a session receives.
+pub const MAX_ITEMS: u64 = 1 << 20;
+
 /// What a guest receives: an open (kind 1), a message (2) or a close (3) of a connection. An open and a close have no bytes.
 #[derive(Debug, Drop)]
 pub struct Item {

@@ -1,5 +1,6 @@
 -- A session whose recoverable part is another one.
 use Rattle.links.specs.declared.journal.Entry.{Entry}
+use Rattle.rx_base.specs.declared.item.TheConstants.{MAX_ITEMS}
 use Rattle.recovery.specs.declared.recovering.Recovered.{Recovered}
 use Rattle.recovery.specs.Recoverables.{HoldsRing, KeepsHeld, KeepsUnsaved, held_of}
 use Rattle.recovery.specs.Recovering.{HasToRecover}
@@ -33,7 +34,7 @@ module _ {R : Type 0} where
   fails_as permits {image = image} {began = began} {seen = seen} {cause = cause} same = subst (λ (s : SessionState R). IsFailing (rules_by permits s) image began seen cause s) same
 
   -- what its recovery asks for, where its guest stands so
-  pub recovers_at : {rules : Rules} {image : Image} {began : Since} {seen : Seen} {cause : Cause} {old : SessionState R} {pc : ℕ} (f : IsFailing rules image began seen cause old) → rules.limits.budget ≤ 2 ^ 24 → rules.bounds.max_items ≤ 2 ^ 20 → pc ≡ old.cpu.slots.live.guest.machine.pc
+  pub recovers_at : {rules : Rules} {image : Image} {began : Since} {seen : Seen} {cause : Cause} {old : SessionState R} {pc : ℕ} (f : IsFailing rules image began seen cause old) → rules.limits.budget ≤ 2 ^ 24 → rules.bounds.max_items ≤ MAX_ITEMS → pc ≡ old.cpu.slots.live.guest.machine.pc
       → HasToRecover (record { point = old.taken; cause = cause; pc = pc }) (failure_of f) (held_in old)
   recovers_at {cause = cause} {old = old} f budget items is = subst (λ n. HasToRecover (record { point = old.taken; cause = cause; pc = n }) (failure_of f) (held_in old)) (sym is) (to_recover f budget items)
 

@@ -1,5 +1,6 @@
 -- What the guest of a session that follows makes of it in one turn: it ran to an event.
 use Rattle.guest_cpu.specs.declared.event.Event.{Event}
+use Rattle.rx_base.specs.declared.item.TheConstants.{MAX_ITEMS}
 use Rattle.guest_cpu.specs.declared.event.Event.TheVariants as step
 use Rattle.guest_cpu.specs.Writing.{RunsWriting}
 use Rattle.session_history.specs.declared.ends.SessionBreak.TheVariants as session_break
@@ -9,7 +10,7 @@ use Rattle.session_following.specs.declared.turned.Turned.TheVariants as turned
 use Rattle.session_following.specs.declared.unfollowed.Unfollowed.TheVariants as unfollowed
 use Rattle.session_following.specs.Missing.{IsMissing}
 use Rattle.session_following.specs.Standing.{HasJustBegun}
-use Rattle.std.proofs.lemmas.Nat.{mul-le}
+use Rattle.rx_base.proofs.Budgets.{few_in_all}
 use Rattle.rx_engine.proofs.Terms.{AllocError, ap, append-nil, arith, inl, refl, subst, sym, ℕ, ◌+◌, ◌<◌, ◌∙◌, ◌≡◌, ◌≤◌, Bool, IfOk, Result, false, true, ◌≢◌, Send, Phases, Told, Seen, Choice, Heap, Env, Ledger, is_open, Image, Cause, AsksFor, FailsBy, Path, CpuState, live_of, with_live, Standing, Stop, Before, items_in, Rules, Noted, Shown, Unnoted, AsksForMore, Handed, plan_of, known_same, chosen_serves, memory_serves, unnoted_serves, Ran, ran_oldest, gives_same, trimmed_still, still_takes, KeepsOldest, rules_in, HasSameOpen, IsCounted, IsUnnoted, LinkServes, MayServe, NotesServe, rules_by, SessionState, env_of, Since, Turned, Unfollowed, moved_turn, ran_to, rules_following, plan_up_to, Agree, before_moved, IsUnfollowed, UnnotedBy, AsksOn, FailsOn, Follows, HasRunOn, IfFollows, KeepsTurning, TurnsTo, held_back, turn_as}
 
 -- where its guest ran to
@@ -235,15 +236,15 @@ module _ {R : Type 0} {old mid : SessionState R} where
       subst (λ (s : SessionState R). KeepsOldest old s) (sym is) (record { oldest = first.oldest; first = first.first; recorded = first.recorded; sends = first.sends; keeping = first.keeping })
 
 -- Its guest has done few instructions: so many come between two items, and so many items.
-pub follows_fits : {R : Type 0} {rules here : Rules} {image : Image} {handed : Handed} {told : Told} {seen : Seen} {before noted : Noted} {missing : List ℕ} {session : SessionState R} → here.limits.budget ≤ 2 ^ 24 → here.bounds.max_items ≤ 2 ^ 20 → Follows rules here image handed told seen before noted missing session
+pub follows_fits : {R : Type 0} {rules here : Rules} {image : Image} {handed : Handed} {told : Told} {seen : Seen} {before noted : Noted} {missing : List ℕ} {session : SessionState R} → here.limits.budget ≤ 2 ^ 24 → here.bounds.max_items ≤ MAX_ITEMS → Follows rules here image handed told seen before noted missing session
     → session.cpu.slots.live.steps < 1152921504606846976
 follows_fits {rules = rules} {here = here} budget items s =
     let now : Path = s.now in
     let same_budget : here.limits.budget ≡ rules.limits.budget = ap (λ (r : Rules). r.limits.budget) s.here_is in
     let same_items : here.bounds.max_items ≡ rules.bounds.max_items = ap (λ (r : Rules). r.bounds.max_items) s.here_is in
     let most = s.follows.stands.goes.few in
-    let few : now.state.machine.taken ≤ 2 ^ 20 = omega (arith, most, items, same_items) in
-    let product : now.state.machine.taken * (rules.limits.budget + 1) ≤ 2 ^ 20 * (2 ^ 24 + 1) = mul-le now.state.machine.taken (rules.limits.budget + 1) (2 ^ 20) (2 ^ 24 + 1) few (omega (arith, budget, same_budget)) in
+    let few : now.state.machine.taken ≤ MAX_ITEMS = omega (arith, most, items, same_items) in
+    let product : now.state.machine.taken * (rules.limits.budget + 1) < 2 ^ 57 = few_in_all now.state.machine.taken rules.limits.budget few (omega (arith, budget, same_budget)) in
     let live = ap (λ (t : Standing). t.steps) s.follows.stands.goes.guest in
     let since = s.follows.stands.goes.bounded.since in
     let steps = s.follows.stands.goes.bounded.steps in

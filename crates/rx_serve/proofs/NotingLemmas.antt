@@ -1,7 +1,7 @@
 -- What stands in a session's files at its end, and that the counts of it fit into a record.
 use Rattle.rx_base.specs.declared.fault.IoFault.TheVariants as fault
 use Rattle.run_history.specs.declared.answer.Answer.TheVariants as answer
-use Rattle.rx_serve.proofs.Terms.{Bool, List, None, Ok, Option, Some, [], arith, inl, inr, refl, subst, sym, ℕ, ◌*◌, ◌+◌, ◌<◌, ◌^◌, ◌∙◌, ◌≡◌, ◌≤◌, mul-le, IoFault, FileCall, Contents, Stream, Choice, Heap, Image, Answer, Stop, is_end_answer, Session, journal_of, IsEnd, answer_of, Rules, Episode, Try, NoneFailed, Shown, noted, few_items, Keeping, Form, MAX_TAKEN, whole_texts, AreAsks, InRecord, InReport, Left, Nothing, unnoted_of, Names, Stands, Options, AreInRange, keeping_for, rules_of, IsHandedLast, IsNoteStop, Outcome, SessionState, HasServedTrunk, RunValue, Outside, outside, status_of, Route, Watches, ClosesFiles, EndsFiles, HaveTexts, IsFilesAnswer, ServesNoted, StartsFiles, WatchesNoted, names_of, report_form}
+use Rattle.rx_serve.proofs.Terms.{Bool, List, None, Ok, Option, Some, [], arith, inl, inr, refl, subst, sym, ℕ, ◌*◌, ◌+◌, ◌<◌, ◌^◌, ◌∙◌, ◌≡◌, ◌≤◌, few_in_all, IoFault, FileCall, Contents, Stream, Choice, Heap, Image, Answer, Stop, is_end_answer, Session, journal_of, IsEnd, answer_of, Rules, Episode, Try, NoneFailed, Shown, noted, few_items, Keeping, Form, MAX_ITEMS, whole_texts, AreAsks, InRecord, InReport, Left, Nothing, unnoted_of, Names, Stands, Options, AreInRange, keeping_for, rules_of, IsHandedLast, IsNoteStop, Outcome, SessionState, HasServedTrunk, RunValue, Outside, outside, status_of, Route, Watches, ClosesFiles, EndsFiles, HaveTexts, IsFilesAnswer, ServesNoted, StartsFiles, WatchesNoted, names_of, report_form}
 use Rattle.rx_serve.proofs.FewSteps.{few_steps}
 use Rattle.session_history.specs.declared.ends.SessionBreak.TheVariants as session_break
 use Rattle.session_history.specs.declared.ends.Stop.TheVariants as stop
@@ -142,17 +142,17 @@ kept_at {rules = rules} {keeping = keeping} {image = image} {value = value} {rou
 
 -- an account of a session within its bounds: few items were taken, and few instructions done
 pub few_counts : (options : Options) → AreInRange options → (permits : Heap → ℕ → ℕ → Bool) {image : Image} {value : RunValue} {route : Route} {old new : Outside} {outcome : Outcome}
-    → ServesNoted (rules_of options permits) (keeping_for options) image value route old new outcome → (outcome.taken ≤ MAX_TAKEN) × (outcome.steps < 2 ^ 63)
+    → ServesNoted (rules_of options permits) (keeping_for options) image value route old new outcome → (outcome.taken ≤ MAX_ITEMS) × (outcome.steps < 2 ^ 63)
 few_counts options ranges permits {image = image} noted =
     let s = noted.serves in
     let session : Session = s.telling.account in
     let account = s.is.is.ended.account in
-    let few : session.survivor.now.state.machine.taken ≤ 2 ^ 20 =
+    let few : session.survivor.now.state.machine.taken ≤ MAX_ITEMS =
     omega (arith, account.taken, few_items (rules_of options permits).bounds (journal_of session), ranges.few_items) in
     let budget = ranges.few_budget in
-    let product : session.survivor.now.state.machine.taken * (options.budget + 1) ≤ 2 ^ 20 * (2 ^ 24 + 1) = mul-le session.survivor.now.state.machine.taken (options.budget + 1) (2 ^ 20) (2 ^ 24 + 1) few (omega (arith, budget)) in
+    let product : session.survivor.now.state.machine.taken * (options.budget + 1) < 2 ^ 57 = few_in_all session.survivor.now.state.machine.taken options.budget few (omega (arith, budget)) in
     let done = few_steps (rules_of options permits).limits _ session.survivor.plan image session.survivor.now account.served in
-    (subst (λ n. n ≤ MAX_TAKEN) s.is.taken_is few, subst (λ n. n < 2 ^ 63) s.is.steps_are (omega (arith, product, done, budget)))
+    (subst (λ n. n ≤ MAX_ITEMS) s.is.taken_is few, subst (λ n. n < 2 ^ 63) s.is.steps_are (omega (arith, product, done, budget)))
 
 -- ---- notes that were lent
 

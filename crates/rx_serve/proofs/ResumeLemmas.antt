@@ -7,7 +7,7 @@ use Rattle.schedule_file.specs.Lines as recording
 use Rattle.schedule_file.specs.declared.recorded.Unfinished.{Unfinished as Read}
 use Rattle.session_following.specs.declared.unfollowed.Unfollowed.TheVariants as unfollowed
 use Rattle.run_history.specs.declared.answer.Answer.TheVariants as answer
-use Rattle.rx_serve.proofs.Terms.{Bool, List, None, Ok, Option, Some, [], ap, append-nil, arith, drop, false, inl, inr, length, refl, rules, subst, suc, sym, take, true, ℕ, ◌*◌, ◌++◌, ◌+◌, ◌<◌, ◌^◌, ◌∙◌, ◌∷◌, ◌≡◌, ◌≤◌, length-take-le, take-append-drop, All-cons, mul-le, All, AllPairs, Err, IsSome, Result, if◌then◌else◌, slice_index_or, ◌==◌, FileCall, Calls, Rose, Contents, Stream, LinkEvent, Choice, Heap, Image, Answer, Path, Stop, Session, journal_of, HasAnswerCause, IsEnd, answer_of, Rules, Episode, Try, NoneFailed, Shown, noted, rules_behind, Handed, adopted_try, few_items, Keeping, Form, MAX_TAKEN, VERSION, calls_then, whole_texts, whole_texts_behind, AreAsks, AddsAlone, Left, Nothing, unnoted_of, AreTwo, Names, Stands, StandsBehind, report_text, told_text, HasBoth, all_kept, nothing_kept, Options, begun_rules, AreInRange, keeping_for, rules_of, Outcome, rules_by, IsBegun, SessionState, Unfollowed, MayBeHanded, UnnotedBy, stop_as, ResumesBy, ResumesTrunk, StopsFollowing, answer_as, trunk_counts, RunValue, End, Faults, HasFaults, Outside, faults, outside, status_of, options_of, rule_of, rules_of_run, Route, trunk_of, ClosesFiles, EndsFiles, HaveTexts, IsFilesAnswer, ServesNotedBehind, StandsFrom, names_of, report_form, CallsEnding, CallsServedBehind, AreHandedOver, FourTexts, HasResumed, StartsTakenOver, StopsNoted, before_taken, ResumesNoted, ServesOnNoted, resumed_answer}
+use Rattle.rx_serve.proofs.Terms.{Bool, List, None, Ok, Option, Some, [], ap, append-nil, arith, drop, false, inl, inr, length, refl, rules, subst, suc, sym, take, true, ℕ, ◌*◌, ◌++◌, ◌+◌, ◌<◌, ◌^◌, ◌∙◌, ◌∷◌, ◌≡◌, ◌≤◌, length-take-le, take-append-drop, All-cons, few_in_all, All, AllPairs, Err, IsSome, Result, if◌then◌else◌, slice_index_or, ◌==◌, FileCall, Calls, Rose, Contents, Stream, LinkEvent, Choice, Heap, Image, Answer, Path, Stop, Session, journal_of, HasAnswerCause, IsEnd, answer_of, Rules, Episode, Try, NoneFailed, Shown, noted, rules_behind, Handed, adopted_try, few_items, Keeping, Form, MAX_ITEMS, VERSION, calls_then, whole_texts, whole_texts_behind, AreAsks, AddsAlone, Left, Nothing, unnoted_of, AreTwo, Names, Stands, StandsBehind, report_text, told_text, HasBoth, all_kept, nothing_kept, Options, begun_rules, AreInRange, keeping_for, rules_of, Outcome, rules_by, IsBegun, SessionState, Unfollowed, MayBeHanded, UnnotedBy, stop_as, ResumesBy, ResumesTrunk, StopsFollowing, answer_as, trunk_counts, RunValue, End, Faults, HasFaults, Outside, faults, outside, status_of, options_of, rule_of, rules_of_run, Route, trunk_of, ClosesFiles, EndsFiles, HaveTexts, IsFilesAnswer, ServesNotedBehind, StandsFrom, names_of, report_form, CallsEnding, CallsServedBehind, AreHandedOver, FourTexts, HasResumed, StartsTakenOver, StopsNoted, before_taken, ResumesNoted, ServesOnNoted, resumed_answer}
 use Rattle.rx_serve.proofs.FewSteps.{few_steps}
 use Rattle.rx_serve.proofs.GuardLemmas.{keeps_to_blocks}
 use Rattle.rx_serve.proofs.HeadlineLemmas.{headline}
@@ -283,22 +283,22 @@ noted_of value route old new started served calls calls_later outcome s = record
 
 -- how many items were taken, and how many instructions done, fit into a record
 few_behind : (options : Options) → AreInRange options → (permits : Heap → ℕ → ℕ → Bool) (handed : Handed) (events : List LinkEvent) (released : Path) {before : List Episode} {image : Image} {value : RunValue} {route : Route} {old new : Outside} {outcome : Outcome}
-    → ServesNotedBehind before (rules_behind (rules_of options permits) handed events released) (keeping_for options) image value route old new outcome → (outcome.taken ≤ MAX_TAKEN) × (outcome.steps < 2 ^ 63)
+    → ServesNotedBehind before (rules_behind (rules_of options permits) handed events released) (keeping_for options) image value route old new outcome → (outcome.taken ≤ MAX_ITEMS) × (outcome.steps < 2 ^ 63)
 few_behind options ranges permits handed events released {image = image} served =
     let s = served.serves in
     let session : Session = s.telling.account in
     let account = s.is.is.ended.account in
-    let few : session.survivor.now.state.machine.taken ≤ 2 ^ 20 =
+    let few : session.survivor.now.state.machine.taken ≤ MAX_ITEMS =
     omega (arith, account.taken, few_items (rules_behind (rules_of options permits) handed events released).bounds (journal_of session), ranges.few_items) in
     let budget = ranges.few_budget in
-    let product : session.survivor.now.state.machine.taken * (options.budget + 1) ≤ 2 ^ 20 * (2 ^ 24 + 1) = mul-le session.survivor.now.state.machine.taken (options.budget + 1) (2 ^ 20) (2 ^ 24 + 1) few (omega (arith, budget)) in
+    let product : session.survivor.now.state.machine.taken * (options.budget + 1) < 2 ^ 57 = few_in_all session.survivor.now.state.machine.taken options.budget few (omega (arith, budget)) in
     let done = few_steps (rules_of options permits).limits _ session.survivor.plan image session.survivor.now account.served in
-    (subst (λ n. n ≤ MAX_TAKEN) s.is.taken_is few, subst (λ n. n < 2 ^ 63) s.is.steps_are (omega (arith, product, done, budget)))
+    (subst (λ n. n ≤ MAX_ITEMS) s.is.taken_is few, subst (λ n. n < 2 ^ 63) s.is.steps_are (omega (arith, product, done, budget)))
 
 module _ {R : Type 0} where
   pub resumed_fits : (permits : R → Heap → ℕ → ℕ → Bool) {value : RunValue} {handed : Handed} {old new : Outside} {image : Image} (options : Options) {rule : R} {session : SessionState R} {outcome : Outcome}
       → AreInRange options → IsBegun image options rule session → ServesOnNoted (rules_by permits session) (keeping_for session.options) image value handed old new outcome
-      → (outcome.taken ≤ MAX_TAKEN) × (outcome.steps < 2 ^ 63)
+      → (outcome.taken ≤ MAX_ITEMS) × (outcome.steps < 2 ^ 63)
   resumed_fits permits {value = value} {handed = handed} {old = old} {new = new} {image = image} options {rule = rule} {session = session} {outcome = outcome} ranges begun on =
       let own : ServesOnNoted (rules_of options (permits rule)) (keeping_for options) image value handed old new outcome =
       subst (λ (rules : Rules). ServesOnNoted rules (keeping_for options) image value handed old new outcome) (begun_rules permits begun)

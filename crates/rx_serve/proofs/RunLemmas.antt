@@ -1,7 +1,7 @@
 -- What `run` leaves, from what its parts leave.
 use Rattle.run_history.specs.declared.answer.Answer.TheVariants as answer
 use Rattle.rx_base.specs.declared.fault.IoFault.TheVariants as fault
-use Rattle.rx_serve.proofs.Terms.{Bool, List, None, Ok, Option, arith, inl, inr, refl, subst, sym, ℕ, ◌+◌, ◌<◌, ◌^◌, ◌∙◌, ◌≡◌, ◌≤◌, Err, IoFault, FileCall, Rose, Contents, Choice, Heap, Image, Answer, Stop, answer_of, Rules, Try, Keeping, TellsMore, MAX_TAKEN, CallsFront, Options, begun_rules, AreInRange, keeping_for, rules_of, AreAllTables, Outcome, story_of, IsReadyToServe, rules_by, IsBegun, SessionState, RunValue, End, IsUntouched, Outside, HasImage, HasLoadCause, options_of, rule_of, rules_of_run, window_of, HasNoSession, Route, ClosesFiles, IsFilesAnswer, ServesNoted, StartsFiles, WatchesNoted, CallsServed, before_session, HasBegun, StartsPartly, HasNotBegun, HasServed}
+use Rattle.rx_serve.proofs.Terms.{Bool, List, None, Ok, Option, arith, inl, inr, refl, subst, sym, ℕ, ◌+◌, ◌<◌, ◌^◌, ◌∙◌, ◌≡◌, ◌≤◌, Err, IoFault, FileCall, Rose, Contents, Choice, Heap, Image, Answer, Stop, answer_of, Rules, Try, Keeping, TellsMore, MAX_ITEMS, CallsFront, Options, begun_rules, AreInRange, keeping_for, rules_of, AreAllTables, Outcome, story_of, IsReadyToServe, rules_by, IsBegun, SessionState, RunValue, End, IsUntouched, Outside, HasImage, HasLoadCause, options_of, rule_of, rules_of_run, window_of, HasNoSession, Route, ClosesFiles, IsFilesAnswer, ServesNoted, StartsFiles, WatchesNoted, CallsServed, before_session, HasBegun, StartsPartly, HasNotBegun, HasServed}
 use Rattle.rx_serve.proofs.GuardLemmas.{keeps_to_blocks}
 use Rattle.rx_serve.proofs.HeadlineLemmas.{headline}
 use Rattle.rx_serve.proofs.NotingLemmas.{closes_same, closes_whole, few_counts, whole_at}
@@ -158,7 +158,7 @@ module _ {R : Type 0} where
   pub counts_fit : (permits : R → Heap → ℕ → ℕ → Bool) {value : RunValue} {route : Route} {old new : Outside} {image : Image} (options : Options) {rule : R} {session : SessionState R} {outcome : Outcome}
       → AreInRange options → IsBegun image options rule session
       → ServesNoted (rules_by permits session) (keeping_for session.options) image value route old new outcome
-      → (outcome.taken ≤ MAX_TAKEN) × (outcome.steps < 2 ^ 63)
+      → (outcome.taken ≤ MAX_ITEMS) × (outcome.steps < 2 ^ 63)
   counts_fit permits {value = value} {route = route} {old = old} {new = new} {image = image} options {rule = rule} {session = session} {outcome = outcome} ranges begun serves =
       few_counts session.options (subst AreInRange (sym begun.options_are) ranges) (permits session.cpu.rule)
       (subst (λ (rules : Rules). ServesNoted rules (keeping_for session.options) image value route old new outcome) (begun_rules permits (begun_own image options rule session begun)) serves)

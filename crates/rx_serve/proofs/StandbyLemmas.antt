@@ -7,7 +7,7 @@ use Rattle.standby.specs.declared.kept.Kept.{Kept}
 use Rattle.standby.specs.Following.{BreaksBy, kept_to}
 use Rattle.standby.specs.Missing.{AllGiven, IsShort}
 use Rattle.standby.specs.Serving.{EndsBy, WasServed, plain_limits}
-use Rattle.rx_serve.proofs.Terms.{List, None, Ok, Option, Some, [], ap, arith, inl, inr, length, map, refl, rules, subst, sym, ℕ, ◌*◌, ◌++◌, ◌+◌, ◌-◌, ◌<◌, ◌^◌, ◌∙◌, ◌∷◌, ◌≡◌, ◌≤◌, mul-le, Err, ◌⊎◌, IoFault, FileCall, Added, Calls, HasCause, Rose, Contents, Stream, Send, sent_to, Entry, Counts, events_in, pieces_in, Choice, Image, Answer, HasAnswerCause, IsEnd, items_in, few_items, Recorded, MAX_TAKEN, choice_line, choice_lines, end_line, head_line, line_of, lines_text, IsRecord, count_of, calls_then, front_behind, CallsFront, CallsUpTo, starts_of, Difference, bounds_of, BreaksOffTrunk, ServesOnTrunk, StandbyValue, End, Faults, HasFaults, Outside, faults, outside, HasNoSession, IsFilesAnswer, HasTakeoverCause, loading, AreCovered, CallsRecording, ClosesRecording, EndsRecording, HasRecorded, HasTakenUp, IsBrokenOff, IsFirstShort, IsNotServed, IsServedOn, StandbyEnds, StartsRecording, TakesOver}
+use Rattle.rx_serve.proofs.Terms.{List, None, Ok, Option, Some, [], ap, arith, inl, inr, length, map, refl, rules, subst, sym, ℕ, ◌*◌, ◌++◌, ◌+◌, ◌-◌, ◌<◌, ◌^◌, ◌∙◌, ◌∷◌, ◌≡◌, ◌≤◌, few_in_all, Err, ◌⊎◌, IoFault, FileCall, Added, Calls, HasCause, Rose, Contents, Stream, Send, sent_to, Entry, Counts, events_in, pieces_in, Choice, Image, Answer, HasAnswerCause, IsEnd, items_in, few_items, Recorded, MAX_ITEMS, choice_line, choice_lines, end_line, head_line, line_of, lines_text, IsRecord, count_of, calls_then, front_behind, CallsFront, CallsUpTo, starts_of, Difference, bounds_of, BreaksOffTrunk, ServesOnTrunk, StandbyValue, End, Faults, HasFaults, Outside, faults, outside, HasNoSession, IsFilesAnswer, HasTakeoverCause, loading, AreCovered, CallsRecording, ClosesRecording, EndsRecording, HasRecorded, HasTakenUp, IsBrokenOff, IsFirstShort, IsNotServed, IsServedOn, StandbyEnds, StartsRecording, TakesOver}
 use Rattle.rx_serve.proofs.FewSteps.{few_behind, few_taken}
 use Rattle.rx_serve.proofs.NotingLemmas.{not_read, not_write, note_is_no_end}
 use Rattle.rx_serve.proofs.RunLemmas.{rose_within}
@@ -82,16 +82,16 @@ module _ (counts : List (ℕ × ℕ)) (kept : List Kept) (sends : List Send) (sa
 -- ---- its counts fit into a record
 
 pub counts_fit : {image : Image} {recorded : Recorded} {budget : ℕ} {counts : List (ℕ × ℕ)} {from : List Entry} {source source_later : Option Stream} {sink sink_later : Option (List ℕ)} {end : Answer} {choices : List Choice} {steps taken : ℕ}
-    → ServesOnTrunk image recorded budget counts from source source_later sink sink_later end choices steps taken → IsRecord recorded → recorded.steps < 2 ^ 62 → budget ≤ 2 ^ 24 → (steps < 2 ^ 63) × (taken ≤ MAX_TAKEN)
+    → ServesOnTrunk image recorded budget counts from source source_later sink sink_later end choices steps taken → IsRecord recorded → recorded.steps < 2 ^ 62 → budget ≤ 2 ^ 24 → (steps < 2 ^ 63) × (taken ≤ MAX_ITEMS)
 counts_fit {recorded = recorded} {budget = budget} {steps = steps} {taken = taken} serves is short low =
     let path = serves.path in
     let seam = serves.followed.seam in
     let items = items_in (bounds_of recorded) serves.entries in
-    let most : length items ≤ 2 ^ 20 = few_items (bounds_of recorded) serves.entries in
-    let first : seam.state.machine.taken ≤ 2 ^ 20 = omega (arith, serves.followed.is_seam.taken, is.taken) in
-    let few : path.state.machine.taken ≤ 2 ^ 20 = few_taken (plain_limits budget) items [] seam path (2 ^ 20) serves.followed.served most first in
+    let most : length items ≤ MAX_ITEMS = few_items (bounds_of recorded) serves.entries in
+    let first : seam.state.machine.taken ≤ MAX_ITEMS = omega (arith, serves.followed.is_seam.taken, is.taken) in
+    let few : path.state.machine.taken ≤ MAX_ITEMS = few_taken (plain_limits budget) items [] seam path MAX_ITEMS serves.followed.served most first in
     let done : path.steps ≤ seam.steps + path.state.machine.taken * (budget + 1) + budget + 1 = few_behind (plain_limits budget) items [] seam path serves.followed.served in
-    let product : path.state.machine.taken * (budget + 1) ≤ 2 ^ 20 * (2 ^ 24 + 1) = mul-le path.state.machine.taken (budget + 1) (2 ^ 20) (2 ^ 24 + 1) few (omega (arith, low)) in
+    let product : path.state.machine.taken * (budget + 1) < 2 ^ 57 = few_in_all path.state.machine.taken budget few (omega (arith, low)) in
     (omega (arith, done, product, low, short, serves.followed.is_seam.steps, serves.steps_are), omega (arith, few, serves.taken_are))
 
 -- ---- faults

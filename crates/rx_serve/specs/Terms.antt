@@ -65,7 +65,8 @@ pub use Rattle.diagnosis.specs.Diagnosis.{diagnosis_text, head_text, rest_text}
 pub use Rattle.schedule_file.specs.declared.recorded.RecordRefusal.{RecordRefusal}
 pub use Rattle.schedule_file.specs.declared.recorded.RecordRefusal.TheVariants.{Refused}
 pub use Rattle.schedule_file.specs.declared.recorded.Recorded.{Recorded}
-pub use Rattle.schedule_file.specs.declared.recorded.TheConstants.{MAX_TAKEN, VERSION}
+pub use Rattle.schedule_file.specs.declared.recorded.TheConstants.{VERSION}
+pub use Rattle.rx_base.specs.declared.item.TheConstants.{MAX_ITEMS}
 pub use Rattle.schedule_file.specs.declared.recorded.Unfinished.{Unfinished}
 pub use Rattle.schedule_file.specs.Answers.{ReadsRecord, ReadsUnfinished}
 pub use Rattle.schedule_file.specs.Lines.{choice_line, choice_lines, line_of, lines_text}

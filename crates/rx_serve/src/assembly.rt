@@ -8,8 +8,8 @@ use elf_file::write_image;
 use guest_image::Image;
 use run_history::Answer;
 use rv_asm::{AsmRefusal, assemble};
-use rx_io::Files;
 use rx_base::{IoFault, LoadFault};
+use rx_io::Files;
 use std::alloc::Global;
 
 /// The greatest number of bytes of a text.

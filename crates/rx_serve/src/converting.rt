@@ -9,8 +9,8 @@ use crate::assembly::write_file;
 use crate::replaying::load_recording;
 use command_line::{ConvertCommand, ReplayCommand};
 use over_trunk::{Replayed, convert_trunk};
-use rx_io::{Files, Source};
 use rx_base::Steps;
+use rx_io::{Files, Source};
 use std::alloc::Global;
 use std::sync::ledger::Ledger;
 

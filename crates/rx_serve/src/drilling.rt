@@ -11,8 +11,8 @@ ghost use Rattle.rx_serve.specs.Status.{status_of};
 use crate::ending::End;
 use command_line::DrillCommand;
 use drill::run_drill;
-use rx_io::Sink;
 use rx_base::Steps;
+use rx_io::Sink;
 use std::alloc::Global;
 use std::sync::ledger::Ledger;
 

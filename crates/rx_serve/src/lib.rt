@@ -35,5 +35,5 @@ pub use loading::MAX_PROGRAM;
 pub use replaying::MAX_RECORD;
 pub use resuming_files::MAX_REPORT;
 pub use run::run_rx;
-pub use settings::{MAX_EVENTS, MAX_ITEMS};
+pub use settings::MAX_EVENTS;
 pub use standby_files::MAX_COUNTS;

@@ -8,8 +8,8 @@ ghost use Rattle.rx_serve.specs.Loading.{LoadsFile, ReadsImage, LoadsImage};
 use elf_file::{ElfRefusal, read_image};
 use guest_image::Image;
 use run_history::Answer;
-use rx_io::Files;
 use rx_base::LoadFault;
+use rx_io::Files;
 use std::alloc::Global;
 
 /// The greatest number of bytes of a program file: 16 MiB.

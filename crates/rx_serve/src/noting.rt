@@ -11,7 +11,7 @@ ghost use Rattle.session_state.specs.Serving.{IsReadyToServe, outcome_of};
 ghost use Rattle.session_state.specs.Sessions.{IsBegun};
 ghost use Rattle.rx_base.specs.Faults.{Rose, HasCause};
 ghost use Rattle.run_history.specs.declared.answer.Answer.TheVariants as answer;
-ghost use Rattle.schedule_file.specs.declared.recorded.TheConstants.{MAX_TAKEN};
+ghost use Rattle.rx_base.specs.declared.item.TheConstants.{MAX_ITEMS};
 ghost use Rattle.session_history.specs.Ends.{IsEnd, answer_of};
 ghost use Rattle.session_history.specs.declared.ends.Stop.{Stop};
 ghost use Rattle.file_notes.specs.Keeping.{IsCopy};
@@ -35,9 +35,9 @@ use over_trunk::serve_trunk;
 use recovery::Watch;
 use run_history::Answer;
 use run_report::Form;
+use rx_base::{IoFault, Steps};
 use rx_engine::Session;
 use rx_io::{Files, Sink, Source};
-use rx_base::{IoFault, Steps};
 use session_notes::{NoteList, Notes};
 use std::alloc::Global;
 use std::sync::ledger::Ledger;
@@ -239,7 +239,7 @@ pub(crate) fn end_notes<F: Files>(
     steps: u64,
 ) -> Answer
     requires two { AreTwo (names_of (run_shown run.now)) }
-    requires taken { taken ≤ MAX_TAKEN }
+    requires taken { taken ≤ MAX_ITEMS }
     requires steps { steps < 2 ^ 63 }
     ensures closes { ClosesFiles (run_shown run.now) taken steps (F.told files.old) (F.told files.new) ended result }
     ensures calls { CallsEnding (run_shown run.now) (F.calls files.old) (F.calls files.new) ended result }

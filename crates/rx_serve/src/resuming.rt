@@ -18,15 +18,15 @@ ghost use Rattle.rx_serve.specs.TakingOn.{BeginsBehind, ResumesNoted, resumed_an
 use crate::noting::{note_answer, report_form};
 use crate::settings::options_of;
 use command_line::RunCommand;
-use guest_image::Image;
 use file_notes::{FileNames, FileNotes, FirstLine, start_taken_over};
+use guest_image::Image;
 use guest_space::AccessRule;
 use over_trunk::resume_trunk;
 use recovery::NoWatch;
 use run_history::Answer;
+use rx_base::{IoFault, Steps};
 use rx_engine::Session;
 use rx_io::{Files, Sink, Source};
-use rx_base::{IoFault, Steps};
 use session_following::{HandedOver, Unfollowed};
 use session_notes::Episode;
 use std::alloc::Global;

@@ -4,10 +4,10 @@ ghost use Rattle.command_line.specs.Commands.{run_shown};
 ghost use Rattle.rx_serve.specs.Settings.{options_of};
 
 use command_line::RunCommand;
+use rx_base::MAX_ITEMS;
 use rx_engine::Options;
 
 /// How many items a session may receive.
-pub const MAX_ITEMS: u64 = 1 << 20;
 
 /// How many events a session may have.
 pub const MAX_EVENTS: u64 = 1 << 32;

@@ -7,7 +7,7 @@ ghost use Rattle.rx_base.specs.Faults.{HasCause, Rose};
 ghost use Rattle.rx_io.specs.declared.file_calls.FileCall.TheVariants.{Added};
 ghost use Rattle.run_history.specs.declared.answer.Answer.TheVariants as answer;
 ghost use Rattle.schedule_file.specs.Records.{IsRecord};
-ghost use Rattle.schedule_file.specs.declared.recorded.TheConstants.{MAX_TAKEN};
+ghost use Rattle.rx_base.specs.declared.item.TheConstants.{MAX_ITEMS};
 ghost use Rattle.rx_serve.specs.Outside.{HasFaults, faults, outside};
 ghost use Rattle.rx_serve.specs.StandbyFiles.{IsReady};
 ghost use Rattle.rx_serve.specs.StandingBy.{CallsRecording, ClosesRecording, EndsRecording, StandbyEnds, StartsRecording, TakesOver};
@@ -20,8 +20,8 @@ use command_line::StandbyCommand;
 use file_notes::{add_to_file, start_file};
 use over_trunk::{catch_up_trunk, rest_lines, serve_on_trunk};
 use run_history::Answer;
-use rx_io::{Files, Sink, Source};
 use rx_base::{IoFault, Steps};
+use rx_io::{Files, Sink, Source};
 use schedule_file::{Recorded, head_line};
 use standby::Followed;
 use std::alloc::Global;
@@ -54,7 +54,7 @@ fn add_rest<F: Files>(
     followed: &Followed,
 ) -> Result<(), IoFault>
     requires steps { followed.now.steps < 2 ^ 63 }
-    requires taken { followed.now.taken ≤ MAX_TAKEN }
+    requires taken { followed.now.taken ≤ MAX_ITEMS }
     ensures adds { EndsRecording (standby_shown standby.now) followed.now.tail followed.now.steps followed.now.taken (F.told files.old) (F.told files.new) result }
     ensures calls { CallsUpTo (F.calls files.old) (F.calls files.new) (Added standby.now.recording.now ∷ []) result }
     ensures cause { HasCause (F.faults files.old) (F.faults files.new) result }
@@ -75,7 +75,7 @@ fn end_recording<F: Files>(
     ended: Answer,
 ) -> Answer
     requires steps { followed.now.steps < 2 ^ 63 }
-    requires taken { followed.now.taken ≤ MAX_TAKEN }
+    requires taken { followed.now.taken ≤ MAX_ITEMS }
     ensures closes { ClosesRecording (standby_shown standby.now) followed.now.tail followed.now.steps followed.now.taken (F.told files.old) (F.told files.new) ended result }
     ensures calls { CallsRecording (standby_shown standby.now) (F.calls files.old) (F.calls files.new) ended result }
     ensures later { F.faults files.old ≤ F.faults files.new }

@@ -7,7 +7,7 @@ pub use Rattle.std.proofs.lemmas.List.Elements.{All-cons, All-head, All-nil, All
 pub use Rattle.std.specs.Prelude.{All, bytes_eq, if◌then◌else◌, is_some, map, nat_le, nat_lt, slice_index, ◌==◌, ◌≢◌, ◌⊎◌}
 pub use Rattle.text_lines.proofs.Lines.{AreLines, HasLine, are_lines, first-behind, is_line-decimal, is_line-torn, joined, line-cut, lines_is, lines_of-line, lines_of-torn, no_bytes, torn-first, torn_lines}
 pub use Rattle.text_lines.proofs.Written.{by_option, by_same, not_in_range, written_complete, written_sound}
-pub use Rattle.schedule_file.specs.Terms.{Ask, Calloc, Choice, Finish, Framing, Head, IsTorn, Line, MAX_TAKEN, MAX_WINDOW, Malloc, Memory, Realloc, RecordRefusal, Recorded, Refused, Unfinished, VERSION, behind_digits, behind_line, clipped, decimal, first_line, first_number, is_line, lines_of, number_from, second_number}
+pub use Rattle.schedule_file.specs.Terms.{Ask, Calloc, Choice, Finish, Framing, Head, IsTorn, Line, MAX_ITEMS, MAX_WINDOW, Malloc, Memory, Realloc, RecordRefusal, Recorded, Refused, Unfinished, VERSION, behind_digits, behind_line, clipped, decimal, first_line, first_number, is_line, lines_of, number_from, second_number}
 pub use Rattle.schedule_file.specs.Answers.{ReadsRecord, ReadsUnfinished}
 pub use Rattle.schedule_file.specs.Lines.{arguments, choice_line, choice_lines, eight_digits, frame_name, hex_digit, hex_digits, letter, line_of, lines_text, mark}
 unfoldable pub use Rattle.schedule_file.specs.Lines.{end_line, head_line, line_text}

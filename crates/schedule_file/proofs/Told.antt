@@ -1,5 +1,5 @@
 -- What the code tells of a first line and of a last line.
-use Rattle.schedule_file.proofs.Terms.{Bool, List, None, Some, ap, arith, cond, drop, false, refl, sym, true, ℕ, ◌&&◌, ◌-◌, ◌<◌, ◌^◌, ◌∙◌, ◌≡◌, ◌≤◌, nat_tests, bytes_eq, nat_le, nat_lt, Framing, by_same, not_in_range, behind_digits, clipped, first_number, number_from, second_number, Line, MAX_TAKEN, MAX_WINDOW, VERSION, end_line, head_line, line_text, answer_of, end_of, end_told, frame_told, head_of, head_told, is_answer, is_end, is_head, line_told, window_part, written_end, written_head}
+use Rattle.schedule_file.proofs.Terms.{Bool, List, None, Some, ap, arith, cond, drop, false, refl, sym, true, ℕ, ◌&&◌, ◌-◌, ◌<◌, ◌^◌, ◌∙◌, ◌≡◌, ◌≤◌, nat_tests, bytes_eq, nat_le, nat_lt, Framing, by_same, not_in_range, behind_digits, clipped, first_number, number_from, second_number, Line, MAX_ITEMS, MAX_WINDOW, VERSION, end_line, head_line, line_text, answer_of, end_of, end_told, frame_told, head_of, head_told, is_answer, is_end, is_head, line_told, window_part, written_end, written_head}
 use Rattle.schedule_file.proofs.Written.{head_with, head_same, end_with, end_same}
 
 -- ---- the first line
@@ -58,30 +58,30 @@ answer_by version line answer same is ok h = by_same (is_answer version) line_te
 
 -- ---- the last line
 
-end_test : (steps taken : ℕ) → (nat_lt (clipped steps) (2 ^ 63) && nat_le (clipped taken) MAX_TAKEN) ≡ (nat_lt steps (2 ^ 63) && nat_le taken MAX_TAKEN)
+end_test : (steps taken : ℕ) → (nat_lt (clipped steps) (2 ^ 63) && nat_le (clipped taken) MAX_ITEMS) ≡ (nat_lt steps (2 ^ 63) && nat_le taken MAX_ITEMS)
 end_test steps taken = grind (arith, nat_tests)
 
-steps_whole : (steps taken : ℕ) → (nat_lt (clipped steps) (2 ^ 63) && nat_le (clipped taken) MAX_TAKEN) ≡ true → (clipped steps ≡ steps) × (clipped taken ≡ taken)
+steps_whole : (steps taken : ℕ) → (nat_lt (clipped steps) (2 ^ 63) && nat_le (clipped taken) MAX_ITEMS) ≡ true → (clipped steps ≡ steps) × (clipped taken ≡ taken)
 steps_whole steps taken h =
     let few : clipped steps < 2 ^ 63 = grind (arith, nat_tests) in
-    let small : clipped taken ≤ MAX_TAKEN = grind (arith, nat_tests) in
+    let small : clipped taken ≤ MAX_ITEMS = grind (arith, nat_tests) in
     (omega arith, omega arith)
 
-pub no_end : (line : List ℕ) (steps taken : ℕ) → steps ≡ clipped (first_number (drop 4 line)) → taken ≡ clipped (second_number (drop 4 line)) → (nat_lt steps (2 ^ 63) && nat_le taken MAX_TAKEN) ≡ false → None ≡ end_of line
+pub no_end : (line : List ℕ) (steps taken : ℕ) → steps ≡ clipped (first_number (drop 4 line)) → taken ≡ clipped (second_number (drop 4 line)) → (nat_lt steps (2 ^ 63) && nat_le taken MAX_ITEMS) ≡ false → None ≡ end_of line
 unfolding end_of
 no_end line steps taken steps_is taken_is h =
     let whole : ℕ = first_number (drop 4 line) in
     let items : ℕ = second_number (drop 4 line) in
     not_in_range is_end written_end (end_told line) line
-    (sym (end_test whole items) ∙ ap (λ n. nat_lt n (2 ^ 63) && nat_le (clipped items) MAX_TAKEN) (sym steps_is) ∙ ap (λ n. nat_lt steps (2 ^ 63) && nat_le n MAX_TAKEN) (sym taken_is) ∙ h)
+    (sym (end_test whole items) ∙ ap (λ n. nat_lt n (2 ^ 63) && nat_le (clipped items) MAX_ITEMS) (sym steps_is) ∙ ap (λ n. nat_lt steps (2 ^ 63) && nat_le n MAX_ITEMS) (sym taken_is) ∙ h)
 
-pub end_by : (line : List ℕ) (steps taken : ℕ) (same : Bool) → steps ≡ clipped (first_number (drop 4 line)) → taken ≡ clipped (second_number (drop 4 line)) → (nat_lt steps (2 ^ 63) && nat_le taken MAX_TAKEN) ≡ true → bytes_eq (end_line steps taken) line ≡ same → end_of line ≡ cond same (Some (end_with steps taken)) None
+pub end_by : (line : List ℕ) (steps taken : ℕ) (same : Bool) → steps ≡ clipped (first_number (drop 4 line)) → taken ≡ clipped (second_number (drop 4 line)) → (nat_lt steps (2 ^ 63) && nat_le taken MAX_ITEMS) ≡ true → bytes_eq (end_line steps taken) line ≡ same → end_of line ≡ cond same (Some (end_with steps taken)) None
 unfolding end_of
 end_by line steps taken same steps_is taken_is ok h =
     let whole : ℕ = first_number (drop 4 line) in
     let items : ℕ = second_number (drop 4 line) in
-    let in_range : (nat_lt (clipped whole) (2 ^ 63) && nat_le (clipped items) MAX_TAKEN) ≡ true
-    = ap (λ n. nat_lt n (2 ^ 63) && nat_le (clipped items) MAX_TAKEN) (sym steps_is) ∙ ap (λ n. nat_lt steps (2 ^ 63) && nat_le n MAX_TAKEN) (sym taken_is) ∙ ok in
+    let in_range : (nat_lt (clipped whole) (2 ^ 63) && nat_le (clipped items) MAX_ITEMS) ≡ true
+    = ap (λ n. nat_lt n (2 ^ 63) && nat_le (clipped items) MAX_ITEMS) (sym steps_is) ∙ ap (λ n. nat_lt steps (2 ^ 63) && nat_le n MAX_ITEMS) (sym taken_is) ∙ ok in
     let both = steps_whole whole items in_range in
     by_same is_end written_end (end_told line) (end_with steps taken) line same
     (end_same (end_with steps taken) whole items (sym (steps_is ∙ both.0)) (sym (taken_is ∙ both.1)))

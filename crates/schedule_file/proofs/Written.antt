@@ -2,7 +2,7 @@
 use Rattle.std.proofs.lemmas.Bool.{and_parts}
 use Rattle.msg_frame.specs.declared.framing.Framing.TheVariants as framing
 use Rattle.text_lines.proofs.Digits.{number-decimal, behind-decimal, two-decimals}
-use Rattle.schedule_file.proofs.Terms.{Bool, List, None, Option, Some, [], ap, arith, drop, false, refl, true, ℕ, ◌&&◌, ◌++◌, ◌<◌, ◌^◌, ◌∙◌, ◌∷◌, ◌≡◌, ◌≤◌, nat_tests, decimal, nat_le, nat_lt, slice_index, ◌==◌, Ask, Calloc, Malloc, Realloc, Framing, by_option, written_complete, written_sound, behind_digits, first_number, number_from, second_number, Finish, Head, Line, MAX_TAKEN, MAX_WINDOW, VERSION, arguments, eight_digits, end_line, frame_name, head_line, letter, line_text, mark, IsAnswer, IsAsk, IsAskOf, WasCalloc, answer_of, ask_told, asked_told, end_of, end_told, frame_told, head_of, head_told, hex_at, is_answer, is_ask, is_ask_of, is_end, is_head, is_marked, line_told, was_calloc, written_end, written_head}
+use Rattle.schedule_file.proofs.Terms.{Bool, List, None, Option, Some, [], ap, arith, drop, false, refl, true, ℕ, ◌&&◌, ◌++◌, ◌<◌, ◌^◌, ◌∙◌, ◌∷◌, ◌≡◌, ◌≤◌, nat_tests, decimal, nat_le, nat_lt, slice_index, ◌==◌, Ask, Calloc, Malloc, Realloc, Framing, by_option, written_complete, written_sound, behind_digits, first_number, number_from, second_number, Finish, Head, Line, MAX_ITEMS, MAX_WINDOW, VERSION, arguments, eight_digits, end_line, frame_name, head_line, letter, line_text, mark, IsAnswer, IsAsk, IsAskOf, WasCalloc, answer_of, ask_told, asked_told, end_of, end_told, frame_told, head_of, head_told, hex_at, is_answer, is_ask, is_ask_of, is_end, is_head, is_marked, line_told, was_calloc, written_end, written_head}
 use Rattle.schedule_file.proofs.Digits.{hex-front}
 
 -- ---- the first line
@@ -200,16 +200,16 @@ end_told-line finish small few =
     let told = two-decimals finish.steps finish.taken 32 10 [] small few refl refl in
     end_same finish (first_number bytes) (second_number bytes) told.0 told.1
 
-end_small : (steps taken : ℕ) → (nat_lt steps (2 ^ 63) && nat_le taken MAX_TAKEN) ≡ true → (steps < 2 ^ 63) × (taken ≤ MAX_TAKEN)
+end_small : (steps taken : ℕ) → (nat_lt steps (2 ^ 63) && nat_le taken MAX_ITEMS) ≡ true → (steps < 2 ^ 63) × (taken ≤ MAX_ITEMS)
 end_small steps taken h = (grind (arith, nat_tests), grind (arith, nat_tests))
 
-end_test : (steps taken : ℕ) → steps < 2 ^ 63 → taken ≤ MAX_TAKEN → (nat_lt steps (2 ^ 63) && nat_le taken MAX_TAKEN) ≡ true
+end_test : (steps taken : ℕ) → steps < 2 ^ 63 → taken ≤ MAX_ITEMS → (nat_lt steps (2 ^ 63) && nat_le taken MAX_ITEMS) ≡ true
 end_test steps taken h k = grind (arith, nat_tests)
 
-pub is_end-from : (finish : Finish) → finish.steps < 2 ^ 63 → finish.taken ≤ MAX_TAKEN → is_end finish ≡ true
+pub is_end-from : (finish : Finish) → finish.steps < 2 ^ 63 → finish.taken ≤ MAX_ITEMS → is_end finish ≡ true
 is_end-from finish h k = end_test finish.steps finish.taken h k
 
-pub is_end-facts : (finish : Finish) → is_end finish ≡ true → (finish.steps < 2 ^ 63) × (finish.taken ≤ MAX_TAKEN)
+pub is_end-facts : (finish : Finish) → is_end finish ≡ true → (finish.steps < 2 ^ 63) × (finish.taken ≤ MAX_ITEMS)
 is_end-facts finish h = end_small finish.steps finish.taken h
 
 pub end_of-line : (finish : Finish) → is_end finish ≡ true → end_of (end_line finish.steps finish.taken) ≡ Some finish

@@ -1,6 +1,6 @@
 -- What holds of every record and its text.
 use Rattle.std.specs.Prelude.{◌≡◌, ℕ, ◌^◌, ◌<◌, ◌≤◌, true, None, Some, List, ◌++◌, All, length}
-use Rattle.schedule_file.specs.Terms.{Choice, Framing, Finish, Head, Line, Recorded, MAX_TAKEN, MAX_WINDOW, VERSION, Unfinished}
+use Rattle.schedule_file.specs.Terms.{Choice, Framing, Finish, Head, Line, Recorded, MAX_ITEMS, MAX_WINDOW, VERSION, Unfinished}
 use Rattle.schedule_file.specs.Lines.{head_line, line_text, end_line, choice_lines}
 use Rattle.schedule_file.specs.Records.{IsAnswer, IsChoice, IsRecord, IsReading, text_of, record_of}
 use Rattle.schedule_file.specs.Telling.{is_head, head_of, answer_of, is_end, end_of}
@@ -28,7 +28,7 @@ WrittenInPieces =
 abbrev pub WrittenIsRead : Type 0
 WrittenIsRead =
     (window : ℕ) (frame : Framing) (choices : List Choice) (steps taken : ℕ) →
-    1 ≤ window → window ≤ MAX_WINDOW → All IsChoice choices → steps < 2 ^ 63 → taken ≤ MAX_TAKEN →
+    1 ≤ window → window ≤ MAX_WINDOW → All IsChoice choices → steps < 2 ^ 63 → taken ≤ MAX_ITEMS →
     IsReading (head_line VERSION window frame ++ (choice_lines choices ++ end_line steps taken)) (record_of window frame choices steps taken)
 
 -- each line that is written ends with a line feed, and holds no other one

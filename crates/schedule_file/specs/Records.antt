@@ -1,6 +1,6 @@
 -- Which values a record may have, and what a reading of a text is.
 use Rattle.std.specs.Prelude.{◌≡◌, ℕ, ◌^◌, ◌<◌, ◌≤◌, true, false, List, map, All, Option, None, Some}
-use Rattle.schedule_file.specs.Terms.{Ask, Calloc, Malloc, Realloc, Choice, is_calloc, Framing, Line, Recorded, MAX_TAKEN, MAX_WINDOW, VERSION}
+use Rattle.schedule_file.specs.Terms.{Ask, Calloc, Malloc, Realloc, Choice, is_calloc, Framing, Line, Recorded, MAX_ITEMS, MAX_WINDOW, VERSION}
 use Rattle.schedule_file.specs.Lines.{line_of, record_text}
 
 -- the numbers of an ask have 32 bits
@@ -37,7 +37,7 @@ pub record IsRecord (value : Recorded) : Type 0 where
   pub window : value.window ≤ MAX_WINDOW
   pub lines : All (IsAnswer value.version) value.lines
   pub steps : value.steps < 2 ^ 63
-  pub taken : value.taken ≤ MAX_TAKEN
+  pub taken : value.taken ≤ MAX_ITEMS
 
 -- the text of a record
 abbrev pub text_of : Recorded → List ℕ

@@ -13,5 +13,6 @@ pub use Rattle.schedule_file.specs.declared.recorded.Line.{Line}
 pub use Rattle.schedule_file.specs.declared.recorded.RecordRefusal.{RecordRefusal}
 pub use Rattle.schedule_file.specs.declared.recorded.RecordRefusal.TheVariants.{Memory, Refused}
 pub use Rattle.schedule_file.specs.declared.recorded.Recorded.{Recorded}
-pub use Rattle.schedule_file.specs.declared.recorded.TheConstants.{MAX_TAKEN, MAX_WINDOW, VERSION}
+pub use Rattle.schedule_file.specs.declared.recorded.TheConstants.{MAX_WINDOW, VERSION}
+pub use Rattle.rx_base.specs.declared.item.TheConstants.{MAX_ITEMS}
 pub use Rattle.schedule_file.specs.declared.recorded.Unfinished.{Unfinished}

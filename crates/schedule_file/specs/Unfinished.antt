@@ -1,12 +1,12 @@
 -- The text that a session leaves which is killed: its last line may be missing, and behind the others may stand a torn line.
 use Rattle.std.specs.Prelude.{◌≡◌, ◌^◌, ◌<◌, ◌≤◌, List, ℕ, [], ◌++◌, All, Option, None, Some, IfSome}
-use Rattle.schedule_file.specs.Terms.{IsTorn, Finish, Line, Recorded, MAX_TAKEN, MAX_WINDOW, VERSION, Unfinished}
+use Rattle.schedule_file.specs.Terms.{IsTorn, Finish, Line, Recorded, MAX_ITEMS, MAX_WINDOW, VERSION, Unfinished}
 use Rattle.schedule_file.specs.Lines.{head_line, lines_text, end_line}
 use Rattle.schedule_file.specs.Records.{IsAnswer}
 
 -- the numbers of a last line are in their ranges
 abbrev pub IsFinish : Finish → Type 0
-IsFinish finish = (finish.steps < 2 ^ 63) × (finish.taken ≤ MAX_TAKEN)
+IsFinish finish = (finish.steps < 2 ^ 63) × (finish.taken ≤ MAX_ITEMS)
 
 -- the numbers are in their ranges, as those of a record
 pub record IsUnfinished (value : Unfinished) : Type 0 where

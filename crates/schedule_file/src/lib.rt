@@ -16,7 +16,5 @@ mod telling;
 mod writing;
 
 pub use reading::{read_record, read_unfinished};
-pub use recorded::{
-    Finish, Line, Lines, MAX_TAKEN, MAX_WINDOW, RecordRefusal, Recorded, Unfinished, VERSION,
-};
+pub use recorded::{Finish, Line, Lines, MAX_WINDOW, RecordRefusal, Recorded, Unfinished, VERSION};
 pub use writing::{add_choice, choice_line, end_line, head_line};

@@ -14,9 +14,6 @@ pub const VERSION: u8 = 2;
 /// The largest window, in MiB.
 pub const MAX_WINDOW: u32 = 64;
 
-/// The most items that a recorded session may have taken.
-pub const MAX_TAKEN: u64 = 1 << 20;
-
 /// What a line says of an answer of the allocator: what was asked, or None in version 1; the block's address, or 0; and whether
 /// its bytes were set to 0.
 #[derive(Clone, Copy, Debug, PartialEq, Eq)]

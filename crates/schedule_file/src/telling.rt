@@ -6,10 +6,11 @@ ghost use Rattle.text_lines.specs.Written.{Tells};
 ghost use Rattle.schedule_file.specs.Telling.{frame_told, hex_from, hex_at, ask_told, asked_told, line_told, is_ask_of, is_marked, was_calloc, is_answer, head_of, answer_of, end_of};
 
 use crate::numbers::hex_value;
-use crate::recorded::{Finish, Head, Line, MAX_TAKEN, MAX_WINDOW, VERSION};
+use crate::recorded::{Finish, Head, Line, MAX_WINDOW, VERSION};
 use crate::writing::{end_line, head_text, line_text};
 use block_book::Ask;
 use msg_frame::Framing;
+use rx_base::MAX_ITEMS;
 use std::alloc::{AllocError, Global};
 use text_lines::{behind, is_same, number_in_front, two_numbers};
 
@@ -176,9 +177,9 @@ pub(crate) fn answer_of(version: u8, line: &[u8]) -> Option<Line>
 }
 
 fn is_end(steps: u64, taken: u64) -> bool
-    ensures { result ≡ (nat_lt steps (2 ^ 63) && nat_le taken MAX_TAKEN) }
+    ensures { result ≡ (nat_lt steps (2 ^ 63) && nat_le taken MAX_ITEMS) }
 {
-    steps < 1 << 63 && taken <= MAX_TAKEN
+    steps < 1 << 63 && taken <= MAX_ITEMS
 }
 
 // What a last line says, if it is one.

@@ -8,7 +8,7 @@ ghost use Rattle.schedule_file.specs.Lines.{frame_name, front, spaced, head_line
 ghost use Rattle.schedule_file.specs.Steps.{bytes_of};
 
 use crate::numbers::eight_digits;
-use crate::recorded::{Line, MAX_TAKEN, MAX_WINDOW, VERSION};
+use crate::recorded::{Line, MAX_WINDOW, VERSION};
 use block_book::{Ask, Choice};
 use msg_frame::Framing;
 use rx_base::Bytes;
@@ -159,7 +159,7 @@ pub fn add_choice(bytes: &mut Vec<u8>, choice: Choice) -> Result<(), AllocError>
 #[tactic(auto, unfolding(crate::specs::Lines::end_line))]
 pub fn end_line(alloc: Global, steps: u64, taken: u64) -> Result<Bytes, AllocError>
     requires some_steps { steps < 2 ^ 63 }
-    requires some_taken { taken ≤ MAX_TAKEN }
+    requires some_taken { taken ≤ MAX_ITEMS }
     ensures { Writes (end_line steps taken) result }
 {
     let text = format!(in alloc; "end {steps} {taken}\n")?;

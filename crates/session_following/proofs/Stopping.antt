@@ -1,5 +1,6 @@
 -- Why a session that follows stops before it is released: it is judged where it stands, or its link is heard in vain.
 use Rattle.item_log.specs.Log as logs
+use Rattle.rx_base.specs.declared.item.TheConstants.{MAX_ITEMS}
 use Rattle.link_gate.specs.declared.heard.HearFault.TheVariants as fault
 use Rattle.session_history.specs.Heeding as unheeded
 use Rattle.session_state.proofs.guest.ChoiceLemmas.{few_choices}
@@ -85,7 +86,7 @@ module _ {R : Type 0} where
 
 module _ {R : Type 0} where
   -- so their number fits
-  pub chosen_fits : {rules here : Rules} {image : Image} {handed : Handed} {told : Told} {seen : Seen} {before noted : Noted} {missing : List ℕ} {session : SessionState R} → here.limits.budget ≤ 2 ^ 24 → here.bounds.max_items ≤ 2 ^ 20 → Follows rules here image handed told seen before noted missing session
+  pub chosen_fits : {rules here : Rules} {image : Image} {handed : Handed} {told : Told} {seen : Seen} {before noted : Noted} {missing : List ℕ} {session : SessionState R} → here.limits.budget ≤ 2 ^ 24 → here.bounds.max_items ≤ MAX_ITEMS → Follows rules here image handed told seen before noted missing session
       → session.recorded + length session.choices < 18446744073709551616
   chosen_fits {rules = rules} {here = here} {seen = seen} {session = session} few_budget few_items s =
       let few = few_chosen s in

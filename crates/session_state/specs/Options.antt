@@ -1,5 +1,6 @@
 -- What a session is asked for.
 use Rattle.std.specs.Prelude.{ℕ, ◌*◌, ◌/◌, ◌≤◌, ◌^◌, Bool}
+use Rattle.rx_base.specs.declared.item.TheConstants.{MAX_ITEMS}
 use Rattle.session_state.specs.Terms.{Heap, limits_of, Before, nothing_before, Rules, Keeping, Options}
 
 -- each number is in its range
@@ -14,7 +15,7 @@ pub record AreInRange (options : Options) : Type 0 where
   pub some_budget : 1 ≤ options.budget
   pub few_budget : options.budget ≤ 2 ^ 24
   pub some_items : 1 ≤ options.max_items
-  pub few_items : options.max_items ≤ 2 ^ 20
+  pub few_items : options.max_items ≤ MAX_ITEMS
   pub some_events : 1 ≤ options.max_events
   pub few_events : options.max_events ≤ 2 ^ 32
 

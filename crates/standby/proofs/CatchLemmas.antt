@@ -1,5 +1,6 @@
 -- A follower at its start, and where it has caught up or following broke off.
 use Rattle.item_log.specs.Log as logs
+use Rattle.rx_base.specs.declared.item.TheConstants.{MAX_ITEMS}
 use Rattle.run_history.specs.declared.answer.Answer.TheVariants as answer
 use Rattle.run_history.proofs.Connections.{no_connections_may}
 use Rattle.replay.specs.Making.{IsMade}
@@ -38,7 +39,7 @@ none_followed (b ∷ before) after event same = absurd (cc)
 abbrev start_stage : Image → Log → Stage
 start_stage image log = record { live = start_standing image; log = log; events = 0; gone = no_connections; choices = [] }
 
-starts : {image : Image} {recording : Recorded} {seen : Seen} {log : Log} → IsFresh seen.phases → logs.Shows recording.frame [] log → log ≡ logs.empty_log recording.frame (2 ^ 20) → IsFollowing image recording seen.told seen [] [] (start_stage image log)
+starts : {image : Image} {recording : Recorded} {seen : Seen} {log : Log} → IsFresh seen.phases → logs.Shows recording.frame [] log → log ≡ logs.empty_log recording.frame MAX_ITEMS → IsFollowing image recording seen.told seen [] [] (start_stage image log)
 unfolding start_machine
 starts {recording = recording} {seen = seen} fresh shows is = record {
   heard = record {

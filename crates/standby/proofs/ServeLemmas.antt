@@ -1,5 +1,6 @@
 -- A follower serves: what each event of its guest makes of it.
 use Rattle.std.specs.declared.alloc.AllocError.{AllocError}
+use Rattle.rx_base.specs.declared.item.TheConstants.{MAX_ITEMS}
 use Rattle.links.specs.declared.journal.Entry.TheVariants as entry
 use Rattle.alloc_env.specs.declared.env.Env.TheVariants.{Plain}
 use Rattle.alloc_env.specs.declared.env.Env.{Env}
@@ -480,7 +481,7 @@ ran_event {budget = budget} is {base = base} {before = before} {after = after} {
     subst (λ (e : Event). RunsOn (plain_limits budget) [] [] is.path (Ok e) after.standing) same (ran_to is base before after (Ok found) here runs)
 
 -- no more items are taken than a session may receive
-few_taken : {recorded : Recorded} {began : Told} {seen : Seen} {entries : List Entry} {stage : Stage} → HasHeard recorded began seen entries stage → logs.received stage.log ≤ stage.log.max_items → stage.live.guest.machine.taken ≤ 1048576
+few_taken : {recorded : Recorded} {began : Told} {seen : Seen} {entries : List Entry} {stage : Stage} → HasHeard recorded began seen entries stage → logs.received stage.log ≤ stage.log.max_items → stage.live.guest.machine.taken ≤ MAX_ITEMS
 few_taken {recorded = recorded} {entries = entries} {stage = stage} heard few = omega (arith, few, heard.items.most, heard.taken, received_is (bounds_of recorded) entries stage.log heard.items)
 
 -- one turn more can be counted

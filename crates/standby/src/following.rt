@@ -9,8 +9,8 @@ ghost use Rattle.standby.specs.Following.{CatchesUp, EndsAs, LinkCatches, Follow
 
 use crate::follower::Follower;
 use crate::kept::Kept;
-use guest_image::Image;
 use guest_cpu::Question;
+use guest_image::Image;
 use links::Link;
 use replay::{Difference, Player};
 use run_history::Answer;

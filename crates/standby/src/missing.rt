@@ -40,7 +40,12 @@ impl Follower {
     }
 
     // Gives what the client of a connection misses, if it is open.
-    fn give_rest<K: Link>(&mut self, conn: Conn, counts: &Counts, link: &mut K) -> Result<(), Answer>
+    fn give_rest<K: Link>(
+        &mut self,
+        conn: Conn,
+        counts: &Counts,
+        link: &mut K,
+    ) -> Result<(), Answer>
         requires stands { StandsHeard (K.seen link.old) (stage_of self.old.player) }
         requires low { conn < 4096 }
         ensures passes { (recorded : Recorded) (began : Told) (entries : List Entry) → HasHeard recorded began (K.seen link.old) entries (stage_of self.old.player)

@@ -2,8 +2,8 @@
 ghost use Rattle.std.specs.Prelude.{◌≡◌, None, false, is_some};
 
 use crate::setting::{accept_some, patience_of, set_up};
-use rx_io::{Listener, read_some, write_some};
 use rx_base::IoFault;
+use rx_io::{Listener, read_some, write_some};
 use std::net::{Ipv4Addr, Net, TcpListener};
 use std::time::Duration;
 

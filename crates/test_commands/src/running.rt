@@ -3,8 +3,8 @@ ghost use Rattle.std.specs.Prelude.{◌≡◌, ◌<◌};
 
 use crate::outsides::{Outside, outside_in};
 use crowd::TameCrowd;
-use rx_io::{Files, Sink, Source, TameListener};
 use rx_base::Steps;
+use rx_io::{Files, Sink, Source, TameListener};
 use rx_serve::{End, run_rx};
 use std::alloc::{AllocError, Global};
 use std::marker::Brand;

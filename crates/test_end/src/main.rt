@@ -8,8 +8,8 @@
 ghost use Rattle.std.specs.Prelude.{◌≡◌, ◌<◌};
 
 use crowd::TameCrowd;
-use rx_io::{ListenEntry, MemoryListener, StdFiles, StdSink, StdSource};
 use rx_base::Steps;
+use rx_io::{ListenEntry, MemoryListener, StdFiles, StdSink, StdSource};
 use rx_serve::{End, run_rx};
 use std::alloc::Global;
 use std::marker::Brand;

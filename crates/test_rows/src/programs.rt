@@ -1,7 +1,7 @@
 // Programs that the example guests lack, by their names.
 use crate::rows::WINDOW;
-use guest_image::Image;
 use example_guests::source_of;
+use guest_image::Image;
 use rv_asm::assemble;
 use std::alloc::Global;
 use std::test::Fail;

@@ -13,8 +13,8 @@ use crate::reading::read_line;
 use crate::streams::{give_all, take_byte};
 use crate::turning::{Ended, Turn, read_ended, write_ended};
 use crate::writing::frame_of;
-use rx_io::{Sink, Source};
 use rx_base::IoFault;
+use rx_io::{Sink, Source};
 use std::alloc::Global;
 
 /// How many bytes a line has at most without its line feed: a number of five digits, an arrow, 65535 bytes of four each, and a backslash.

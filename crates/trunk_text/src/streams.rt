@@ -6,8 +6,8 @@ ghost use Rattle.rx_base.specs.Outside.{IsDrained, Took};
 ghost use Rattle.trunk_wire.specs.Calls.{WritesAll};
 ghost use Rattle.trunk_text.specs.Streams.{TakesByte};
 
-use rx_io::{Sink, Source};
 use rx_base::IoFault;
+use rx_io::{Sink, Source};
 
 /// Takes the next byte, and none behind it.
 pub(crate) fn take_byte<S: Source>(source: &mut S) -> Result<Option<u8>, IoFault>

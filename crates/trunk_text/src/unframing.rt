@@ -13,8 +13,8 @@ use crate::line::{Flaw, Line};
 use crate::streams::{give_all, take_byte};
 use crate::turning::{Ended, Turn, read_ended, write_ended};
 use crate::writing::text_of;
-use rx_io::{Sink, Source};
 use rx_base::{Bytes, IoFault};
+use rx_io::{Sink, Source};
 use std::alloc::Global;
 
 /// What was taken of a source: a whole frame and how many bytes it has, nothing at the end of the input, or what is refused.

@@ -9,8 +9,8 @@ ghost use Rattle.trunk_wire.specs.Frames.{header_bytes};
 
 use crate::header::{Header, event_of, header_from, header_refusal};
 use links::{ConnectionTable, LinkEvent, LinkFault};
-use rx_io::Source;
 use rx_base::{Bytes, IoFault};
+use rx_io::Source;
 use std::alloc::Global;
 
 // The fault of a source, as that of a link.

@@ -5,8 +5,8 @@ ghost use Rattle.trunk_wire.specs.Calls.{Writes, WritesAll, WritesBy, write_faul
 
 use crate::header::{BYTES, Header, bytes_from};
 use links::{Given, LinkFault};
-use rx_io::Sink;
 use rx_base::{Conn, IoFault};
+use rx_io::Sink;
 
 // How many bytes of a frame, its header among them, go by one write; and how many by one from a short array.
 const JOINED: usize = 4096;

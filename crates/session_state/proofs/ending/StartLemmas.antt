@@ -1,11 +1,12 @@
 -- Where a session stands at its begin, and after each turn.
 use Rattle.item_log.specs.Log as logs
+use Rattle.rx_base.specs.declared.item.TheConstants.{MAX_ITEMS}
 use Rattle.reply_ledger.specs.Inside as I
 use Rattle.reply_ledger.specs.Shows as S
 use Rattle.reply_ledger.specs.Ledger as ledgers
 use Rattle.guest_cpu.specs.Laws.{IsStart}
 use Rattle.std.specs.Option.{unwrap_or}
-use Rattle.std.proofs.lemmas.Nat.{mul-le}
+use Rattle.rx_base.proofs.Budgets.{few_in_all}
 use Rattle.run_history.specs.Machine as M
 use Rattle.session_history.specs.Heeding as H
 use Rattle.session_history.proofs.Accounts.{nothing_is_sound}
@@ -220,11 +221,11 @@ module _ {R : Type 0} where
       subst (λ n. HasServedLink rules before seen shown now n tables_before tables old new answered) same h
 
   -- Its guest has done few instructions: so many come between two items, and so many items.
-  pub between_fits : {rules : Rules} {image : Image} {began : Since} {seen : Seen} {session : SessionState R} → rules.limits.budget ≤ 2 ^ 24 → rules.bounds.max_items ≤ 2 ^ 20 → IsBetween rules image began seen session → session.cpu.slots.live.steps < 18446744073709551616
+  pub between_fits : {rules : Rules} {image : Image} {began : Since} {seen : Seen} {session : SessionState R} → rules.limits.budget ≤ 2 ^ 24 → rules.bounds.max_items ≤ MAX_ITEMS → IsBetween rules image began seen session → session.cpu.slots.live.steps < 18446744073709551616
   between_fits {rules = rules} budget items b =
       let now : Path = b.going.story.survivor.now in
-      let few : now.state.machine.taken ≤ 2 ^ 20 = let most = b.going.goes.few in omega (arith, most, items) in
-      let product : now.state.machine.taken * (rules.limits.budget + 1) ≤ 2 ^ 20 * (2 ^ 24 + 1) = mul-le now.state.machine.taken (rules.limits.budget + 1) (2 ^ 20) (2 ^ 24 + 1) few (omega (arith, budget)) in
+      let few : now.state.machine.taken ≤ MAX_ITEMS = let most = b.going.goes.few in omega (arith, most, items) in
+      let product : now.state.machine.taken * (rules.limits.budget + 1) < 2 ^ 57 = few_in_all now.state.machine.taken rules.limits.budget few (omega (arith, budget)) in
       let live = ap (λ (s : Standing). s.steps) b.going.goes.guest in
       let since = b.going.goes.bounded.since in
       let steps = b.going.goes.bounded.steps in

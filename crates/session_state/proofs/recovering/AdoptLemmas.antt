@@ -1,5 +1,6 @@
 -- What a failure makes of a session: it goes on as a trial, or gives up.
 use Rattle.session_history.specs.declared.ends.Stop.TheVariants as stop
+use Rattle.rx_base.specs.declared.item.TheConstants.{MAX_ITEMS}
 use Rattle.std.proofs.lemmas.List.Sums.{sum_by-append}
 use Rattle.session_history.specs.declared.ends.SessionBreak.TheVariants as session_break
 use Rattle.session_history.specs.declared.ends.SessionEnd.TheVariants as session_end
@@ -121,7 +122,7 @@ module _ {R : Type 0} {rules : Rules} {image : Image} {began : Since} {seen : Se
 
 module _ {R : Type 0} {rules : Rules} {image : Image} {began : Since} {seen : Seen} {cause : Cause} {old : SessionState R} (f : IsFailing rules image began seen cause old) where
   -- what is asked for before a recovery
-  pub to_recover : rules.limits.budget ≤ 2 ^ 24 → rules.bounds.max_items ≤ 2 ^ 20 → HasToRecover (record { point = old.taken; cause = cause; pc = old.cpu.slots.live.guest.machine.pc }) (failure_of f) (held_in old)
+  pub to_recover : rules.limits.budget ≤ 2 ^ 24 → rules.bounds.max_items ≤ MAX_ITEMS → HasToRecover (record { point = old.taken; cause = cause; pc = old.cpu.slots.live.guest.machine.pc }) (failure_of f) (held_in old)
   to_recover budget items =
       let g = f.going in
       record {

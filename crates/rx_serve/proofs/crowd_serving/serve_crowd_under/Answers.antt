@@ -1,7 +1,7 @@
 use Rattle.crowd_link.proofs.CallLemmas.{just_bound}
 use Rattle.rx_engine.specs.declared.left.Left.{Left as Leaves}
 use Rattle.rx_serve.proofs.Lemmas.{options_in_range, closes_other, not_read, not_write, run_served, bind_faults, begun_own, counts_fit, not_begun, not_risen, ready, rose_within, run_ends, unwatched}
-use Rattle.rx_serve.proofs.Terms.{None, ap, arith, inl, inr, refl, subst, sym, ◌<◌, ◌^◌, ◌∙◌, ◌≤◌, MAX_TAKEN, run_shown, serve_shown, outside, options_of, Several, ClosesFiles, CallsServed, IsBindAnswer, limits_of}
+use Rattle.rx_serve.proofs.Terms.{None, ap, arith, inl, inr, refl, subst, sym, ◌<◌, ◌^◌, ◌∙◌, ◌≤◌, MAX_ITEMS, run_shown, serve_shown, outside, options_of, Several, ClosesFiles, CallsServed, IsBindAnswer, limits_of}
 use Rattle.rx_serve.proofs.crowd_serving.serve_crowd_under.Goals as goal
 
 pub returns-in-Err-clause-ends : goal.returns-in-Err-clause-ends
@@ -39,7 +39,7 @@ pub end_notes-answer-requires-clause-taken : goal.end_notes-answer-requires-clau
 end_notes-answer-requires-clause-taken g c =
     let has = c.in-Ok.ensures.begins in
     let value = run_shown c.args.serve.now.session in
-    subst (λ n. n ≤ MAX_TAKEN) (sym c.taken.ensures)
+    subst (λ n. n ≤ MAX_ITEMS) (sym c.taken.ensures)
     (counts_fit g.R.AccessRule.rule (options_of value) (options_in_range value c.requires.in_range (options_of value) refl) has.begun ((c.serve_crowd_noted-ended.ensures.serves None None).2 has.image (begun_own has.image (options_of value) c.args.rule c.in-Ok.session has.begun))).0
 
 pub end_notes-answer-requires-clause-steps : goal.end_notes-answer-requires-clause-steps

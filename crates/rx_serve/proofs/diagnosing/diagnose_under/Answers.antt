@@ -1,7 +1,7 @@
 use Rattle.diagnosis.specs.Examined.{ran_of, tables_of}
 use Rattle.rx_engine.specs.declared.left.Left.{Left as Leaves}
 use Rattle.rx_serve.proofs.Lemmas.{options_in_range, closes_other, closes_same, not_read, not_write, begun_own, counts_fit, not_begun, ready, rose_within, diagnosed, diagnosis_other, diagnosis_part, some_kept, start_faults, watched_length}
-use Rattle.rx_serve.proofs.Terms.{ap, arith, inl, inr, refl, subst, sym, ℕ, ◌+◌, ◌-◌, ◌<◌, ◌^◌, ◌∙◌, ◌≡◌, ◌≤◌, IsEnd, answer_of, MAX_TAKEN, diagnose_shown, run_shown, options_of, IsFilesAnswer}
+use Rattle.rx_serve.proofs.Terms.{ap, arith, inl, inr, refl, subst, sym, ℕ, ◌+◌, ◌-◌, ◌<◌, ◌^◌, ◌∙◌, ◌≡◌, ◌≤◌, IsEnd, answer_of, MAX_ITEMS, diagnose_shown, run_shown, options_of, IsFilesAnswer}
 use Rattle.rx_serve.proofs.diagnosing.diagnose_under.Goals as goal
 
 pub returns-in-Err-clause-ends : goal.returns-in-Err-clause-ends
@@ -41,7 +41,7 @@ end_notes-ended-requires-clause-taken g c =
     let ran = ran_of c.serve_kept-kept.new.watch.watch in
     let own : ℕ = c.serve_kept-kept.new.steps - ran in
     let fits : own + ran ≡ ran_of c.telling_examiner-watch.result.watch + c.serve_kept-kept.new.steps = omega (arith, c.serve_kept-kept.ensures.counted_at_least, c.telling_examiner-watch.ensures.ran) in
-    subst (λ n. n ≤ MAX_TAKEN) (sym c.taken.ensures)
+    subst (λ n. n ≤ MAX_ITEMS) (sym c.taken.ensures)
     (counts_fit g.R.AccessRule.rule (options_of value) (options_in_range value c.requires.in_range (options_of value) refl) has.begun (c.serve_kept-kept.ensures.serves.2 has.image own (begun_own has.image (options_of value) c.args.rule c.in-Ok.session has.begun) fits).0.noted).0
 
 pub end_notes-ended-requires-clause-steps : goal.end_notes-ended-requires-clause-steps

@@ -1,6 +1,6 @@
 use Rattle.rx_engine.specs.declared.left.Left.{Left as Leaves}
 use Rattle.rx_serve.proofs.Lemmas.{options_in_range, closes_other, not_read, not_write, run_served, begun_own, counts_fit, no_more, not_begun, ready, rose_within, run_ends}
-use Rattle.rx_serve.proofs.Terms.{ap, arith, inl, inr, refl, subst, sym, ◌<◌, ◌^◌, ◌∙◌, ◌≤◌, MAX_TAKEN, run_shown, outside, options_of, Trunk, ClosesFiles, CallsServed}
+use Rattle.rx_serve.proofs.Terms.{ap, arith, inl, inr, refl, subst, sym, ◌<◌, ◌^◌, ◌∙◌, ◌≤◌, MAX_ITEMS, run_shown, outside, options_of, Trunk, ClosesFiles, CallsServed}
 use Rattle.rx_serve.proofs.serving.run_under.Goals as goal
 
 pub returns-in-Err-clause-ends : goal.returns-in-Err-clause-ends
@@ -16,7 +16,7 @@ pub end_notes-answer-requires-clause-taken : goal.end_notes-answer-requires-clau
 end_notes-answer-requires-clause-taken g c =
     let has = c.in-Ok.ensures.begins in
     let value = run_shown c.args.run.now in
-    subst (λ n. n ≤ MAX_TAKEN) (sym c.taken.ensures)
+    subst (λ n. n ≤ MAX_ITEMS) (sym c.taken.ensures)
     (counts_fit g.R.AccessRule.rule (options_of value) (options_in_range value c.requires.in_range (options_of value) refl) has.begun (c.serve_noted-ended.ensures.serves.2 has.image c.serve_noted-ended.new.steps (begun_own has.image (options_of value) c.args.rule c.in-Ok.session has.begun) (no_more c.serve_noted-ended.new.steps)).noted).0
 
 pub end_notes-answer-requires-clause-steps : goal.end_notes-answer-requires-clause-steps

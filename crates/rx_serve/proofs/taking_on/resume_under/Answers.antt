@@ -1,6 +1,6 @@
 use Rattle.rx_engine.specs.declared.left.Left.{Left as Leaves}
 use Rattle.rx_serve.proofs.Lemmas.{options_in_range, closes_other, not_read, not_write, begun_own, ready, rose_within, faults_as, has_resumed, has_stopped, resumed_fits, served_behind, wider_faults}
-use Rattle.rx_serve.proofs.Terms.{Option, ap, arith, inl, inr, refl, subst, sym, ◌<◌, ◌^◌, ◌∙◌, ◌≤◌, Contents, MAX_TAKEN, calls_then, handed_of, run_shown, outside, options_of, ClosesFiles, CallsServedBehind, StartsPartlyBehind, before_taken}
+use Rattle.rx_serve.proofs.Terms.{Option, ap, arith, inl, inr, refl, subst, sym, ◌<◌, ◌^◌, ◌∙◌, ◌≤◌, Contents, MAX_ITEMS, calls_then, handed_of, run_shown, outside, options_of, ClosesFiles, CallsServedBehind, StartsPartlyBehind, before_taken}
 use Rattle.rx_serve.proofs.taking_on.resume_under.Goals as goal
 
 pub returns-in-Err-clause-resumes : goal.returns-in-Err-clause-resumes
@@ -49,7 +49,7 @@ end_notes-answer-requires-clause-taken g c =
     let has = c.in-Ok.ensures.begins in
     let value = run_shown c.args.run.now in
     let on = c.in-Ok-resume_noted.ensures.resumes.1.1 c.args.image.now (begun_own c.args.image.now (options_of value) c.args.rule c.in-Ok.session has.1) in
-    subst (λ n. n ≤ MAX_TAKEN) (sym c.taken.ensures) (resumed_fits g.R.AccessRule.rule (options_of value) (options_in_range value c.requires.in_range (options_of value) refl) has.1 on).0
+    subst (λ n. n ≤ MAX_ITEMS) (sym c.taken.ensures) (resumed_fits g.R.AccessRule.rule (options_of value) (options_in_range value c.requires.in_range (options_of value) refl) has.1 on).0
 
 pub end_notes-answer-requires-clause-steps : goal.end_notes-answer-requires-clause-steps
 end_notes-answer-requires-clause-steps g c =
