@@ -5,13 +5,14 @@
 prints a table in Markdown: minutes of processor time for the proof of each crate, for the proof of its tests, and for
 its wrong bodies, with the sums. Wrong bodies begin with one more proof of their crate, and end with a look at it: that is
 "before them". With names it runs `rt ci --anew NAME..`: those crates and the ones below them. With --kept it runs the same without `--anew`, so that
-only what wasn't passed on this machine is in the table: a gate is then measured in parts.
+only what wasn't passed on this machine is in the table: a gate is then measured in parts. The last line is the longest chain: of crates that each stand
+on the one before, by crates.txt, those whose proofs and tests take most.
 `gate_cost.py edits NAME..` runs `rt must-fail --anew NAME..` and prints the seconds of each wrong body.
-`gate_cost.py lines` prints the table of lines, without running anything.
+`gate_cost.py lines` prints the table of lines, without running anything. Wrong bodies are told by shelf: those of the gate, and those of `bodies/NAME`.
 
 The times are those of the operating system for each process and all that it started, as last seen before it ended. So
 a process can be short of up to one interval. "Else" is what isn't a proof: linking, running tests and programs, rt
-itself. The last line compares the sum with what the system says of the whole run.
+itself. The line of it compares the sum with what the system says of the whole run.
 
 usage: gate_cost.py gate [--log FILE] [--interval SECONDS] [--kept] [NAME ..]
        gate_cost.py edits [--log FILE] [--interval SECONDS] [--kept] NAME ..
@@ -36,18 +37,33 @@ PROOF, TESTS, EDITS, ELSE = "proof", "tests", "edits", "else"
 SEED = "seed"
 
 
+def edges():
+    """The crates of crates.txt, in its order, each with those of them on which it stands."""
+    with open(f"{TOP}/crates.txt", encoding="utf-8") as it:
+        lines = [line.split("#")[0].split(":") for line in it]
+    below = {line[0].split()[0]: line[1].split() for line in lines if len(line) > 1}
+    return {name: [it for it in names if it in below] for name, names in below.items()}
+
+
 def crates():
     """The names of crates.txt, in its order."""
-    with open(f"{TOP}/crates.txt", encoding="utf-8") as it:
-        lines = [line.split("#")[0] for line in it]
-    return [line.split(":")[0].split()[0] for line in lines if ":" in line]
+    return list(edges())
+
+
+def edits_in(folder):
+    """The names of the wrong bodies of a folder."""
+    found = os.listdir(folder) if os.path.isdir(folder) else []
+    return [it[: -len(".edit")] for it in sorted(found) if it.endswith(".edit")]
 
 
 def edits_of(name):
-    """The names of a crate's wrong bodies, in the order in which rt numbers them."""
-    folder = f"{TOP}/crates/{name}/must-fail"
-    found = os.listdir(folder) if os.path.isdir(folder) else []
-    return [it[: -len(".edit")] for it in sorted(found) if it.endswith(".edit")]
+    """The names of a crate's wrong bodies that the gate tries, in the order in which rt numbers them."""
+    return edits_in(f"{TOP}/crates/{name}/must-fail")
+
+
+def others_of(name):
+    """The names of a crate's wrong bodies that the gate doesn't try."""
+    return edits_in(f"{TOP}/bodies/{name}")
 
 
 # Times of processes.
@@ -168,12 +184,21 @@ def table(head, rows):
         row(it)
 
 
+def longest_chain(costs):
+    """Of crates that each stand on the one before, those whose costs come to most: the sum, and their names, the lowest first."""
+    chains = {}
+    for name, below in edges().items():
+        cost, chain = max((chains[it] for it in below), key=lambda it: it[0], default=(0.0, []))
+        chains[name] = cost + costs.get(name, 0.0), [*chain, name]
+    return max(chains.values(), key=lambda it: it[0])
+
+
 # The three tables.
 
 
 def print_gate(names, log, interval, kept):
     status, sums, clock, used = measure(["rt", "ci", *([] if kept else ["--anew"]), *names], log, interval)
-    rows, whole, begun, bodies = [], dict.fromkeys((PROOF, TESTS, EDITS), 0.0), 0.0, 0
+    rows, whole, begun, bodies, chained = [], dict.fromkeys((PROOF, TESTS, EDITS), 0.0), 0.0, 0, {}
     for name in crates():
         cost = dict.fromkeys(whole, 0.0)
         before = 0.0
@@ -181,6 +206,7 @@ def print_gate(names, log, interval, kept):
             if crate == name:
                 cost[kind] += seconds
                 before += seconds if number == SEED else 0.0
+        chained[name] = cost[PROOF] + cost[TESTS]
         if not any(cost.values()):
             continue
         for kind, seconds in cost.items():
@@ -198,6 +224,9 @@ def print_gate(names, log, interval, kept):
     print()
     print(f"Else {minutes(rest)}, in all {minutes(used)} minutes of processor time, in {minutes(clock)} by the clock,")
     print(f"on {os.cpu_count()} processors: `{last_line(log)}`.")
+    longest, chain = longest_chain(chained)
+    print()
+    print(f"The longest chain: {minutes(longest)} minutes of proofs and tests in {len(chain)} crates, {', '.join(f'`{it}`' for it in chain)}.")
     return status
 
 
@@ -245,7 +274,7 @@ def is_test(path):
 
 
 def print_lines():
-    rows, whole = [], [0] * 7
+    rows, whole = [], [0] * 8
     for name in crates():
         folder = f"{TOP}/crates/{name}"
         sources = files_below(f"{folder}/src", ".rt")
@@ -259,11 +288,12 @@ def print_lines():
             count_lines(files_below(f"{folder}/proofs", ".antt")),
             sum(len(CLAUSE.findall(it)) for it in texts),
             len(edits_of(name)),
+            len(others_of(name)),
         ]
         whole = [a + b for a, b in zip(whole, counts)]
         rows.append([f"`{name}`", *[str(it) for it in counts]])
     rows.append(["all", *[str(it) for it in whole]])
-    table(["Crate", "Functions", "Code", "Tests", "Definitions", "Proofs", "Clauses", "Wrong bodies"], rows)
+    table(["Crate", "Functions", "Code", "Tests", "Definitions", "Proofs", "Clauses", "Wrong bodies", "On the other shelf"], rows)
     return 0
 
 

@@ -49,7 +49,8 @@ fn read_fault(fault: IoFault) -> LinkFault
 fn may_accept(place: &Place, limits: Limits) -> bool
     ensures { result ≡ may_accept limits place.now }
 {
-    place.accepted < limits.conns && place.accepted < place.closed + Conn::from(limits.at_once)
+    place.accepted < limits.conns
+        && u64::from(place.accepted) < u64::from(place.closed) + u64::from(limits.at_once)
 }
 
 // Waits for a client, where one may be accepted, or an open connection.

@@ -467,7 +467,7 @@ free_nothing = refl
 -- an empty budget is tested before all else, and the rule before the instruction is done; no word is fetched from where
 -- none may be executed
 abbrev pub forbidding : ℕ → Limits
-forbidding budget = record { budget = budget; permits = λ heap at count. false }
+forbidding budget = record { budget = budget; permits = λ heap at count. false; keep = 4 }
 
 abbrev pub guest : ℕ → Guest
 guest pc = record { machine = record waiting { pc = pc }; heap = record { start = 0x1000; end = 0x2000; blocks = [] } }

@@ -7,11 +7,12 @@ use Rattle.run_history.specs.Run.{does, after}
 use Rattle.run_history.specs.Repeating.{repeated}
 use Rattle.run_history.specs.Touching.{Range, instruction_at, touched}
 
--- what a session allows: so many instructions between two items, and by a rule, which looks at the blocks of the heap,
--- each range of bytes that is touched
+-- What a session allows: so many instructions between two items, and by a rule, which looks at the blocks of the heap, each range of bytes that is
+-- touched; and for how many items behind a failure the environment of the trial that is adopted stays in force.
 pub record Limits : Type 0 where
   pub budget : ℕ
   pub permits : Heap → ℕ → ℕ → Bool
+  pub keep : ℕ
 
 -- a machine, and the layout of its heap
 pub record Guest : Type 0 where

@@ -10,6 +10,9 @@ pub const CONNECTIONS: Conn = 4096;
 /// The most items that a session receives.
 pub const MAX_ITEMS: u64 = 1 << 20;
 
+/// For how many items behind a failure the environment of the trial that is adopted stays in force.
+pub const KEEP: u64 = 4;
+
 /// What a guest receives: an open (kind 1), a message (2) or a close (3) of a connection. An open and a close have no bytes.
 #[derive(Debug, Drop)]
 pub struct Item {

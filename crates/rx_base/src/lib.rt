@@ -10,6 +10,6 @@ mod steps;
 
 pub use fails::Fails;
 pub use fault::{IoFault, LoadFault};
-pub use item::{CONNECTIONS, Conn, Item, MAX_ITEMS};
+pub use item::{CONNECTIONS, Conn, Item, KEEP, MAX_ITEMS};
 pub use listed::{Bytes, Listed};
 pub use steps::Steps;

@@ -7,7 +7,7 @@ use crate::kept::{Kept, passes};
 use block_book::Choices;
 use counts_file::Counts;
 use replay::Player;
-use rx_base::Conn;
+use rx_base::{CONNECTIONS, Conn};
 
 /// Who follows a record and serves on: its player, what the run sent while it was followed, and the code with which it ended itself by then, if
 /// it did.
@@ -32,7 +32,7 @@ impl Follower {
         requires counts { AreCounts counts.now }
         ensures { IsShort counts.now self.now.kept.items result }
     {
-        'connections: for conn in 0..4096u16 {
+        'connections: for conn in 0..CONNECTIONS {
             if passes(self.kept.as_slice(), conn, counts.of(conn)) {
                 return Some(conn);
             }

@@ -15,7 +15,7 @@ use crate::kept::joined;
 use counts_file::Counts;
 use links::Link;
 use run_history::Answer;
-use rx_base::Conn;
+use rx_base::{CONNECTIONS, Conn};
 
 impl Follower {
     // Gives what the clients of open connections miss, one connection after another, in rising order.
@@ -31,7 +31,7 @@ impl Follower {
         ensures link { LinkPasses (K.seen link.old) (K.seen link.new) result }
         ensures went { K.Went link.old link.new }
     {
-        'connections: for conn in 0..4096u16 {
+        'connections: for conn in 0..CONNECTIONS {
             if let Err(answer) = self.give_rest(conn, counts, link) {
                 return Err(answer);
             }
