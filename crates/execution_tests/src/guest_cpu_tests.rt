@@ -1,5 +1,5 @@
-// Guests by themselves. One asks for two blocks and frees the second one twice: what each environment answers. The other is restored, and
-// does the same again. The words are by the formats of the manual; the places and the counts are worked out from the texts and from the
+// Guests by themselves. One asks for two blocks and frees the second one twice: what each environment answers. The other is saved and
+// restored, and does the same again. The words are by the formats of the manual; the places and the counts are worked out from the texts and from the
 // heaps. The first one's is from 0x11000 up to 0x3ff000, with its middle at 0x208000, and the other's begins at 0x12000.
 ghost use Rattle.std.specs.Prelude.{◌≡◌, ◌<◌, ◌≤◌, length, true, None, IfOk};
 ghost use Rattle.run_history.specs.Machine.{Wants};
@@ -13,7 +13,7 @@ use guest_cpu::{Cpu, Event};
 use guest_image::Image;
 use guest_space::AllMapped;
 use rx_base::{Bytes, Item, Steps};
-use std::alloc::Global;
+use std::alloc::{AllocError, Global};
 use std::marker::Brand;
 use std::process::Abort;
 use std::sync::ledger::{Blank, Ledger};
@@ -101,10 +101,13 @@ enum Turn {
     Back(u32),
 }
 
-// What is done with its checkpoints, the words that it takes then, one at each request, and what is seen up to the next request or
-// failure: each event with the program counter, and the counts of items, of instructions since the last one, of all instructions, of answers
-// of malloc, and of sends.
-type Row<'a> = (Turn, &'a [u32], &'a str);
+// What is done with its checkpoints, the items taken at each that stands then, the newest first, the words that the guest takes, one at each
+// request, and what is seen up to the next request or failure: each event with the program counter, and the counts of items, of
+// instructions since the last one, of all instructions, of answers of malloc, and of sends.
+type Row<'a> = (Turn, &'a [u64], &'a [u32], &'a str);
+
+// How many checkpoints may stand, how many frames there are more than for two states, and what is done.
+type Table<'a> = (u32, u32, &'a [Row<'a>]);
 
 // From its start it does four instructions up to its first request, and six with the open behind that.
 const OPENED: &str = "\
@@ -147,18 +150,40 @@ Asks at 10010 [3 28 73 2 2]
 // The checkpoint behind the open.
 const ONCE: &str = "Asks at 10010 [1 5 10 0 0]\n";
 
+// The one behind the words 5 and 4.
+const LAST: &str = "Asks at 10010 [5 28 132 3 4]\n";
+
 // What was done behind a checkpoint is done again: from the older one of two, from the newest, and behind other words. The older one is the
-// newest when the newer one was dropped, and is saved once more.
-static RESTORED: [Row<'static>; 9] = [
-    (Turn::On, &[0], OPENED),
-    (Turn::Save, &[2, 3], DONE),
-    (Turn::Save, &[5, 4], LATER),
-    (Turn::To(1), &[2, 3], DONE),
-    (Turn::On, &[5, 4], LATER),
-    (Turn::Back(1), &[], ONCE),
-    (Turn::Save, &[9, 8], OTHER),
-    (Turn::To(1), &[2, 3], DONE),
-    (Turn::To(0), &[2, 3], DONE),
+// newest when the newer one was dropped, and is saved once more. Of three the oldest one is given up, as two may stand.
+static RESTORED: [Row<'static>; 11] = [
+    (Turn::On, &[], &[0], OPENED),
+    (Turn::Save, &[1], &[2, 3], DONE),
+    (Turn::Save, &[3, 1], &[5, 4], LATER),
+    (Turn::To(1), &[3, 1], &[2, 3], DONE),
+    (Turn::On, &[3, 1], &[5, 4], LATER),
+    (Turn::Back(1), &[1], &[], ONCE),
+    (Turn::Save, &[1, 1], &[9, 8], OTHER),
+    (Turn::To(1), &[1, 1], &[2, 3], DONE),
+    (Turn::To(0), &[1, 1], &[2, 3], DONE),
+    (Turn::Save, &[3, 1], &[5, 4], LATER),
+    (Turn::To(1), &[3, 1], &[2, 3], DONE),
+];
+
+// Two messages write three pages: of the segment, of the stack and of the block. With three frames more than for two states the second
+// checkpoint fits beside the first: 256 + 3 + 256 are 515. For the third the first one goes, as 256 + 3 + 3 + 256 are 518.
+static FITTING: [Row<'static>; 4] = [
+    (Turn::On, &[], &[0], OPENED),
+    (Turn::Save, &[1], &[2, 3], DONE),
+    (Turn::Save, &[3, 1], &[5, 4], LATER),
+    (Turn::Save, &[5, 3], &[], LAST),
+];
+
+// With two more it doesn't.
+static CROWDED: [Row<'static>; 4] = [
+    (Turn::On, &[], &[0], OPENED),
+    (Turn::Save, &[1], &[2, 3], DONE),
+    (Turn::Save, &[3], &[5, 4], LATER),
+    (Turn::Save, &[5], &[], LAST),
 ];
 
 // The environment, and what is seen of the guest that frees twice.
@@ -307,6 +332,15 @@ fn do_turn(rt: &impl Abort, cpu: &mut Cpu<AllMapped>, turn: Turn, newer: u32) ->
     }
 }
 
+// The items taken at each checkpoint that stands, the newest first.
+fn items_taken(alloc: Global, cpu: &Cpu<AllMapped>) -> Result<Vec<u64>, AllocError> {
+    let mut taken = Vec::new(alloc);
+    for index in 0..cpu.checkpoints() {
+        taken.push(cpu.taken_at(index))?;
+    }
+    Ok(taken)
+}
+
 // Plays a row, and compares.
 fn play_row<L: Ledger>(
     rt: &impl Abort,
@@ -322,8 +356,9 @@ fn play_row<L: Ledger>(
     ensures goes { GoesOn cpu.new.slots }
     ensures newer { IfOk result (λ newer. cpu.new.slots.newer ≡ newer) }
 {
-    let (turn, words, wanted) = row;
+    let (turn, stand, words, wanted) = row;
     let newer = do_turn(rt, cpu, turn, newer);
+    assert_eq!(rt; items_taken(alloc, cpu)?.as_slice(), stand);
     let seen = run_on(rt, alloc, cpu, env, words, steps)?;
     assert_eq!(rt; seen.as_str(), wanted);
     Ok(newer)
@@ -348,22 +383,24 @@ fn play_rows<L: Ledger>(
     Ok(())
 }
 
-// Plays rows to a guest with two checkpoints at most.
+// Plays a table to a guest.
 fn play<L: Ledger>(
     rt: &impl Abort,
     alloc: Global,
     image: &Image,
     env: Env,
-    rows: &[Row<'_>],
+    table: Table<'_>,
     blank: Blank,
 ) -> Result<(), Fail>
     requires name { blank.name ≡ L.name }
     requires parts { blank.parts ≡ L.parts }
     requires some { 0 < blank.parts }
 {
+    let (most, more, rows) = table;
     let pages = image.window / 4096;
+    assert!(rt; 0 < most && most <= 16 && more <= pages);
     let mut steps = Steps::<L>::start(blank);
-    let mut cpu = Cpu::make(alloc, image, 2, 3 * pages, AllMapped)?;
+    let mut cpu = Cpu::make(alloc, image, most, 2 * pages + more, AllMapped)?;
     play_rows(rt, alloc, &mut cpu, env, rows, &mut steps)
 }
 
@@ -371,8 +408,8 @@ fn play<L: Ledger>(
 fn each_environment_answers_a_guest(rt: HostRuntime) -> Result<(), Fail> {
     let image = read_image(rt.alloc(), &FILE, 4 << 20)?;
     for (env, wanted) in ANSWERS {
-        let row = (Turn::On, [].as_slice(), wanted);
-        play::<Brand>(&rt, rt.alloc(), &image, env, &[row], Blank::new(1))?;
+        let row = (Turn::On, [].as_slice(), [].as_slice(), wanted);
+        play::<Brand>(&rt, rt.alloc(), &image, env, (2, 0, &[row]), Blank::new(1))?;
     }
     Ok(())
 }
@@ -380,12 +417,12 @@ fn each_environment_answers_a_guest(rt: HostRuntime) -> Result<(), Fail> {
 #[test]
 fn a_restored_guest_does_the_same_again(rt: HostRuntime) -> Result<(), Fail> {
     let image = read_image(rt.alloc(), &STORES, 1 << 20)?;
-    play::<Brand>(
-        &rt,
-        rt.alloc(),
-        &image,
-        Env::Plain,
-        &RESTORED,
-        Blank::new(1),
-    )
+    for table in [
+        (2, 256, RESTORED.as_slice()),
+        (16, 3, FITTING.as_slice()),
+        (16, 2, CROWDED.as_slice()),
+    ] {
+        play::<Brand>(&rt, rt.alloc(), &image, Env::Plain, table, Blank::new(1))?;
+    }
+    Ok(())
 }

@@ -4,7 +4,7 @@
 #[cfg(test)]
 mod code_table_tests;
 #[cfg(test)]
-mod elf_image_tests;
+mod elf_file_tests;
 #[cfg(test)]
 mod run_history_tests;
 #[cfg(test)]

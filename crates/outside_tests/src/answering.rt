@@ -2,6 +2,7 @@
 ghost use Rattle.std.specs.Prelude.{◌≡◌, ◌<◌, ◌^◌, length, IfOk, false, not, true};
 
 use links::{Given, Link, LinkEvent, LinkFault};
+use rx_base::Conn;
 use std::alloc::Global;
 use std::test::Fail;
 
@@ -30,7 +31,7 @@ fn given_shown(alloc: Global, answer: &Result<Given, LinkFault>) -> Result<Strin
 }
 
 // What a connection is answered.
-fn reply(conn: u16) -> &'static [u8]
+fn reply(conn: Conn) -> &'static [u8]
     ensures some { 0 < length result.now }
     ensures few { length result.now < 2 ^ 16 }
 {
@@ -45,7 +46,7 @@ fn reply(conn: u16) -> &'static [u8]
 fn give_reply<L: Link>(
     alloc: Global,
     link: &mut L,
-    conn: u16,
+    conn: Conn,
     answers: &mut String,
 ) -> Result<bool, Fail>
     requires takes { (L.seen link.old).takes ≡ true }

@@ -5,7 +5,7 @@ ghost use Rattle.crowd_link.specs.Standing.{IsJustBound};
 use crate::answering::answered;
 use crowd::{Crowd, CrowdCall, CrowdEntry, MemoryCrowd, Ready};
 use crowd_link::{CrowdLink, Limits};
-use rx_io::Bytes;
+use rx_base::{Bytes, Conn};
 use std::alloc::Global;
 use std::test::Fail;
 
@@ -73,7 +73,7 @@ fn served(
     alloc: Global,
     script: &[Ready],
     fails: &[(CrowdCall, u64)],
-    conns: u16,
+    conns: Conn,
     at_once: u16,
 ) -> Result<(String, String), Fail>
     requires some { 1 ≤ at_once }
@@ -96,7 +96,7 @@ fn a_crowd_is_served_at_the_same_time(rt: HostRuntime) -> Result<(), Fail> {
     type Row = (
         &'static [Ready],
         &'static [(CrowdCall, u64)],
-        u16,
+        Conn,
         u16,
         &'static str,
         &'static str,

@@ -4,6 +4,8 @@
 #[cfg(test)]
 mod answering;
 #[cfg(test)]
+mod clients;
+#[cfg(test)]
 mod crowd_tests;
 #[cfg(test)]
 mod listener_tests;

@@ -1,15 +1,25 @@
 // Listeners in memory, a link over one, and the system's TCP.
-ghost use Rattle.std.specs.Prelude.{◌≤◌};
+ghost use Rattle.std.specs.Prelude.{◌≡◌, ◌≤◌, false};
 ghost use Rattle.port_link.specs.Standing.{IsJustBound};
 
 use crate::answering::answered;
+use crate::clients::{ClientStep, do_step, free_port, text_of};
 use port_link::PortLink;
-use rx_io::{IoFault, ListenCall, ListenEntry, Listener, MemoryListener};
+use rx_base::{Conn, IoFault};
+use rx_io::{ListenCall, ListenEntry, Listener, MemoryListener, TameListener};
 use std::alloc::Global;
-use std::io::{Read, Write};
-use std::net::{Ipv4Addr, Net, OpenListener, OpenStream, Shutdown, TcpListener, TcpStream};
+use std::net::Net;
 use std::test::Fail;
 use tcp_edge::TcpListenerEdge;
+
+// The bytes of each input.
+fn bytes_of(alloc: Global, inputs: &[&str]) -> Result<Vec<Vec<u8>>, Fail> {
+    let mut prepared = Vec::new(alloc);
+    for input in inputs {
+        prepared.push(input.as_bytes().to_vec(alloc)?)?;
+    }
+    Ok(prepared)
+}
 
 // A listener of these inputs, two bytes a call.
 fn listener_of(
@@ -17,38 +27,178 @@ fn listener_of(
     inputs: &[&str],
     fails: &[(ListenCall, u64)],
 ) -> Result<MemoryListener, Fail> {
-    let mut prepared = Vec::new(alloc);
-    for input in inputs {
-        prepared.push(input.as_bytes().to_vec(alloc)?)?;
-    }
-    Ok(MemoryListener::make(alloc, prepared, fails.to_vec(alloc)?, 2))
+    let inputs = bytes_of(alloc, inputs)?;
+    Ok(MemoryListener::make(alloc, inputs, fails.to_vec(alloc)?, 2))
 }
 
-// The entries, a word each.
+// An entry in short.
+fn entry_shown(alloc: Global, call: &ListenEntry) -> Result<String, Fail> {
+    Ok(match call {
+        ListenEntry::Bound(port) => format!(in alloc; "bound {port};")?,
+        ListenEntry::Accepted => format!(in alloc; "accepted;")?,
+        ListenEntry::Took { bytes, room } => {
+            format!(in alloc; "took {} of {room};", bytes.as_slice().len())?
+        }
+        ListenEntry::Gave { bytes, offered } => {
+            format!(in alloc; "gave {} of {offered};", bytes.as_slice().len())?
+        }
+        ListenEntry::Closed => format!(in alloc; "closed;")?,
+        ListenEntry::Failed(call) => format!(in alloc; "failed {call:?};")?,
+    })
+}
+
 fn shown(alloc: Global, calls: &[ListenEntry]) -> Result<String, Fail> {
     let mut text = String::new(alloc);
     for call in calls {
-        let word = match call {
-            ListenEntry::Bound(port) => format!(in alloc; "bound {port};")?,
-            ListenEntry::Accepted => format!(in alloc; "accepted;")?,
-            ListenEntry::Took { bytes, room } => format!(in alloc;
-                "took {} of {room};",
-                bytes.as_slice().len()
-            )?,
-            ListenEntry::Gave { bytes, offered } => format!(in alloc;
-                "gave {} of {offered};",
-                bytes.as_slice().len()
-            )?,
-            ListenEntry::Closed => format!(in alloc; "closed;")?,
-            ListenEntry::Failed(call) => format!(in alloc; "failed {call:?};")?,
-        };
-        text.push_str(word.as_str())?;
+        text.push_str(entry_shown(alloc, call)?.as_str())?;
     }
     Ok(text)
 }
 
+// A listener that keeps whether a client is present. A call that may not be made answers `Memory`.
+#[derive(Drop)]
+struct Careful<N: Listener + Drop> {
+    listener: N,
+    is_present: bool,
+    ghost same: { N.present listener ≡ is_present },
+}
+
+impl<N: Listener + Drop> Careful<N> {
+    fn accept(&mut self) -> Result<(), IoFault> {
+        match self.listener.accept() {
+            Ok(()) => {
+                self.is_present = true;
+                Ok(())
+            }
+            Err(fault) => Err(fault),
+        }
+    }
+
+    fn take(&mut self, buf: &mut [u8; 4]) -> Result<usize, IoFault> {
+        if !self.is_present {
+            return Err(IoFault::Memory);
+        }
+        self.listener.take(buf)
+    }
+
+    fn give(&mut self, bytes: &[u8]) -> Result<usize, IoFault> {
+        if bytes.is_empty() || !self.is_present {
+            return Err(IoFault::Memory);
+        }
+        self.listener.give(bytes)
+    }
+
+    fn close(&mut self) {
+        if self.is_present {
+            self.listener.close();
+            self.is_present = false;
+        }
+    }
+}
+
+// What a client does, or a call on the listener.
+#[derive(Clone, Copy)]
+enum Step {
+    Client(ClientStep),
+    Bind,
+    Accept,
+    Take,
+    Give(&'static str),
+    Close,
+}
+
+// What a take answered, in short.
+fn taken(alloc: Global, buf: &[u8], answer: Result<usize, IoFault>) -> Result<String, Fail> {
+    Ok(match answer {
+        Ok(0) => format!(in alloc; "ends ")?,
+        Ok(count) => format!(in alloc; "{} ", text_of(buf, count)?)?,
+        Err(fault) => format!(in alloc; "{fault:?} ")?,
+    })
+}
+
+// Does a step, and tells what came of it.
+fn play<R: Net, N: Listener + Drop>(
+    net: &R,
+    alloc: Global,
+    port: u16,
+    clients: &mut Vec<R::Stream>,
+    careful: &mut Careful<N>,
+    step: Step,
+) -> Result<String, Fail> {
+    match step {
+        Step::Client(step) => do_step(net, alloc, port, clients, step),
+        Step::Bind => Ok(format!(in alloc; "bind {:?} ", careful.listener.bind(port))?),
+        Step::Accept => Ok(format!(in alloc; "accept {:?} ", careful.accept())?),
+        Step::Take => {
+            let mut buf = [0u8; 4];
+            let answer = careful.take(&mut buf);
+            taken(alloc, &buf, answer)
+        }
+        Step::Give(text) => {
+            let answer = careful.give(text.as_bytes());
+            Ok(format!(in alloc; "give {answer:?} ")?)
+        }
+        Step::Close => {
+            careful.close();
+            Ok(String::new(alloc))
+        }
+    }
+}
+
+// Plays steps one after the other.
+fn played<R: Net, N: Listener + Drop>(
+    net: &R,
+    alloc: Global,
+    port: u16,
+    listener: N,
+    steps: &[Step],
+) -> Result<String, Fail>
+    requires { N.present listener ≡ false }
+{
+    let mut careful = Careful {
+        listener,
+        is_present: false,
+    };
+    let mut clients = Vec::new(alloc);
+    let mut text = String::new(alloc);
+    for step in steps {
+        let told = play(net, alloc, port, &mut clients, &mut careful, *step)?;
+        text.push_str(told.as_str())?;
+    }
+    Ok(text)
+}
+
+static PLANNED: [Step; 14] = [
+    Step::Bind,
+    Step::Bind,
+    Step::Accept,
+    Step::Take,
+    Step::Take,
+    Step::Take,
+    Step::Give("xyz"),
+    Step::Give("xyz"),
+    Step::Close,
+    Step::Accept,
+    Step::Accept,
+    Step::Take,
+    Step::Close,
+    // Past the last input.
+    Step::Accept,
+];
+
+static TAME: [Step; 7] = [
+    Step::Bind,
+    Step::Accept,
+    Step::Take,
+    Step::Give("xyz"),
+    Step::Close,
+    // Past the last input.
+    Step::Accept,
+    Step::Take,
+];
+
 #[test]
-fn a_listener_fails_where_it_is_planned(rt: HostRuntime) -> Result<(), Fail> {
+fn listeners_tell_their_calls(rt: HostRuntime) -> Result<(), Fail> {
     let alloc = rt.alloc();
     let fails = [
         (ListenCall::Bind, 1),
@@ -57,26 +207,26 @@ fn a_listener_fails_where_it_is_planned(rt: HostRuntime) -> Result<(), Fail> {
         (ListenCall::Accept, 2),
     ];
     let mut listener = listener_of(alloc, &["abc", "d"], &fails)?;
-    let mut buf = [0u8; 4];
-    assert_eq!(rt; listener.bind(80), Err(IoFault::Failed));
-    assert_eq!(rt; listener.bind(80), Ok(()));
-    assert_eq!(rt; listener.accept(), Ok(()));
-    assert_eq!(rt; listener.take(&mut buf), Ok(2));
-    assert_eq!(rt; listener.take(&mut buf), Err(IoFault::Failed));
-    assert_eq!(rt; listener.take(&mut buf), Ok(1));
-    assert_eq!(rt; listener.give(b"xyz"), Err(IoFault::Failed));
-    assert_eq!(rt; listener.give(b"xyz"), Ok(2));
-    listener.close();
-    assert_eq!(rt; listener.accept(), Err(IoFault::Failed));
-    assert_eq!(rt; listener.accept(), Ok(()));
-    assert_eq!(rt; listener.take(&mut buf), Ok(1));
-    listener.close();
-    // Past the last input.
-    assert_eq!(rt; listener.accept(), Err(IoFault::Failed));
-    let want =
+    let seen = played(&rt, alloc, 80, &mut listener, &PLANNED)?;
+    assert_eq!(rt;
+        seen.as_str(),
+        "bind Err(Failed) bind Ok(()) accept Ok(()) ab Failed c give Err(Failed) give Ok(2) accept Err(Failed) accept Ok(()) d accept Err(Failed) "
+    );
+    assert_eq!(rt;
+        shown(alloc, listener.calls())?.as_str(),
         "failed Bind;bound 80;accepted;took 2 of 4;failed Take;took 1 of 4;failed Give;gave 2 of 3;closed;\
-failed Accept;accepted;took 1 of 4;closed;failed Accept;";
-    assert_eq!(rt; shown(alloc, listener.calls())?.as_str(), want);
+failed Accept;accepted;took 1 of 4;closed;failed Accept;"
+    );
+    let mut listener = TameListener::make(alloc, bytes_of(alloc, &["abc"])?, 2);
+    let seen = played(&rt, alloc, 80, &mut listener, &TAME)?;
+    assert_eq!(rt;
+        seen.as_str(),
+        "bind Ok(()) accept Ok(()) ab give Ok(2) accept Ok(()) ends "
+    );
+    assert_eq!(rt;
+        shown(alloc, listener.calls())?.as_str(),
+        "bound 80;accepted;took 2 of 4;gave 2 of 3;closed;accepted;took 0 of 4;"
+    );
     Ok(())
 }
 
@@ -85,7 +235,7 @@ fn served(
     alloc: Global,
     inputs: &[&str],
     fails: &[(ListenCall, u64)],
-    conns: u16,
+    conns: Conn,
 ) -> Result<(String, String), Fail>
     requires some { 1 ≤ conns }
     requires few { conns ≤ 4096 }
@@ -99,7 +249,7 @@ fn served(
     Ok((answers, shown(alloc, listener.calls())?))
 }
 
-fn serve<N: Listener + Drop>(alloc: Global, listener: N, conns: u16) -> Result<String, Fail>
+fn serve<N: Listener + Drop>(alloc: Global, listener: N, conns: Conn) -> Result<String, Fail>
     requires some { 1 ≤ conns }
     requires few { conns ≤ 4096 }
     requires bound { IsJustBound (N.told listener) }
@@ -114,7 +264,7 @@ fn a_port_serves_one_after_another(rt: HostRuntime) -> Result<(), Fail> {
     // What goes wrong, how many connections there are, what is answered, and which calls are made.
     type Row = (
         &'static [(ListenCall, u64)],
-        u16,
+        Conn,
         &'static str,
         &'static str,
     );
@@ -158,45 +308,44 @@ fn a_port_serves_one_after_another(rt: HostRuntime) -> Result<(), Fail> {
     Ok(())
 }
 
-// A port that was free a moment ago.
-pub(crate) fn free_port<R: Net>(net: &R) -> Result<u16, Fail> {
-    let listener = TcpListener::bind(net, (Ipv4Addr::LOCALHOST, 0u16))?;
-    Ok(listener.local_addr()?.port())
-}
+static SYSTEM: [Step; 19] = [
+    // It needs a port, and one that is free.
+    Step::Accept,
+    Step::Bind,
+    Step::Bind,
+    // One that ends its writing gets its reply, and then the close.
+    Step::Client(ClientStep::Connects("hi")),
+    Step::Client(ClientStep::Shuts(0)),
+    Step::Accept,
+    Step::Take,
+    Step::Take,
+    Step::Give("yes"),
+    Step::Close,
+    Step::Client(ClientStep::Takes(0)),
+    // A silent one is waited for no longer than its patience; the next one is served.
+    Step::Client(ClientStep::Connects("")),
+    Step::Client(ClientStep::Connects("x")),
+    Step::Accept,
+    Step::Take,
+    Step::Close,
+    Step::Accept,
+    Step::Take,
+    Step::Close,
+];
 
 #[test]
 fn the_system_serves_on_loopback(rt: HostRuntime) -> Result<(), Fail> {
     let port = free_port(&rt)?;
-    let mut edge = TcpListenerEdge::make(&rt, 1);
-    let mut buf = [0u8; 8];
-    assert_eq!(rt; edge.accept(), Err(IoFault::Failed));
-    assert_eq!(rt; edge.bind(port), Ok(()));
+    let seen = played(
+        &rt,
+        rt.alloc(),
+        port,
+        TcpListenerEdge::make(&rt, 1),
+        &SYSTEM,
+    )?;
     assert_eq!(rt;
-        TcpListenerEdge::make(&rt, 1).bind(port),
-        Err(IoFault::Failed)
+        seen.as_str(),
+        "accept Err(Failed) bind Ok(()) bind Err(Failed) accept Ok(()) hi ends give Ok(3) 0 has yes accept Ok(()) Failed accept Ok(()) x "
     );
-    // One that ends its writing gets its reply, and then the close.
-    let mut client = TcpStream::connect(&rt, (Ipv4Addr::LOCALHOST, port))?;
-    client.write_all(b"hi\n")?;
-    client.shutdown(Shutdown::Write)?;
-    assert_eq!(rt; edge.accept(), Ok(()));
-    assert_eq!(rt; edge.take(&mut buf), Ok(3));
-    assert_eq!(rt; buf, *b"hi\n\0\0\0\0\0");
-    assert_eq!(rt; edge.take(&mut buf), Ok(0));
-    assert_eq!(rt; edge.give(b"yes"), Ok(3));
-    edge.close();
-    assert_eq!(rt; client.read(&mut buf)?, 3);
-    assert_eq!(rt; client.read(&mut buf)?, 0);
-    // A silent one is waited for no longer than its patience; the next one is served.
-    let silent = TcpStream::connect(&rt, (Ipv4Addr::LOCALHOST, port))?;
-    let mut second = TcpStream::connect(&rt, (Ipv4Addr::LOCALHOST, port))?;
-    second.write_all(b"x")?;
-    assert_eq!(rt; edge.accept(), Ok(()));
-    assert_eq!(rt; edge.take(&mut buf), Err(IoFault::Failed));
-    edge.close();
-    assert_eq!(rt; edge.accept(), Ok(()));
-    assert_eq!(rt; edge.take(&mut buf), Ok(1));
-    edge.close();
-    drop(silent);
     Ok(())
 }

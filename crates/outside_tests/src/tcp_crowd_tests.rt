@@ -2,12 +2,11 @@
 ghost use Rattle.std.specs.Prelude.{◌≡◌, []};
 ghost use Rattle.crowd.specs.Connections.{is_open};
 
-use crate::listener_tests::free_port;
+use crate::clients::{ClientStep, do_step, free_port, text_of};
 use crowd::{Crowd, Ready};
-use rx_io::IoFault;
+use rx_base::{Conn, IoFault};
 use std::alloc::Global;
-use std::io::{Read, Write};
-use std::net::{Ipv4Addr, Net, OpenStream, Shutdown, TcpStream};
+use std::net::Net;
 use std::test::Fail;
 use tcp_edge::TcpCrowdEdge;
 
@@ -19,7 +18,7 @@ struct Careful<C: Crowd + Drop> {
     ghost same: { C.connections crowd ≡ opened.items },
 }
 
-fn is_open(conn: u16, opened: &[bool]) -> bool
+fn is_open(conn: Conn, opened: &[bool]) -> bool
     ensures { result ≡ is_open conn opened.now }
 {
     match opened.get(conn as usize) {
@@ -68,21 +67,21 @@ impl<C: Crowd + Drop> Careful<C> {
         }
     }
 
-    fn take(&mut self, conn: u16, buf: &mut [u8; 2]) -> Result<usize, IoFault> {
+    fn take(&mut self, conn: Conn, buf: &mut [u8; 2]) -> Result<usize, IoFault> {
         if !is_open(conn, &self.opened) {
             return Err(IoFault::Memory);
         }
         self.crowd.take(conn, buf)
     }
 
-    fn give(&mut self, conn: u16, bytes: &[u8]) -> Result<usize, IoFault> {
+    fn give(&mut self, conn: Conn, bytes: &[u8]) -> Result<usize, IoFault> {
         if bytes.is_empty() || !is_open(conn, &self.opened) {
             return Err(IoFault::Memory);
         }
         self.crowd.give(conn, bytes)
     }
 
-    fn close(&mut self, conn: u16) {
+    fn close(&mut self, conn: Conn) {
         if is_open(conn, &self.opened) {
             self.crowd.close(conn);
             self.opened[conn as usize] = false;
@@ -90,20 +89,30 @@ impl<C: Crowd + Drop> Careful<C> {
     }
 }
 
+// What a client does, or a call on the crowd.
+#[derive(Clone, Copy)]
+enum Step {
+    Client(ClientStep),
+    Bind,
+    Accept,
+    /// What a wait says is ready is done, so often.
+    Events(u32),
+    Give(Conn, &'static str),
+    /// A give of 16 MiB.
+    Flood(Conn),
+    Close(Conn),
+}
+
 // What a take answered, in short.
 fn taken(
     alloc: Global,
-    conn: u16,
+    conn: Conn,
     buf: &[u8],
     answer: Result<usize, IoFault>,
 ) -> Result<String, Fail> {
     Ok(match answer {
         Ok(0) => format!(in alloc; "{conn} ends ")?,
-        Ok(count) => {
-            let (bytes, _) = buf.split_at(count.min(buf.len()));
-            let text = std::str::from_utf8(bytes).ok().ok_or("no text")?;
-            format!(in alloc; "{conn}:{text} ")?
-        }
+        Ok(count) => format!(in alloc; "{conn}:{} ", text_of(buf, count)?)?,
         Err(fault) => format!(in alloc; "{conn} {fault:?} ")?,
     })
 }
@@ -137,95 +146,130 @@ fn events<C: Crowd + Drop>(
     Ok(text)
 }
 
-// A client of a port, which has sent this.
-fn client<R: Net>(net: &R, port: u16, bytes: &[u8]) -> Result<R::Stream, Fail> {
-    let mut stream = TcpStream::connect(net, (Ipv4Addr::LOCALHOST, port))?;
-    stream.write_all(bytes)?;
-    Ok(stream)
-}
-
-// Two clients of a port at which a crowd begins to listen.
-fn two_clients<R: Net, C: Crowd + Drop>(
-    net: &R,
+// Whether of many bytes a part was given.
+fn flood<C: Crowd + Drop>(
+    alloc: Global,
     crowd: &mut Careful<C>,
-    first: &[u8],
-    second: &[u8],
-) -> Result<(R::Stream, R::Stream), Fail> {
-    let port = free_port(net)?;
-    match crowd.bind(port) {
-        Ok(()) => {}
-        Err(_) => return Err(Fail::new("not bound")),
-    }
-    Ok((client(net, port, first)?, client(net, port, second)?))
-}
-
-#[test]
-fn a_crowd_needs_a_port(rt: HostRuntime) -> Result<(), Fail> {
-    let alloc = rt.alloc();
-    let port = free_port(&rt)?;
-    let mut first = Careful::make(alloc, TcpCrowdEdge::make(&rt, alloc, 0));
-    let mut second = Careful::make(alloc, TcpCrowdEdge::make(&rt, alloc, 0));
-    assert_eq!(rt; first.wait(), Err(IoFault::Failed));
-    assert_eq!(rt; first.accept(), Err(IoFault::Failed));
-    assert_eq!(rt; first.bind(port), Ok(()));
-    assert_eq!(rt; second.bind(port), Err(IoFault::Failed));
-    Ok(())
-}
-
-#[test]
-fn clients_take_turns(rt: HostRuntime) -> Result<(), Fail> {
-    let alloc = rt.alloc();
-    let mut crowd = Careful::make(alloc, TcpCrowdEdge::make(&rt, alloc, 0));
-    let (mut first, _second) = two_clients(&rt, &mut crowd, b"abcd", b"e")?;
-    // One that ends its sending is read to the end, and gets its reply, and then the close.
-    first.shutdown(Shutdown::Write)?;
-    let seen = events(alloc, &mut crowd, 6)?;
-    assert_eq!(rt;
-        seen.as_str(),
-        "accept Ok(()) accept Ok(()) 0:ab 1:e 0:cd 0 ends "
-    );
-    assert_eq!(rt; crowd.give(0, b"xy"), Ok(2));
-    crowd.close(0);
-    let mut buf = [0u8; 4];
-    assert_eq!(rt; first.read(&mut buf)?, 2);
-    assert_eq!(rt; buf, *b"xy\0\0");
-    assert_eq!(rt; first.read(&mut buf)?, 0);
-    Ok(())
-}
-
-#[test]
-fn clients_that_break_off_end_alone(rt: HostRuntime) -> Result<(), Fail> {
-    let alloc = rt.alloc();
-    let mut crowd = Careful::make(alloc, TcpCrowdEdge::make(&rt, alloc, 0));
-    let (first, second) = two_clients(&rt, &mut crowd, b"a", b"b")?;
-    let seen = events(alloc, &mut crowd, 4)?;
-    assert_eq!(rt; seen.as_str(), "accept Ok(()) accept Ok(()) 0:a 1:b ");
-    // One that leaves with a reply unread resets its connection.
-    assert_eq!(rt; crowd.give(0, b"x"), Ok(1));
-    drop(first);
-    assert_eq!(rt; events(alloc, &mut crowd, 1)?.as_str(), "0 Failed ");
-    crowd.close(0);
-    // One that is gone takes a give, and then no more.
-    drop(second);
-    assert_eq!(rt; crowd.give(1, b"x"), Ok(1));
-    assert_eq!(rt; crowd.give(1, b"x"), Err(IoFault::Failed));
-    Ok(())
-}
-
-#[test]
-fn clients_that_keep_still_are_waited_for_a_second(rt: HostRuntime) -> Result<(), Fail> {
-    let alloc = rt.alloc();
-    let mut crowd = Careful::make(alloc, TcpCrowdEdge::make(&rt, alloc, 1));
-    let (_silent, _unread) = two_clients(&rt, &mut crowd, b"", b"b")?;
-    let seen = events(alloc, &mut crowd, 4)?;
-    assert_eq!(rt; seen.as_str(), "accept Ok(()) accept Ok(()) 1:b 0 Failed ");
-    crowd.close(0);
-    // The other one reads nothing: a give takes a part, and is the last one.
+    conn: Conn,
+) -> Result<String, Fail> {
     let block = vec![in alloc; 0u8; 1 << 24]?;
-    assert_eq!(rt;
-        crowd.give(1, &block).is_ok_and(|count| count < 1 << 24),
-        true
-    );
-    assert_eq!(rt; crowd.give(1, &block), Err(IoFault::Failed));
+    Ok(match crowd.give(conn, &block) {
+        Ok(count) => format!(in alloc; "part {} ", count < block.len())?,
+        Err(fault) => format!(in alloc; "{fault:?} ")?,
+    })
+}
+
+// Does a step, and tells what came of it.
+fn play<R: Net, C: Crowd + Drop>(
+    net: &R,
+    alloc: Global,
+    port: u16,
+    clients: &mut Vec<R::Stream>,
+    crowd: &mut Careful<C>,
+    step: Step,
+) -> Result<String, Fail> {
+    match step {
+        Step::Client(step) => do_step(net, alloc, port, clients, step),
+        Step::Bind => Ok(format!(in alloc; "bind {:?} ", crowd.bind(port))?),
+        Step::Accept => Ok(format!(in alloc; "accept {:?} ", crowd.accept())?),
+        Step::Events(count) => events(alloc, crowd, count),
+        Step::Give(conn, text) => {
+            let answer = crowd.give(conn, text.as_bytes());
+            Ok(format!(in alloc; "give {answer:?} ")?)
+        }
+        Step::Flood(conn) => flood(alloc, crowd, conn),
+        Step::Close(conn) => {
+            crowd.close(conn);
+            Ok(String::new(alloc))
+        }
+    }
+}
+
+// Plays steps one after the other.
+fn played<R: Net, C: Crowd + Drop>(
+    net: &R,
+    alloc: Global,
+    crowd: C,
+    steps: &[Step],
+) -> Result<String, Fail>
+    requires { C.connections crowd ≡ [] }
+{
+    let mut crowd = Careful::make(alloc, crowd);
+    let port = free_port(net)?;
+    let mut clients = Vec::new(alloc);
+    let mut text = String::new(alloc);
+    for step in steps {
+        let told = play(net, alloc, port, &mut clients, &mut crowd, *step)?;
+        text.push_str(told.as_str())?;
+    }
+    Ok(text)
+}
+
+// For how many seconds it waits, what is done, and what comes of it.
+type Row = (u64, &'static [Step], &'static str);
+
+static ROWS: [Row; 4] = [
+    // It needs a port, and one that is free.
+    (
+        0,
+        &[Step::Events(1), Step::Accept, Step::Bind, Step::Bind],
+        "wait Failed accept Err(Failed) bind Ok(()) bind Err(Failed) ",
+    ),
+    // Clients take turns. One that ends its sending is read to the end, and gets its reply, and then the close.
+    (
+        0,
+        &[
+            Step::Bind,
+            Step::Client(ClientStep::Connects("abcd")),
+            Step::Client(ClientStep::Connects("e")),
+            Step::Client(ClientStep::Shuts(0)),
+            Step::Events(6),
+            Step::Give(0, "xy"),
+            Step::Close(0),
+            Step::Client(ClientStep::Takes(0)),
+        ],
+        "bind Ok(()) accept Ok(()) accept Ok(()) 0:ab 1:e 0:cd 0 ends give Ok(2) 0 has xy ",
+    ),
+    // One that leaves with a reply unread resets its connection. One that is gone takes a give, and then no more.
+    (
+        0,
+        &[
+            Step::Bind,
+            Step::Client(ClientStep::Connects("a")),
+            Step::Client(ClientStep::Connects("b")),
+            Step::Events(4),
+            Step::Give(0, "x"),
+            Step::Client(ClientStep::Leaves(0)),
+            Step::Events(1),
+            Step::Close(0),
+            Step::Client(ClientStep::Leaves(0)),
+            Step::Give(1, "x"),
+            Step::Give(1, "x"),
+        ],
+        "bind Ok(()) accept Ok(()) accept Ok(()) 0:a 1:b give Ok(1) 0 Failed give Ok(1) give Err(Failed) ",
+    ),
+    // Clients that keep still are waited for a second. To one that reads nothing a give takes a part, and is the last one.
+    (
+        1,
+        &[
+            Step::Bind,
+            Step::Client(ClientStep::Connects("")),
+            Step::Client(ClientStep::Connects("b")),
+            Step::Events(4),
+            Step::Close(0),
+            Step::Flood(1),
+            Step::Flood(1),
+        ],
+        "bind Ok(()) accept Ok(()) accept Ok(()) 1:b 0 Failed part true Failed ",
+    ),
+];
+
+#[test]
+fn a_crowd_serves_on_loopback(rt: HostRuntime) -> Result<(), Fail> {
+    let alloc = rt.alloc();
+    for (patience, steps, wanted) in ROWS {
+        let seen = played(&rt, alloc, TcpCrowdEdge::make(&rt, alloc, patience), steps)?;
+        assert_eq!(rt; seen.as_str(), wanted);
+    }
     Ok(())
 }

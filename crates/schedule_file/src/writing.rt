@@ -3,6 +3,7 @@ ghost use Rattle.std.specs.Prelude.{◌≡◌, ◌+◌, ◌≤◌, ◌<◌, ◌^
 ghost use Rattle.std.specs.Vec.{vec_len, vec_capacity};
 ghost use Rattle.block_book.specs.Answer.{is_calloc};
 ghost use Rattle.schedule_file.specs.declared.recorded.TheConstants.{VERSION};
+ghost use Rattle.rx_base.specs.declared.item.TheConstants.{MAX_ITEMS};
 ghost use Rattle.text_lines.specs.Written.{Writes};
 ghost use Rattle.schedule_file.specs.Lines.{frame_name, front, spaced, head_line, line_text, choice_line, end_line};
 ghost use Rattle.schedule_file.specs.Steps.{bytes_of};

@@ -1,7 +1,7 @@
 // The five bytes before a frame's payload, and what is refused by them.
-ghost use Rattle.std.specs.Prelude.{◌≡◌, ◌<◌, ◌≤◌, true, false, None, length};
+ghost use Rattle.std.specs.Prelude.{◌≡◌, ◌<◌, ◌≤◌, ◌^◌, true, false, None, length};
 ghost use Rattle.links.specs.ConnectionTables.{phases_in, is_in_order};
-ghost use Rattle.trunk_wire.specs.Frames.{header_bytes, FitsTwoBytes};
+ghost use Rattle.trunk_wire.specs.Frames.{header_bytes};
 ghost use Rattle.trunk_wire.specs.Grammar.{is_known, is_extra, is_reopened, is_not_open, header_refusal, event_of};
 
 use links::{ConnectionTable, LinkEvent};
@@ -30,7 +30,7 @@ pub struct Header {
 /// The header that these bytes are.
 pub fn header_from(bytes: [u8; 5]) -> Header
     ensures bytes { header_bytes result ≡ bytes }
-    ensures fits { FitsTwoBytes result.conn }
+    ensures fits { result.conn < 2 ^ 16 }
 {
     let [kind, conn_low, conn_high, length_low, length_high] = bytes;
     Header {

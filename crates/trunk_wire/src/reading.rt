@@ -90,6 +90,7 @@ fn take_rest<S: Source>(
     header: Header,
     offset: u64,
 ) -> Result<LinkEvent, LinkFault>
+    requires fits { header.conn < 2 ^ 16 }
     ensures frame { TakesBy (phases_in table.old) (Behind (header_bytes header) (Reads (S.told source.old) (S.told source.new) took.old took.new))
         (IsDrained (S.told source.new)) result }
     ensures order { Enters (phases_in table.old) (phases_in table.new) result }

@@ -6,7 +6,7 @@ use Rattle.trunk_wire.proofs.trunk_link.TrunkLinkLink.give.Goals as goal
 pub returns-clause-shows : goal.returns-clause-shows
 returns-clause-shows g c = record {
   told = rw (c.requires.may, c.is_ok-self.ensures.value)
-      (give_told _ _ _ _ _ c.args.conn c.args.bytes.now c.write_frame-answer.result (g.met.K.Sink.countable c.write_frame-answer.new.sink) (omega (arith, c.ranges.conn)) c.requires.some c.requires.few c.write_frame-answer.ensures.frame);
+      (give_told _ _ _ _ _ c.args.conn c.args.bytes.now c.write_frame-answer.result (g.met.K.Sink.countable c.write_frame-answer.new.sink) (omega (arith, ltb-true c.args.conn CONNECTIONS c.requires.connected)) c.requires.some c.requires.few c.write_frame-answer.ensures.frame);
   handed = search rules;
   cause = search rules;
   gives = search rules;
