@@ -6,30 +6,29 @@
 ghost use Rattle.std.specs.Prelude.{◌≡◌, ◌<◌};
 ghost use Rattle.rx_serve.specs.Status.{status_of};
 
-mod blame;
 mod descriptors;
-mod differing;
 mod durable;
+mod facts;
 mod helping;
 mod message;
 mod outputs;
 mod readings;
-mod resume_sentences;
+mod rows;
+mod seen;
 mod sentences;
-mod standby_sentences;
 mod std_teller;
-mod text_sentences;
 
 use command_line::{Command, asked_help, read_command};
 use descriptors::hold_closed;
 use durable::durable_through;
 use durable_files::{DiskFiles, Through};
+use facts::words_of;
 use helping::print_help;
 use outputs::{Objection, find_objection};
 use rx_base::Steps;
 use rx_io::{StdSink, StdSource};
 use rx_serve::{End, run_rx};
-use sentences::{tell, tell_diagnosed, tell_memory, tell_not_utf8, tell_objection};
+use sentences::{tell, tell_diagnosed, tell_memory, tell_not_utf8};
 use std::alloc::AllocError;
 use std::env;
 use std::marker::Brand;
@@ -59,11 +58,12 @@ fn refused_outputs(rt: &HostRuntime, words: &[String]) -> Option<u8> {
     let Ok(Some(command)) = read_command(rt.alloc(), words) else {
         return None;
     };
-    let found = find_objection(rt, &command)?;
-    tell_objection(rt, found);
+    let facts = words_of(rt.alloc(), &command).ok()?;
+    let found = find_objection(rt, facts.as_slice())?;
+    let _ = eprintln!(rt; "rx: {found}");
     match found {
         Objection::OneFile(_, _) => Some(BAD_WORDS),
-        Objection::Lost(_) | Objection::Pipe(_) => Some(NO_FILE),
+        Objection::Lost(_, _) | Objection::Pipe(_, _) => Some(NO_FILE),
     }
 }
 

@@ -2,7 +2,7 @@
 use std::fmt;
 
 // Which environments survive at one checkpoint, by its number of items.
-#[derive(Clone, Copy, Debug)]
+#[derive(Clone, Copy)]
 struct Row<'a> {
     checkpoint: &'a str,
     pad: bool,
@@ -25,7 +25,7 @@ fn meaning(row: &Row<'_>) -> &'static str {
 }
 
 // A failure with what helps from the oldest checkpoint at which anything does.
-#[derive(Clone, Copy, Debug)]
+#[derive(Clone, Copy)]
 struct Reading<'a> {
     /// `E point K cause C at PC`, as the line of the failure has it.
     failure: &'a str,

@@ -4,7 +4,7 @@
 //! What a test expects is worked out by hand, and is never what the program printed.
 //!
 //! A block of rows begins with a line for their program: the name of an example guest or a text, which is assembled, or what the file `p` has in its place,
-//! `bytes=` or `text=`. A line with `#` is a comment.
+//! `bytes=` or `text=`. A line `all:` behind it has cells of all rows of the block, each for those that have none of its name. A line with `#` is a comment.
 //!
 //! The cells of a row stand between `;`, each a name, `=` and a value. A `/` in a text is a line feed. Bytes are pairs of hexadecimal digits, between
 //! which blanks may stand; `78*39` is a pair so many times.

@@ -46,14 +46,27 @@ fn play_each(alloc: Global, program: &[u8], row: &str) -> Result<(), Fail> {
     Ok(())
 }
 
-// Plays the rows of a block.
+// A row with the cells of all rows of its block behind its own, of which each counts where it has none of that name.
+fn with_cells(alloc: Global, row: &str, all: &str) -> Result<String, AllocError> {
+    if all.is_empty() {
+        return String::from_str(alloc, row);
+    }
+    format!(in alloc; "{row}; {all}")
+}
+
+// Plays the rows of a block, behind a line of the cells of all of them, if there is one.
 fn play_block(alloc: Global, block: &str) -> Result<(), Fail> {
     let (first, rows) = block.trim().split_once('\n').ok_or("no rows")?;
     let program = program_in(alloc, first)?;
+    let (all, rows) = match rows.trim_start().strip_prefix("all: ") {
+        Some(behind) => behind.split_once('\n').ok_or("no rows")?,
+        None => ("", rows),
+    };
     for row in rows.lines() {
         let row = row.trim();
         if !row.starts_with('#') {
-            play_each(alloc, program.as_slice(), row)?;
+            let row = with_cells(alloc, row, all)?;
+            play_each(alloc, program.as_slice(), row.as_str())?;
         }
     }
     Ok(())

@@ -1,5 +1,5 @@
 use Rattle.rx.proofs.Windows.{window_shifted}
-use Rattle.rx.proofs.sentences.window_bytes.Goals as goal
+use Rattle.rx.proofs.seen.window_bytes.Goals as goal
 
 pub returns : goal.returns
 returns c =

@@ -1,5 +1,5 @@
 use Rattle.rx.proofs.Windows.{window_shifted}
-use Rattle.rx.proofs.sentences.served_window.Goals as goal
+use Rattle.rx.proofs.seen.served_window.Goals as goal
 
 -- behind the port and the number of connections
 pub returns : goal.returns
