@@ -1,6 +1,6 @@
 -- At which line a text is refused.
 use Rattle.std.proofs.lemmas.List.Concat.{flat_map-append}
-use Rattle.counts_file.proofs.Terms.{Err, List, None, Ok, Some, [], ap, append-nil, append_assoc, arith, false, length, length-append, refl, sym, true, ℕ, ◌++◌, ◌+◌, ◌<◌, ◌∙◌, ◌∷◌, ◌≡◌, ◌≤◌, decimal, ◌==◌, first-behind, lines_is, lines_of-line, no_bytes, behind_line, first_line, lines_of, Refused, CONNECTIONS, ReadsCounts, IsCount, IsReading, count_line, text_of, written_count, refused_from, refused_line, AreAllLines, AreFrom, IsBehind, next_from, count_in, count_told}
+use Rattle.counts_file.proofs.Terms.{Err, List, None, Ok, Some, [], ap, append-nil, append_assoc, arith, false, length, length-append, refl, sym, true, ℕ, ◌++◌, ◌+◌, ◌<◌, ◌∙◌, ◌∷◌, ◌≡◌, ◌≤◌, decimal, ◌==◌, CONNECTIONS, first-behind, lines_is, lines_of-line, no_bytes, behind_line, first_line, lines_of, Refused, ReadsCounts, IsCount, IsReading, count_line, text_of, written_count, refused_from, refused_line, AreAllLines, AreFrom, IsBehind, next_from, count_in, count_told}
 use Rattle.counts_file.proofs.Rising.{counts-from, from-counts, from-push, next-push}
 use Rattle.counts_file.proofs.Written.{count_in-line, count_in-sound, count_told-line, is_line-count}
 

@@ -1,7 +1,7 @@
 -- A line is read as the connection and the count that it was written of, and as no others.
 use Rattle.text_lines.proofs.Digits.{two-decimals}
 use Rattle.text_lines.proofs.Written.{by_same, not_in_range, written_complete, written_sound}
-use Rattle.counts_file.proofs.Terms.{Bool, List, None, Some, [], ap, arith, cond, false, refl, sym, true, ℕ, ◌&&◌, ◌++◌, ◌<◌, ◌^◌, ◌∙◌, ◌∷◌, ◌≡◌, ◌≤◌, nat_tests, decimal, bytes_eq, nat_le, nat_lt, is_line-decimal, is_line, clipped, first_number, second_number, CONNECTIONS, IsCount, count_line, written_count, count_in, count_told, is_count}
+use Rattle.counts_file.proofs.Terms.{Bool, List, None, Some, [], ap, arith, cond, false, refl, sym, true, ℕ, ◌&&◌, ◌++◌, ◌<◌, ◌^◌, ◌∙◌, ◌∷◌, ◌≡◌, ◌≤◌, nat_tests, decimal, bytes_eq, nat_le, nat_lt, CONNECTIONS, is_line-decimal, is_line, clipped, first_number, second_number, IsCount, count_line, written_count, count_in, count_told, is_count}
 
 -- ---- written
 

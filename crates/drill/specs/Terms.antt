@@ -24,4 +24,4 @@ pub use Rattle.session_notes.specs.Noting.{Noted, Shown, Unnoted, noted}
 pub use Rattle.session_state.specs.declared.options.Options.{Options}
 pub use Rattle.session_state.specs.Options.{keeping_for, rules_of}
 pub use Rattle.session_state.specs.Recovered.{HasRecovered, IsHandedLast, IsNoteStop, IsOutcome, Outcome, Telling, all_steps, episodes_of, story_of}
-pub use Rattle.session_state.specs.Serving.{IsReadyToServe, outcome_of}
+pub use Rattle.session_state.specs.Serving.{IsReadyToServe, outcome_of, rules_by}

@@ -1,7 +1,6 @@
 -- The definitions at values that were worked out by hand from the ELF specification.
-use Rattle.std.proofs.Common.{List, [], length, refl, ℕ, ◌++◌, ◌∷◌, ◌≡◌}
-use Rattle.elf_file.specs.Written.{written}
 use Rattle.guest_image.proofs.Examples.{echo_bytes, echo_image}
+use Rattle.elf_file.proofs.Terms.{List, [], length, refl, ℕ, ◌++◌, ◌∷◌, ◌≡◌, written}
 
 -- the header (52 bytes) and the one program header (32 bytes) of the written file
 abbrev pub echo_headers : List ℕ

@@ -1,6 +1,5 @@
 -- The program headers of a file, as a list.
-use Rattle.elf_file.proofs.Terms.{List, None, [], arith, length, length-append, refl, subst, suc, sym, zero, ℕ, ◌*◌, ◌+◌, ◌∷◌, ◌≡◌, e_phnum, e_phoff, header_at, headers_from, header_refusal, HasTable}
-use Rattle.elf_file.specs.ProgramFile.{program_headers}
+use Rattle.elf_file.proofs.Terms.{List, None, [], arith, length, length-append, refl, subst, suc, sym, zero, ℕ, ◌*◌, ◌+◌, ◌∷◌, ◌≡◌, e_phnum, e_phoff, header_at, headers_from, program_headers, header_refusal, HasTable}
 use Rattle.elf_file.proofs.Refusing.{header_lies, table_lies}
 
 pub length-headers_from : (offset count : ℕ) (bytes : List ℕ) → length (headers_from offset count bytes) ≡ count

@@ -1,5 +1,5 @@
 -- The segments of the first program headers.
-use Rattle.elf_file.proofs.Terms.{Bool, List, [], ap, arith, cond, false, length, map, refl, suc, take, true, zero, ℕ, ◌<◌, ◌∙◌, ◌∷◌, ◌≡◌, take_all, All-cons, All-head, All-nil, All-tail, All, filter, ProgramHeader, HasBytes, overlap, is_loaded, place_of, first_places}
+use Rattle.elf_file.proofs.Terms.{Bool, List, [], ap, arith, cond, false, length, map, refl, suc, take, true, zero, ℕ, ◌<◌, ◌∙◌, ◌∷◌, ◌≡◌, take_all, All-cons, All-head, All-nil, All-tail, All, filter, HasBytes, overlap, ProgramHeader, is_loaded, place_of, first_places}
 
 full_cond : (b : Bool) (header : ProgramHeader) (xs ys : List ProgramHeader) → (All HasBytes (map place_of xs) → All HasBytes (map place_of ys)) → All HasBytes (map place_of (cond b (header ∷ xs) xs)) → All HasBytes (map place_of (cond b (header ∷ ys) ys))
 full_cond true header xs ys rest all =

@@ -1,5 +1,5 @@
 -- Which program header makes a program too large for its window: one of the lowest segments, or one that ends too high.
-use Rattle.elf_file.proofs.Terms.{Bool, List, None, Some, [], ap, arith, cond, false, length, map, max, min, nat_le, nat_lt, not, refl, suc, sym, true, ℕ, ⊎_elim, ◌&&◌, ◌*◌, ◌+◌, ◌-◌, ◌/◌, ◌<◌, ◌==◌, ◌^◌, ◌||◌, ◌∙◌, ◌∷◌, ◌≡◌, ◌≤◌, cases_lt, eq-eqb, le-leb, le-ltb, lt-leb, lt-ltb, or_from, or_left, or_right, nat_tests, filter, list_any, position_or_len, is_some, position, PAGE, STACK_AND_GUARD, ProgramHeader, Segment, IsWindow, heap_floor, highest, lowest, too_large, window_start, is_loaded, place_of}
+use Rattle.elf_file.proofs.Terms.{Bool, List, None, Some, [], ap, arith, cond, false, length, map, max, min, nat_le, nat_lt, not, refl, suc, sym, true, ℕ, ⊎_elim, ◌&&◌, ◌*◌, ◌+◌, ◌-◌, ◌/◌, ◌<◌, ◌==◌, ◌^◌, ◌||◌, ◌∙◌, ◌∷◌, ◌≡◌, ◌≤◌, cases_lt, eq-eqb, le-leb, le-ltb, lt-leb, lt-ltb, or_from, or_left, or_right, nat_tests, filter, list_any, position_or_len, is_some, position, PAGE, STACK_AND_GUARD, Segment, IsWindow, heap_floor, highest, lowest, too_large, window_start, ProgramHeader, is_loaded, place_of}
 
 -- a test of segments, asked of their program headers
 any_cond : (f : Segment → Bool) (b : Bool) (header : ProgramHeader) (headers : List ProgramHeader) (rest : Bool) → rest ≡ list_any f (map place_of headers) → ((b && f (place_of header)) || rest) ≡ list_any f (map place_of (cond b (header ∷ headers) headers))

@@ -1,5 +1,6 @@
 -- A file that is written is read back: its numbers, its program headers and its segments, over plain lists.
-use Rattle.elf_file.proofs.Terms.{Bool, List, None, [], ap, append_assoc, ap₂, arith, cond, drop, false, length, length-append, map, refl, suc, sym, take, true, zero, ℕ, ◌*◌, ◌++◌, ◌+◌, ◌<◌, ◌^◌, ◌∙◌, ◌∷◌, ◌≡◌, ◌≤◌, and_right, le-ltb, or_from, nat_tests, drop-drop, drop_at, take_at, All-head, All-tail, All, filter, little_bytes, little_number, ProgramHeader, Segment, IsPlaced, file_bytes, program_header, program_headers, header_at, headers_from, is_loaded, number_at, segment_of, bad_segment, dynamic, table_refusal, thread_local}
+use Rattle.elf_file.proofs.Terms.{Bool, List, None, [], ap, append_assoc, ap₂, arith, cond, drop, false, length, length-append, map, refl, suc, sym, take, true, zero, ℕ, ◌*◌, ◌++◌, ◌+◌, ◌<◌, ◌^◌, ◌∙◌, ◌∷◌, ◌≡◌, ◌≤◌, and_right, le-ltb, or_from, nat_tests, drop-drop, drop_at, take_at, All-head, All-tail, All, filter, little_bytes, little_number, Segment, IsPlaced, ProgramHeader, file_bytes, program_header, header_at, headers_from, is_loaded, number_at, segment_of, bad_segment, dynamic, table_refusal, thread_local}
+use Rattle.elf_file.specs.Written.{program_headers}
 
 -- the number of a number's bytes
 pub number_of_half : (n : ℕ) → n < 2 ^ 16 → little_number (little_bytes 2 n) ≡ n

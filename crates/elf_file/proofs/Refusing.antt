@@ -1,7 +1,6 @@
 -- What follows where no refusal holds, and which refusal is the first.
 use Rattle.std.proofs.lemmas.List.Sums.{length-filter, count_by-le-length}
-use Rattle.elf_file.proofs.Terms.{Bool, List, None, Option, Some, [], ap, ap₂, arith, cond, drop, false, length, length-take, map, max, min, nat_le, nat_lt, refl, sym, true, ℕ, ◌%◌, ◌&&◌, ◌*◌, ◌+◌, ◌-◌, ◌<◌, ◌==◌, ◌^◌, ◌||◌, ◌∙◌, ◌∷◌, ◌≡◌, ◌≤◌, leb-false, ltb-false, or_parts, nat_tests, length-map, All-cons, All-nil, All, filter, list_any, PAGE, STACK_AND_GUARD, ProgramHeader, Segment, HasBytes, IsPlaced, bad_entry, executable, heap_floor, highest, layout_refusal, lowest, no_load, overlap, share_byte, too_large, window_start, e_entry, e_phnum, e_phoff, is_loaded, place_of, segment_of, segments_of, bad_segment, bad_table, header_refusal, is_bad, refusal, short, table_refusal}
-use Rattle.elf_file.specs.ProgramFile.{program_headers}
+use Rattle.elf_file.proofs.Terms.{Bool, List, None, Option, Some, [], ap, ap₂, arith, cond, drop, false, length, length-take, map, max, min, nat_le, nat_lt, refl, sym, true, ℕ, ◌%◌, ◌&&◌, ◌*◌, ◌+◌, ◌-◌, ◌<◌, ◌==◌, ◌^◌, ◌||◌, ◌∙◌, ◌∷◌, ◌≡◌, ◌≤◌, leb-false, ltb-false, or_parts, nat_tests, length-map, All-cons, All-nil, All, filter, list_any, PAGE, STACK_AND_GUARD, Segment, HasBytes, IsPlaced, bad_entry, executable, heap_floor, highest, layout_refusal, lowest, no_load, overlap, share_byte, too_large, window_start, ProgramHeader, e_entry, e_phnum, e_phoff, is_loaded, place_of, program_headers, segment_of, segments_of, bad_segment, bad_table, header_refusal, is_bad, refusal, short, table_refusal}
 
 -- the file has an ELF header, and its program headers lie in it
 pub header_lies : (bytes : List ℕ) → header_refusal bytes ≡ None → 52 ≤ length bytes

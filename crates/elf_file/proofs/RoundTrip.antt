@@ -1,7 +1,7 @@
 -- The file that is written of an image gives the image back.
-use Rattle.elf_file.proofs.Terms.{List, None, [], ap, append_assoc, ap₂, arith, false, length, length-append, map, refl, subst, sym, true, ℕ, ⊎_elim, ◌*◌, ◌++◌, ◌+◌, ◌<◌, ◌^◌, ◌∙◌, ◌∷◌, ◌≡◌, ◌≤◌, and_right, cases_lt, le-ltb, or_from, All, filter, Image, Segment, HasWordFlags, executable, highest, layout_refusal, file_bytes, file_header, program_headers, written, e_entry, e_phentsize, e_phnum, e_phoff, headers_from, is_loaded, number_at, segment_of, segments_of, IsImage, bad_flags, bad_table, header_refusal, not_class_32, not_elf, not_exec, not_little, not_riscv, refusal, short, table_refusal}
+use Rattle.elf_file.proofs.Terms.{List, None, [], ap, append_assoc, ap₂, arith, false, length, length-append, map, refl, subst, sym, true, ℕ, ⊎_elim, ◌*◌, ◌++◌, ◌+◌, ◌<◌, ◌^◌, ◌∙◌, ◌∷◌, ◌≡◌, ◌≤◌, and_right, cases_lt, le-ltb, or_from, All, filter, Image, Segment, entry_executable, heap_ends, heap_has_page, segments_below, stack_top_below, HasWordFlags, executable, highest, layout_refusal, file_bytes, file_header, written, e_entry, e_phentsize, e_phnum, e_phoff, headers_from, is_loaded, number_at, segment_of, segments_of, IsImage, bad_flags, bad_table, header_refusal, not_class_32, not_elf, not_exec, not_little, not_riscv, refusal, short, table_refusal}
+use Rattle.elf_file.specs.Written.{program_headers}
 use Rattle.elf_file.specs.ProgramFile.{program_headers as headers_in}
-use Rattle.guest_image.proofs.Valid.{heap_has_page, heap_ends, stack_top_below, segments_below, entry_executable}
 use Rattle.elf_file.proofs.Sizes.{file_bytes-window}
 use Rattle.elf_file.proofs.ReadBack.{number_of_half, number_of_word, HasWords, headers_of, headers_from-written, segments_back, table_unrefused}
 use Rattle.elf_file.proofs.Refusing.{refused_by_layout}

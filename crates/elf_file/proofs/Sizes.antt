@@ -1,6 +1,6 @@
 -- Segments that share no byte have no more bytes than the window that they lie in.
-use Rattle.elf_file.proofs.Terms.{List, [], add-zero, ap, arith, false, length, length-append, max, min, refl, suc, zero, ℕ, ⊎_elim, ◌+◌, ◌-◌, ◌<◌, ◌∷◌, ◌≡◌, ◌≤◌, cases_lt, ltb-false, or_parts, All-head, All-tail, All, list_any, Image, PAGE, STACK_AND_GUARD, Segment, IsPlaced, highest, overlap, share_byte, base, file_bytes, heap_end, heap_start, stack_top}
-use Rattle.guest_image.proofs.Valid.{no_overlap, segments_above, heap_has_page, heap_ends}
+use Rattle.guest_image.specs.Image.{base, heap_end, heap_start, stack_top}
+use Rattle.elf_file.proofs.Terms.{List, [], add-zero, ap, arith, false, length, length-append, max, min, refl, suc, zero, ℕ, ⊎_elim, ◌+◌, ◌-◌, ◌<◌, ◌∷◌, ◌≡◌, ◌≤◌, cases_lt, ltb-false, or_parts, All-head, All-tail, All, list_any, Image, PAGE, STACK_AND_GUARD, Segment, heap_ends, heap_has_page, no_overlap, segments_above, IsPlaced, highest, overlap, share_byte, file_bytes}
 
 -- how many of a segment's bytes lie below an address
 abbrev below : ℕ → Segment → ℕ

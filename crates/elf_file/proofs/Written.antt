@@ -1,5 +1,6 @@
 -- The program headers and the bytes of a file that is written, segment by segment.
-use Rattle.elf_file.proofs.Terms.{List, ap, append_assoc, arith, drop, get_or, length, length-append, sym, ℕ, ◌++◌, ◌+◌, ◌<◌, ◌∙◌, ◌∷◌, ◌≡◌, at_drop_more, little_bytes, Segment, file_bytes, program_header, program_headers}
+use Rattle.elf_file.proofs.Terms.{List, ap, append_assoc, arith, drop, get_or, length, length-append, sym, ℕ, ◌++◌, ◌+◌, ◌<◌, ◌∙◌, ◌∷◌, ◌≡◌, at_drop_more, little_bytes, Segment, file_bytes, program_header}
+use Rattle.elf_file.specs.Written.{program_headers}
 
 -- eight pieces that are added to a file one after another
 eight_more : (file a b c d e f g h : List ℕ) → (((((((file ++ a) ++ b) ++ c) ++ d) ++ e) ++ f) ++ g) ++ h ≡ file ++ (((((((a ++ b) ++ c) ++ d) ++ e) ++ f) ++ g) ++ h)

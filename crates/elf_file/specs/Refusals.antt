@@ -1,13 +1,11 @@
 -- What a program file is refused for (System V ABI; RISC-V ELF psABI): fifteen tests, in the order of their numbers.
 -- The first that holds is the refusal; the image of a file is what it says where none holds.
 use Rattle.std.specs.Prelude.{◌≡◌, ℕ, ◌+◌, ◌*◌, ◌%◌, ◌^◌, Bool, not, ◌&&◌, ◌||◌, List, length, slice_index, Option, Some, None, nat_lt, if◌then◌else◌, ◌==◌}
-use Rattle.elf_file.specs.Terms.{list_any, option_or}
+use Rattle.elf_file.specs.Terms.{list_any, option_or, Image, layout_refusal}
 use Rattle.elf_file.specs.declared.program_header.ProgramHeader.{ProgramHeader}
 use Rattle.elf_file.specs.declared.elf_refusal.ElfRefusal.{ElfRefusal}
 use Rattle.elf_file.specs.declared.elf_refusal.ElfRefusal.TheVariants.{Refused, Memory}
-use Rattle.guest_image.specs.declared.image.Image.{Image}
 use Rattle.elf_file.specs.ProgramFile.{e_type, e_machine, e_version, e_entry, e_phoff, e_flags, e_phentsize, e_phnum, program_headers, is_loaded, segments_of}
-use Rattle.guest_image.specs.Layout.{layout_refusal}
 
 -- Short: the file ends within the ELF header
 unfoldable pub short : List ℕ → Bool

@@ -1,12 +1,10 @@
 -- The fields for which a program file is refused (System V ABI, "ELF Header").
 use Rattle.std.specs.Prelude.{◌≡◌, ℕ, ◌+◌, ◌*◌, ◌/◌, ◌<◌, ◌≤◌, true, false, List, length, slice_index, take, map, Bool, ◌&&◌, ◌||◌, Option, Some, None, IfSome, is_some, position, nat_lt, if◌then◌else◌, ◌==◌}
-use Rattle.elf_file.specs.Terms.{filter, option_map, Segment}
+use Rattle.elf_file.specs.Terms.{filter, option_map, PAGE, Segment, overlap, too_large}
 use Rattle.elf_file.specs.declared.program_header.ProgramHeader.{ProgramHeader}
 use Rattle.elf_file.specs.declared.refused_field.RefusedField.{RefusedField}
 use Rattle.elf_file.specs.ProgramFile.{number_at, e_type, e_phoff, e_phentsize, is_loaded, place_of}
 use Rattle.elf_file.specs.Refusals.{is_bad, table_refusal}
-use Rattle.guest_image.specs.Layout.{overlap, too_large}
-use Rattle.guest_image.specs.declared.layout.TheConstants.{PAGE}
 
 -- the value is what stands in the file where the field is
 abbrev pub StandsIn : List ℕ → RefusedField → Type 0

@@ -1,8 +1,6 @@
 -- The bytes of a program file that is written (System V ABI, "Object Files"; RISC-V ELF psABI).
 use Rattle.std.specs.Prelude.{ℕ, ◌+◌, ◌*◌, List, [], ◌∷◌, ◌++◌, length, flat_map}
-use Rattle.rv_isa.specs.Words.{little_bytes}
-use Rattle.guest_image.specs.declared.segment.Segment.{Segment}
-use Rattle.guest_image.specs.declared.image.Image.{Image}
+use Rattle.elf_file.specs.Terms.{little_bytes, Image, Segment}
 
 -- the header of an executable that is written
 abbrev pub file_header : Image → List ℕ

@@ -1,12 +1,6 @@
 -- What a host followed is a sound part before the session behind it.
-use Rattle.session_history.specs.Heeding.{events_of}
-use Rattle.session_history.specs.Passing.{Covers, IsFeasible}
 use Rattle.session_history.proofs.Heeding.{events_alone, heeded-alike, items_in-alike}
-use Rattle.session_history.proofs.Passing.{in_order_wider}
-use Rattle.trials.proofs.Planned.{start_taken}
-use Rattle.trials.proofs.Recovered.{timed_from}
-use Rattle.follow.proofs.Terms.{List, None, [], append-nil, arith, length, refl, subst, sym, ◌∙◌, ◌≡◌, ◌≤◌, IfSome_then, Item, Send, LinkEvent, Path, Served, origin, AreInOrder, Rules, Handed, events_in, held, heard_alone, items_in, last_or, nothing_before, passed_in, plan_of, rules_behind}
-use Rattle.follow.specs.FollowLaws.{FollowedIsPast, FollowedIsSound}
+use Rattle.follow.proofs.Terms.{List, None, [], append-nil, arith, length, refl, subst, sym, ◌∙◌, ◌≡◌, ◌≤◌, IfSome_then, last_or, Item, Send, LinkEvent, events_in, Path, Served, origin, in_order_wider, events_of, items_in, nothing_before, Rules, AreInOrder, Covers, IsFeasible, passed_in, start_taken, timed_from, plan_of, held, Handed, heard_alone, rules_behind, FollowedIsPast, FollowedIsSound}
 use Rattle.follow.proofs.Fronts.{held_is_in_time}
 use Rattle.follow.proofs.Stamps.{held_is_in_order}
 use Rattle.follow.proofs.Released.{taken_within}

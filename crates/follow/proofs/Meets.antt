@@ -1,8 +1,7 @@
 -- Something meets what the laws ask for.
 use Rattle.session_history.proofs.Endings.{ending_account, ending_none}
 use Rattle.session_history.proofs.Sessions.{serving_first}
-use Rattle.follow.proofs.Terms.{Bool, List, None, Some, [], ap, arith, cond, eqb, false, length, length-append, map, refl, true, ℕ, ◌++◌, ◌∷◌, ◌≡◌, ◌≤◌, eqb-true, sent_to, LinkEvent, Image, prefix_same, origin, served_same, IsAccount, Session, journal_of, items_in, Rules, passed_in, first_survivor, starting_path, IsSoundBefore, Episode, plan_of, last_or, IfSome, StandsPast, AreRecovered, Recovery, episode_of, Handed, Stand, IsFollowed, IsTakeover, Takeover, HasFollowed}
-use Rattle.follow.specs.Plans.{AreWellPlaced}
+use Rattle.follow.proofs.Terms.{Bool, List, None, Some, [], ap, arith, cond, eqb, false, length, length-append, map, refl, true, ℕ, ◌++◌, ◌∷◌, ◌≡◌, ◌≤◌, eqb-true, last_or, IfSome, sent_to, LinkEvent, Image, prefix_same, origin, served_same, IsAccount, Session, journal_of, items_in, Rules, passed_in, IsSoundBefore, first_survivor, starting_path, Episode, AreRecovered, Recovery, episode_of, AreWellPlaced, plan_of, Handed, Stand, StandsPast, IsFollowed, IsTakeover, Takeover, HasFollowed}
 use Rattle.follow.proofs.Reached.{first_served}
 use Rattle.follow.proofs.Runs.{same_limits}
 

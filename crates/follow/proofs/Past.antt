@@ -1,5 +1,5 @@
 -- A run that stands past the failure of an episode stands so wherever it goes on to, under wider limits too.
-use Rattle.follow.proofs.Terms.{List, inl, inr, arith, subst, IsSome, Item, AsksFor, Limits, Override, Path, Served, later_of, Episode, taken_later, apart_asks_fails, apart_ended, asks_on, ended_on, AreWider, AtExit, AtFailure, AtRequest, IsPastFailure, Stand}
+use Rattle.follow.proofs.Terms.{List, arith, inl, inr, subst, IsSome, Item, AsksFor, Limits, Override, Path, Served, later_of, Episode, taken_later, apart_asks_fails, apart_ended, asks_on, ended_on, AreWider, AtExit, AtFailure, AtRequest, IsPastFailure, Stand}
 use Rattle.follow.proofs.Runs.{asks_wider}
 
 -- where it has ended it is past every failure

@@ -1,17 +1,8 @@
 -- The environments of a report are in force at the failures after which they were adopted.
-use Rattle.std.proofs.Common.{suc, zero}
-use Rattle.std.proofs.lemmas.Bool.{cond_both, eqb-false}
-use Rattle.std.proofs.lemmas.List.Elements.{All-append}
 use Rattle.trials.proofs.Asking.{asks_under_all}
 use Rattle.trials.proofs.Chained.{chained_at}
-use Rattle.trials.proofs.Planned.{past_request, start_taken}
-use Rattle.trials.proofs.Walked.{walk_adopts}
 use Rattle.trials.specs.Chains.{AreCheckpoints, IsCheckpoint}
-use Rattle.run_history.specs.declared.answer.Cause.{Cause}
-use Rattle.run_history.specs.Served.{FailsBy}
-use Rattle.follow.proofs.Terms.{List, None, Option, Some, [], arith, cond, eqb, inl, inr, map, refl, subst, sym, ℕ, ◌++◌, ◌+◌, ◌<◌, ◌∙◌, ◌∷◌, ◌≡◌, ◌≤◌, ◌⊎◌, IfSome, MatchOption, option_map, slice_get, Entry, Item, Image, AsksFor, Limits, Override, Path, Served, origin, items_in, Chapter, Rules, Survivor, first_survivor, passed_in, apart_asks_fails, Episode, Try, AreRecovered, IsRecovery, Recovery, adopted_by, episode_of, point_of, Trial, survivor_in, try_of, adopted_try, IsTakeover, Takeover}
-use Rattle.follow.specs.Plans.{AreWellPlaced, IsWellPlaced, first_count}
-use Rattle.follow.specs.ReachLaws.{EpisodesArePlaced}
+use Rattle.follow.proofs.Terms.{List, None, Option, Some, [], arith, cond, eqb, inl, inr, map, refl, subst, suc, sym, zero, ℕ, ◌++◌, ◌+◌, ◌<◌, ◌∙◌, ◌∷◌, ◌≡◌, ◌≤◌, ◌⊎◌, cond_both, eqb-false, All-append, IfSome, MatchOption, option_map, slice_get, Item, Entry, Image, Cause, AsksFor, FailsBy, Limits, Override, Path, Served, origin, items_in, Chapter, Rules, Survivor, passed_in, first_survivor, Episode, Try, past_request, start_taken, apart_asks_fails, walk_adopts, AreRecovered, IsRecovery, Recovery, adopted_by, episode_of, point_of, Trial, survivor_in, try_of, AreWellPlaced, IsWellPlaced, adopted_try, first_count, IsTakeover, Takeover, EpisodesArePlaced}
 use Rattle.follow.proofs.Told.{adopted_told}
 
 -- a checkpoint of a ring by its index

@@ -2,9 +2,7 @@
 use Rattle.session_notes.specs.declared.episode.Tried.TheVariants as tried
 use Rattle.session_history.proofs.Due.{due_ran}
 use Rattle.session_notes.specs.declared.episode.Tried.{Tried}
-use Rattle.trials.specs.Episodes.{BeginsAs}
-use Rattle.trials.proofs.Walked.{walk_adopts}
-use Rattle.follow.proofs.Terms.{List, None, Option, Some, [], ap, arith, false, inl, inr, length, length-append, map, refl, subst, sym, true, ℕ, ◌++◌, ◌<◌, ◌∙◌, ◌∷◌, ◌≡◌, ◌≤◌, ◌⊎◌, IfSome_then, last_or, IfSome, IsSome, MatchOption, is_some, Item, Prefix, Send, sent_to, Entry, Image, prefix_trans, output, AsksFor, Limits, Override, Path, Served, origin, Later, later_of, served_on, served_same, items_in, Chapter, Rules, Survivor, place_of, passed_in, first_survivor, Episode, survives, Before, Behind, Compared, Equal, compare, later_served, later_steps, taken_later, apart_asks_fails, asks_on, ended_on, AreRecovered, IsRecovery, Recovery, adopted_by, episode_of, point_of, Trial, survivor_in, ComesTo, plan_of, AreWider, IsLonger, AtExit, AtFailure, AtRequest, HasReached, IsPastFailure, Stand, IsFollowed, IsTakeover, Takeover, heard_first, passed_first, plan_in, stopped, FollowsBefore, NoWaiting, ReachesInTime, StandsPast}
+use Rattle.follow.proofs.Terms.{List, None, Option, Some, [], ap, arith, false, inl, inr, length, length-append, map, refl, subst, sym, true, ℕ, ◌++◌, ◌<◌, ◌∙◌, ◌∷◌, ◌≡◌, ◌≤◌, ◌⊎◌, IfSome_then, last_or, IfSome, IsSome, MatchOption, is_some, Item, Prefix, Send, sent_to, Entry, Image, prefix_trans, output, AsksFor, Limits, Override, Path, Served, origin, Later, later_of, served_on, served_same, items_in, Chapter, Rules, Survivor, place_of, passed_in, first_survivor, Episode, survives, Before, Behind, Compared, Equal, compare, later_served, later_steps, taken_later, apart_asks_fails, asks_on, ended_on, walk_adopts, AreRecovered, BeginsAs, IsRecovery, Recovery, adopted_by, episode_of, point_of, Trial, survivor_in, ComesTo, plan_of, AreWider, IsLonger, AtExit, AtFailure, AtRequest, HasReached, IsPastFailure, Stand, StandsPast, IsFollowed, IsTakeover, Takeover, heard_first, passed_first, plan_in, stopped, FollowsBefore, NoWaiting, ReachesInTime}
 use Rattle.follow.proofs.Runs.{asks_wider, is_longer, served_all, served_wider}
 use Rattle.follow.proofs.Past.{past_exit, past_on}
 use Rattle.follow.proofs.Told.{plan_of_report}

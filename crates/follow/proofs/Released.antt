@@ -1,8 +1,7 @@
 -- A run that has reached what was handed over stays there, and is released at one place.
 use Rattle.run_history.proofs.Runs.{allocated_keeps, received_keeps}
-use Rattle.trials.proofs.Planned.{start_taken}
-use Rattle.follow.proofs.Terms.{List, None, Option, Some, [], append-nil, arith, length, refl, subst, ◌∷◌, ◌≡◌, ◌≤◌, IfSome_then, slice_get_within, last_or, slice_get, Item, LinkEvent, Choice, Image, prefix_trans, repeated_keeps, serves_to, State, after, does, output, AsksFor, Limits, Override, Path, Served, env_at, origin, planned_next, ByChoice, ByEnd, ByItem, ByItself, BySend, Moved, moved, items_in, received, Rules, Before, Behind, Compared, Equal, compare, later_served, later_steps, asks_on, plan_of, AtRequest, Handed, HasReached, Stand, AsksForMore, HasFollowed, heard_alone}
-use Rattle.follow.specs.FollowLaws.{OneRelease, StaysReached}
+use Rattle.session_history.proofs.Growing.{ByChoice, ByEnd, ByItem, ByItself, BySend, Moved, moved}
+use Rattle.follow.proofs.Terms.{List, None, Option, Some, [], append-nil, arith, length, refl, subst, ◌∷◌, ◌≡◌, ◌≤◌, IfSome_then, slice_get_within, last_or, slice_get, Item, LinkEvent, Choice, Image, prefix_trans, repeated_keeps, serves_to, State, after, does, output, AsksFor, Limits, Override, Path, Served, env_at, origin, planned_next, items_in, received, Rules, Before, Behind, Compared, Equal, compare, later_served, later_steps, start_taken, asks_on, plan_of, AtRequest, Handed, HasReached, Stand, AsksForMore, HasFollowed, heard_alone, OneRelease, StaysReached}
 use Rattle.follow.proofs.Past.{past_on}
 use Rattle.follow.proofs.Runs.{is_longer, same_limits}
 use Rattle.follow.proofs.Reached.{front_length}

@@ -1,9 +1,6 @@
 -- What clients hold was passed, and was sent no later.
-use Rattle.std.proofs.lemmas.List.Elements.{filter-append}
 use Rattle.session_history.proofs.Connected.{run_connected}
-use Rattle.session_history.proofs.Passing.{all_until, none_until, until_front}
-use Rattle.trials.proofs.Recovered.{timed_from}
-use Rattle.follow.proofs.Terms.{Bool, List, [], ap, append-nil, append_assoc, cond, false, inl, inr, leb, length, refl, subst, sym, take, true, ℕ, ◌++◌, ◌-◌, ◌∙◌, ◌∷◌, ◌≡◌, cases_lt, leb-false, take-append-le, Prefix, Send, sent_to, prefix_sent, prefix_trans, sent_to-append, served_is_run, output, served_grows, journal_of, items_in, received, AreBetween, AreInOrder, passed_in, until, count_of, held, held_behind, HeldIsFixed, HeldIsInOrder, HeldIsPassed, PassedIsSent, StampsAreSafe}
+use Rattle.follow.proofs.Terms.{Bool, List, [], ap, append-nil, append_assoc, cond, false, inl, inr, leb, length, refl, subst, sym, take, true, ℕ, ◌++◌, ◌-◌, ◌∙◌, ◌∷◌, ◌≡◌, cases_lt, leb-false, take-append-le, filter-append, Prefix, Send, sent_to, prefix_sent, prefix_trans, sent_to-append, served_is_run, output, served_grows, all_until, none_until, until_front, journal_of, items_in, received, AreBetween, AreInOrder, passed_in, until, timed_from, count_of, held, held_behind, HeldIsFixed, HeldIsInOrder, HeldIsPassed, PassedIsSent, StampsAreSafe}
 use Rattle.follow.proofs.Fronts.{held_is_front, none_behind, part_behind, take_two}
 
 -- what is held of more sends

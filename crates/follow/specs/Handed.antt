@@ -1,7 +1,6 @@
 -- What a second host is handed, and when a run that follows has reached all that it tells.
 use Rattle.std.specs.Prelude.{◌≡◌, ℕ, ◌<◌, ◌≤◌, List, ◌++◌, length, map, Option, None, IfSome, IsSome}
-use Rattle.run_history.specs.declared.answer.Cause.{Cause}
-use Rattle.follow.specs.Terms.{last_or, Item, Prefix, sent_to, Choice, output, AsksFor, FailsBy, Limits, Override, Path, Session, journal_of, Rules, passed_in, Episode, Recovery, episode_of}
+use Rattle.follow.specs.Terms.{last_or, Item, Prefix, sent_to, Choice, Cause, output, AsksFor, FailsBy, Limits, Override, Path, Session, journal_of, Rules, passed_in, Episode, Recovery, episode_of}
 use Rattle.follow.specs.Plans.{plan_of}
 use Rattle.follow.specs.Held.{count_of}
 

@@ -1,7 +1,8 @@
 -- The definitions at values: a guest that sends back each message comes to its recv, takes a message, and comes to its send.
 use Rattle.rv_isa.specs.Words.{opcode, rd, funct3, rs1, rs2, funct7, imm_i, imm_b, imm_u, imm_j}
 use Rattle.alloc_env.specs.declared.env.Env.TheVariants.{Plain}
-use Rattle.run_history.proofs.Examples.{waiting, before, message, echo_bytes}
+use Rattle.guest_image.proofs.Examples.{echo_bytes}
+use Rattle.run_history.proofs.Examples.{waiting, before, message}
 use Rattle.guest_cpu.proofs.Terms.{List, None, Some, [], arith, false, refl, true, ℕ, ◌∷◌, Ok, Item, empty_heap, displaced, word_sum, base_op, branch_op, branch_row, imm_op, imm_row, op_row, reg_op, row, system_row, permitted, Hang, received, Machine, with_register, does, instruction, AsksFor, Limits, Path, grant, serves, instruction_at, touched, Live, Standing, quiet_next, turn, turn_to, taken_standing, RunsBy, standing_of, IsBounded, RunsOn, TakesOn, TakesWriting}
 use Rattle.guest_cpu.specs.declared.event.Event.TheVariants as event
 use Rattle.guest_cpu.proofs.RunLemmas.{runs_serve}

@@ -1,5 +1,5 @@
 -- What follows of segments that give a program.
-use Rattle.guest_image.proofs.Terms.{List, None, arith, false, or_parts, leb-false, ltb-false, nat_tests, Segment, PAGE, STACK_AND_GUARD, heap_floor, layout_refusal, too_large, window_start, ℕ, ◌+◌, ◌-◌, ◌<◌, ◌^◌, ◌≡◌, ◌≤◌}
+use Rattle.guest_image.proofs.Terms.{List, None, arith, false, ℕ, ◌+◌, ◌-◌, ◌<◌, ◌^◌, ◌≡◌, ◌≤◌, leb-false, ltb-false, or_parts, nat_tests, PAGE, STACK_AND_GUARD, Segment, heap_floor, layout_refusal, too_large, window_start}
 
 -- the window ends below 2 ^ 32, and a page fits between the segments and the heap's end
 large_unrefused : (entry window : ℕ) (segments : List Segment) → layout_refusal entry window segments ≡ None → too_large window segments ≡ false

@@ -1,12 +1,5 @@
 -- The definitions at values that were worked out by hand from the ELF specification.
-use Rattle.std.specs.List.{All}
-use Rattle.std.proofs.lemmas.List.Elements.{All-cons, All-nil}
-use Rattle.std.proofs.Common.{Bool, List, None, Some, [], false, lit<, lit≤, length, refl, replicate, true, ℕ, ◌++◌, ◌∷◌, ◌≡◌}
-use Rattle.guest_image.specs.declared.segment.Segment.{Segment}
-use Rattle.guest_image.specs.declared.image.Image.{Image}
-use Rattle.guest_image.specs.Layout.{heap_floor, IsPlaced, overlap, no_load, bad_entry, too_large, layout_refusal}
-use Rattle.guest_image.specs.Image.{base, heap_end, heap_start, memory_of, stack_top, zeros}
-use Rattle.guest_image.specs.Memory.{Area, byte_at, bytes_at, execute, permitted, put_bytes, read, write}
+use Rattle.guest_image.proofs.Terms.{Bool, List, None, Some, [], false, length, lit<, lit≤, refl, replicate, true, ℕ, ◌++◌, ◌∷◌, ◌≡◌, All-cons, All-nil, All, Image, Segment, Area, byte_at, bytes_at, execute, permitted, put_bytes, read, write, IsPlaced, bad_entry, heap_floor, layout_refusal, no_load, overlap, too_large, base, heap_end, heap_start, memory_of, stack_top, zeros}
 
 -- the program's bytes in a file
 abbrev pub echo_bytes : List ℕ

@@ -1,7 +1,8 @@
 -- The addresses of segments, without the rest of them.
 use Rattle.std.specs.Prelude.{ℕ, ◌+◌, min, max, Bool, false, ◌||◌, List, [], ◌∷◌, nat_lt}
-use Rattle.guest_image.specs.Terms.{list_any, Segment}
+use Rattle.std.specs.List.{list_any}
 use Rattle.guest_image.specs.declared.overlap.Extent.{Extent}
+use Rattle.guest_image.specs.declared.segment.Segment.{Segment}
 
 -- the addresses of a segment: its first, and the one behind its last
 abbrev pub extent_of : Segment → Extent

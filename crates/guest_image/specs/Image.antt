@@ -1,7 +1,7 @@
 -- The window of a program: where its segments, its heap and its stack lie.
 use Rattle.std.specs.Prelude.{ℕ, ◌+◌, ◌-◌, List, [], ◌∷◌, ◌++◌, length, map, replicate}
-use Rattle.guest_image.specs.Terms.{Segment}
 use Rattle.guest_image.specs.declared.image.Image.{Image}
+use Rattle.guest_image.specs.declared.segment.Segment.{Segment}
 use Rattle.guest_image.specs.Memory.{Area}
 use Rattle.guest_image.specs.Layout.{window_start, heap_floor}
 pub use Rattle.guest_image.specs.Layout.{lowest, highest}

@@ -1,7 +1,8 @@
 -- Segments in memory: where the window, the heap and the stack lie, and which segments give no program.
 use Rattle.std.specs.Prelude.{◌≡◌, ℕ, ◌+◌, ◌-◌, ◌*◌, ◌/◌, ◌%◌, ◌^◌, ◌<◌, ◌≤◌, min, max, Bool, false, not, ◌&&◌, ◌||◌, List, [], ◌∷◌, length, Option, Some, None, nat_le, nat_lt, if◌then◌else◌, ◌==◌}
-use Rattle.guest_image.specs.Terms.{list_all, list_any, Segment}
+use Rattle.std.specs.List.{list_all, list_any}
 use Rattle.guest_image.specs.declared.layout.TheConstants.{PAGE, STACK_AND_GUARD}
+use Rattle.guest_image.specs.declared.segment.Segment.{Segment}
 
 -- the lowest address of a segment, and the first address behind all of them
 abbrev pub lowest : List Segment → ℕ

@@ -1,4 +1,3 @@
-pub mod Terms
 pub mod Memory
 pub mod Layout
 pub mod Extents

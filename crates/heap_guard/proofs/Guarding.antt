@@ -2,20 +2,13 @@
 use Rattle.std.proofs.Common.{Bool, List, Option, Some, [], ap, arith, cond, false, filter, map, not, refl, subst, sym, true, ℕ, ◌&&◌, ◌+◌, ◌-◌, ◌||◌, ◌∙◌, ◌∷◌, ◌≡◌}
 use Rattle.std.proofs.lemmas.Bool.{not-false}
 use Rattle.std.proofs.lemmas.Option.{option_and_then_some, same_Some}
-use Rattle.std.specs.List.{list_any}
 use Rattle.block_book.specs.declared.block.Block.{Block}
-use Rattle.block_book.specs.Block.{lies_in, reserved_size}
-use Rattle.block_book.specs.Heap.{is_reserved}
 use Rattle.block_book.specs.Answer.{live_blocks}
-use Rattle.run_history.specs.Terms.{Item, Image}
-use Rattle.run_history.specs.Machine.{State, start, start_machine}
 use Rattle.run_history.specs.Repeating.{repeated}
-use Rattle.run_history.specs.Run.{run}
-use Rattle.run_history.specs.Touching.{Range, touched}
-use Rattle.run_history.specs.Served.{IsLaidOut, Limits, Override, Path, Served, env_at, guest_of, is_refused, origin, planned_next, serve}
 use Rattle.run_history.proofs.Repeats.{repeated_add}
 use Rattle.run_history.proofs.Runs.{run_chosen}
 use Rattle.run_history.proofs.Serves.{Follows, serves_to, served_follows}
+use Rattle.heap_guard.specs.Terms.{list_any, Item, lies_in, reserved_size, is_reserved, Image, State, start, start_machine, run, IsLaidOut, Limits, Override, Path, Served, env_at, guest_of, is_refused, origin, planned_next, serve, Range, touched}
 use Rattle.heap_guard.specs.declared.guard.GuardMode.{GuardMode}
 use Rattle.heap_guard.specs.declared.guard.GuardMode.TheVariants as mode
 use Rattle.heap_guard.specs.Guard.{has_byte_of, is_in_block, permits}

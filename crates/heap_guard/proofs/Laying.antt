@@ -4,18 +4,13 @@ use Rattle.std.proofs.lemmas.Bool.{cases_Bool}
 use Rattle.std.proofs.lemmas.Bool.Decides.{nat_tests}
 use Rattle.std.proofs.lemmas.List.Elements.{All-head, All-tail}
 use Rattle.std.proofs.lemmas.Option.{option_and_then_some, same_Some}
-use Rattle.std.specs.List.{All}
-use Rattle.block_book.specs.Heap.{IsHeap, empty_heap}
-use Rattle.guest_image.specs.declared.image.Image.{Image}
 use Rattle.guest_image.specs.declared.segment.Segment.{Segment}
 use Rattle.guest_image.specs.Image.{heap_end, heap_start}
 use Rattle.guest_image.specs.Layout.{executable}
 use Rattle.guest_image.proofs.Valid.{segments_below, entry_executable, heap_has_page}
-use Rattle.run_history.specs.Terms.{Item}
-use Rattle.run_history.specs.Machine.{start, start_machine}
-use Rattle.run_history.specs.Served.{IsLaidOut, Limits, Override, Path, env_at, guest_of, origin, planned_next, serve}
 use Rattle.run_history.proofs.Layouts.{laid_out_next}
 use Rattle.run_history.proofs.Serves.{serves_to}
+use Rattle.heap_guard.specs.Terms.{All, Item, IsHeap, empty_heap, Image, start, start_machine, IsLaidOut, Limits, Override, Path, env_at, guest_of, origin, planned_next, serve}
 
 -- an address of a segment that may be executed lies below what is at or above each segment's end
 within : (segments : List Segment) (at limit : ℕ) → All (λ (segment : Segment). segment.vaddr + segment.memsz ≤ limit) segments → executable segments at ≡ true → at < limit

@@ -1,6 +1,6 @@
 -- What a guard of the heap permits.
 use Rattle.std.specs.Prelude.{ℕ, ◌+◌, Bool, not, ◌||◌, max, min, nat_lt}
-use Rattle.block_book.specs.Heap.{Heap, is_held, is_reserved}
+use Rattle.heap_guard.specs.Terms.{Heap, is_held, is_reserved}
 use Rattle.heap_guard.specs.declared.guard.GuardMode.{GuardMode}
 use Rattle.heap_guard.specs.declared.guard.GuardMode.TheVariants.{Extent, Block}
 

@@ -1,13 +1,7 @@
 -- What a run under a guard of the heap keeps to.
 use Rattle.std.specs.Prelude.{◌≡◌, ℕ, ◌+◌, ◌<◌, Bool, true, List, Some}
-use Rattle.std.specs.List.{list_any}
-use Rattle.block_book.specs.Block.{reserved_size, lies_in}
-use Rattle.block_book.specs.Heap.{is_held}
-use Rattle.run_history.specs.Terms.{Item, Choice, Image}
-use Rattle.run_history.specs.Machine.{Machine, State, start}
-use Rattle.run_history.specs.Run.{run}
-use Rattle.run_history.specs.Touching.{Range, touched}
-use Rattle.run_history.specs.Served.{Limits, Override, Path, Served, origin}
+use Rattle.block_book.specs.declared.choice.Choice.{Choice}
+use Rattle.heap_guard.specs.Terms.{list_any, Item, lies_in, reserved_size, is_held, Image, Machine, State, start, run, Limits, Override, Path, Served, origin, Range, touched}
 use Rattle.heap_guard.specs.Guard.{has_byte_of, permits}
 use Rattle.heap_guard.specs.declared.guard.GuardMode.TheVariants.{Extent, Block}
 

@@ -1,9 +1,6 @@
 -- What entries of a journal gave to a connection, and took of it.
-use Rattle.std.proofs.Common.{List, [], if◌then◌else◌, ℕ, ◌==◌}
-use Rattle.std.specs.Prelude.{flat_map}
-use Rattle.links.specs.declared.journal.Entry.{Entry}
+use Rattle.links.proofs.Terms.{List, [], if◌then◌else◌, ℕ, ◌==◌, flat_map, Entry, events_in}
 use Rattle.links.specs.declared.journal.Entry.TheVariants as entry
-use Rattle.links.specs.Links.{events_in}
 use Rattle.links.specs.Received.{received_from}
 
 -- the bytes that entries gave to a connection

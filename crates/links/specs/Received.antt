@@ -1,6 +1,6 @@
 -- What came from a connection, among what was taken of a link.
 use Rattle.std.specs.Prelude.{ℕ, ◌==◌, List, [], flat_map, if◌then◌else◌}
-use Rattle.links.specs.declared.journal.LinkEvent.{LinkEvent}
+use Rattle.links.specs.Terms.{LinkEvent}
 use Rattle.links.specs.declared.journal.LinkEvent.TheVariants as event
 
 -- the bytes of a connection's pieces, among events

@@ -9,7 +9,7 @@ use Rattle.crowd_link.specs.declared.place.Stage.{Stage}
 use Rattle.crowd_link.specs.declared.place.Stage.TheVariants.{Broken, Closed, Dropped, Ended, Open, Unopened}
 use Rattle.crowd_link.proofs.GiveLemmas.{goes_same}
 use Rattle.links.proofs.Moved.{gave, gave_to, took}
-use Rattle.over_crowd.specs.Terms.{Entry, LinkEvent, events_in, CrowdEntry, Limits, AreCalls, GoesOn, IsCall, Served, after_call, closed_entries, entries_of, fresh_served, gives_all, gives_part, served_after, takes_bytes, with_part, with_ends, bytes_from, received_from}
+use Rattle.over_crowd.specs.Terms.{Entry, LinkEvent, events_in, bytes_from, received_from, CrowdEntry, Limits, AreCalls, GoesOn, IsCall, Served, after_call, closed_entries, entries_of, fresh_served, gives_all, gives_part, served_after, takes_bytes, with_part, with_ends}
 use Rattle.over_crowd.specs.Calls.{OpenAtMost, bytes_given, bytes_taken, given_to, is_accept, is_close, taken_of}
 use Rattle.links.specs.declared.journal.Entry.TheVariants as entry
 use Rattle.links.specs.declared.journal.LinkEvent.TheVariants as event

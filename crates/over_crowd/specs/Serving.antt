@@ -3,7 +3,7 @@ use Rattle.std.specs.Prelude.{◌≡◌, ◌≢◌, ℕ, ◌<◌, List, ◌++◌
 use Rattle.run_history.specs.declared.answer.Answer.TheVariants as answer
 use Rattle.session_history.specs.declared.ends.SessionEnd.TheVariants as session_end
 use Rattle.session_state.specs.Sessions.{IsBegun, SessionState}
-use Rattle.over_crowd.specs.Terms.{sent_to, Entry, ComesUntold, events_in, CrowdEntry, Limits, AreCalls, entries_of, fresh_served, served_after, with_ends, Image, Answer, SessionEnd, Stop, Session, journal_of, AtBreak, answer_of, Bounds, Rules, passed_in, Noted, Shown, Keeping, keeping_for, IsOutcome, Outcome, Telling, NotesAnswer, outcome_of, RecordsAt, received_from}
+use Rattle.over_crowd.specs.Terms.{sent_to, Entry, ComesUntold, events_in, received_from, CrowdEntry, Limits, AreCalls, entries_of, fresh_served, served_after, with_ends, Image, Answer, SessionEnd, Stop, Session, journal_of, AtBreak, answer_of, Bounds, Rules, passed_in, Noted, Shown, Keeping, keeping_for, IsOutcome, Outcome, Telling, NotesAnswer, outcome_of, RecordsAt}
 use Rattle.over_crowd.specs.Calls.{OpenAtMost, given_to, is_accept, is_close, taken_of}
 
 -- All that came and went is what these calls made of the connections. No call tells the end, which is answered only where as many as

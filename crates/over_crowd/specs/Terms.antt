@@ -3,6 +3,7 @@ pub use Rattle.rx_base.specs.Sends.{Send, sent_to}
 pub use Rattle.links.specs.declared.journal.Entry.{Entry}
 pub use Rattle.links.specs.declared.journal.LinkEvent.{LinkEvent}
 pub use Rattle.links.specs.Links.{ComesUntold, Coming, Grew, HasEnded, Told, events_in, last_taken}
+pub use Rattle.links.specs.Received.{bytes_from, received_from}
 pub use Rattle.crowd.specs.declared.crowd_calls.CrowdEntry.{CrowdEntry}
 pub use Rattle.crowd_link.specs.declared.place.Limits.{Limits}
 pub use Rattle.crowd_link.specs.CrowdLinks.{seen_of, told_nothing}
@@ -25,4 +26,3 @@ pub use Rattle.session_state.specs.Options.{keeping_for}
 pub use Rattle.session_state.specs.Recovered.{HasRecovered, IsOutcome, Outcome, Telling}
 pub use Rattle.session_state.specs.Serving.{NotesAnswer, outcome_of, rules_by}
 pub use Rattle.over_trunk.specs.Serving.{RecordsAt}
-pub use Rattle.links.specs.Received.{bytes_from, received_from}

@@ -6,9 +6,8 @@ use Rattle.std.proofs.lemmas.List.Sums.{sum_by-cons}
 use Rattle.links.proofs.Journaled.{events_in-append}
 use Rattle.port_link.specs.declared.place.Stage.{Stage}
 use Rattle.port_link.specs.Stages.{broken}
-use Rattle.over_port.specs.Terms.{ListenEntry, Entry, LinkEvent, events_in, Place, Broken, Dropping, Ended, Open, Waiting, AreCalls, IsCall, Port, after_call, closed_entries, entries_of, fresh_port, gives_all, gives_part, is_closable, port_after, takes_bytes, with_part, link_journal, with_close, with_ends}
+use Rattle.over_port.specs.Terms.{ListenEntry, Entry, LinkEvent, events_in, bytes_from, received_from, Place, Broken, Dropping, Ended, Open, Waiting, AreCalls, IsCall, Port, after_call, closed_entries, entries_of, fresh_port, gives_all, gives_part, is_closable, port_after, takes_bytes, with_part, link_journal, with_close, with_ends}
 use Rattle.over_port.specs.Calls.{bytes_given, bytes_taken, given_to, is_accept, is_close, moved_on, taken_of}
-use Rattle.links.specs.Received.{bytes_from, received_from}
 use Rattle.links.specs.declared.journal.Entry.TheVariants as entry
 use Rattle.links.specs.declared.journal.LinkEvent.TheVariants as event
 use Rattle.rx_io.specs.declared.listener_calls.ListenCall.TheVariants as call

@@ -15,9 +15,8 @@ use Rattle.session_history.specs.Lawful.{entries_of}
 use Rattle.session_history.specs.Owing.{Moment}
 use Rattle.session_history.proofs.Ended.{came_to}
 use Rattle.session_history.proofs.Heeding.{none_had}
-use Rattle.over_port.specs.Terms.{ListenEntry, Send, sent_to, Entry, LinkEvent, ComesUntold, Coming, Counts, Grew, HasEnded, Refuses, Told, last_taken, Place, Waiting, told_nothing, AreCalls, Port, fresh_port, port_after, port_of, IsAt, IsJustBound, Stands, link_journal, told_at, Image, Answer, SessionEnd, Stop, IsBroken, Session, after_ending, journal_of, HasAnswerCause, AtBreak, IsEnded, answer_of, before_end, Bounds, nothing_before, Rules, passed_behind, Noted, Keeping, HasRecovered, IsOutcome, Outcome, RecordsAt}
+use Rattle.over_port.specs.Terms.{Send, sent_to, ListenEntry, Entry, LinkEvent, ComesUntold, Coming, Counts, Grew, HasEnded, Refuses, Told, last_taken, Place, Waiting, told_nothing, AreCalls, Port, fresh_port, port_after, port_of, IsAt, IsJustBound, Stands, link_journal, told_at, Image, Answer, SessionEnd, Stop, IsBroken, Session, after_ending, journal_of, HasAnswerCause, port_counts, AtBreak, IsEnded, answer_of, before_end, Bounds, nothing_before, Rules, passed_behind, Noted, Keeping, HasRecovered, IsOutcome, Outcome, RecordsAt}
 use Rattle.over_port.specs.Serving.{CalledPort, EndsAfter, GoesOverPort, ServesPort}
-use Rattle.session_history.specs.Answering.{port_counts}
 use Rattle.over_port.proofs.CallLemmas.{all_closed, given_is, taken_is}
 use Rattle.links.proofs.Moved.{gave, took}
 

@@ -2,9 +2,8 @@
 use Rattle.std.specs.Prelude.{◌≡◌, ◌≢◌, ℕ, ◌<◌, List, ◌++◌, count_by, Option, None, Some, IfSome}
 use Rattle.run_history.specs.declared.answer.Answer.TheVariants as answer
 use Rattle.session_history.specs.declared.ends.SessionEnd.TheVariants as session_end
-use Rattle.over_port.specs.Terms.{ListenEntry, sent_to, Entry, ComesUntold, Counts, events_in, Place, Waiting, AreCalls, fresh_port, port_after, IsAt, link_journal, Image, Answer, SessionEnd, Stop, Session, journal_of, AtBreak, answer_of, Bounds, Rules, passed_in, Noted, Shown, Keeping, keeping_for, IsOutcome, Outcome, Telling, NotesAnswer, outcome_of, IsBegun, SessionState, RecordsAt}
+use Rattle.over_port.specs.Terms.{sent_to, ListenEntry, Entry, ComesUntold, Counts, events_in, received_from, Place, Waiting, AreCalls, fresh_port, port_after, IsAt, link_journal, Image, Answer, SessionEnd, Stop, Session, journal_of, AtBreak, answer_of, Bounds, Rules, passed_in, Noted, Shown, Keeping, keeping_for, IsOutcome, Outcome, Telling, NotesAnswer, outcome_of, IsBegun, SessionState, RecordsAt}
 use Rattle.over_port.specs.Calls.{is_accept, is_close, given_to, taken_of}
-use Rattle.links.specs.Received.{received_from}
 
 -- All that came and went is what these calls made of a port, behind which the link stands. No call tells that a close was answered behind a
 -- failed give, nor the end, which is answered only behind the last connection.

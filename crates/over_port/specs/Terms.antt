@@ -1,9 +1,10 @@
 -- The words that this crate's definitions are written in: those of crates below, and types of its code.
-pub use Rattle.rx_io.specs.declared.listener_calls.ListenEntry.{ListenEntry}
 pub use Rattle.rx_base.specs.Sends.{Send, sent_to}
+pub use Rattle.rx_io.specs.declared.listener_calls.ListenEntry.{ListenEntry}
 pub use Rattle.links.specs.declared.journal.Entry.{Entry}
 pub use Rattle.links.specs.declared.journal.LinkEvent.{LinkEvent}
 pub use Rattle.links.specs.Links.{ComesUntold, Coming, Counts, Grew, HasEnded, Refuses, Told, events_in, last_taken}
+pub use Rattle.links.specs.Received.{bytes_from, received_from}
 pub use Rattle.port_link.specs.declared.place.Place.{Place}
 pub use Rattle.port_link.specs.declared.place.Stage.TheVariants.{Broken, Dropping, Ended, Open, Waiting}
 pub use Rattle.port_link.specs.PortLinks.{seen_of, told_nothing}
@@ -16,7 +17,7 @@ pub use Rattle.run_history.specs.declared.answer.Answer.{Answer}
 pub use Rattle.session_history.specs.declared.ends.SessionEnd.{SessionEnd}
 pub use Rattle.session_history.specs.declared.ends.Stop.{Stop}
 pub use Rattle.session_history.specs.Account.{IsBroken, Session, after_ending, journal_of}
-pub use Rattle.session_history.specs.Answering.{HasAnswerCause}
+pub use Rattle.session_history.specs.Answering.{HasAnswerCause, port_counts}
 pub use Rattle.session_history.specs.Ends.{AtBreak, IsEnded, answer_of, before_end}
 pub use Rattle.session_history.specs.Heeding.{Bounds, nothing_before}
 pub use Rattle.session_history.specs.Lawful.{Rules}

@@ -1,6 +1,6 @@
 -- Gives of one piece, call by call, and what a link over the listener tells of them.
 use Rattle.std.proofs.Math.Seq.{take-append_seam}
-use Rattle.port_link.proofs.Terms.{Bool, Err, List, None, Ok, OnOk, Option, Result, Some, [], ap, append-nil, append_assoc, arith, drop, false, length, nat_lt, refl, subst, sym, take, true, ℕ, ◌++◌, ◌-◌, ◌<◌, ◌∙◌, ◌∷◌, ◌≡◌, ◌≢◌, ◌≤◌, le-ltb, lt-ltb, length-append, length-drop, length-take-le, take-append-drop, take_all, none-some, same_Some, IfErr, ListenEntry, Logs, Prefix, Entry, Given, All, Gone, LinkFault, Memory, ReadFault, Refused, WriteFault, tells_more, Gives, Tells, cut_entries, Place, Stage, Broken, Dropping, Ended, Open, Waiting, broken, is_present, shown, stage_behind, AreCalls, IsCall, Port, after_call, gives_all, gives_gone, gives_part, port_after, port_of, with_part, Agrees, IsAt, IsWhole, Stands, link_journal, told_at, with_close, with_ends, WentOn, GivesPiece, GivesTo, Leads, are_calls-append, calls_same, port_after-append, port_of-append}
+use Rattle.port_link.proofs.Terms.{Bool, Err, List, None, Ok, OnOk, Option, Result, Some, [], ap, append-nil, append_assoc, arith, drop, false, length, nat_lt, refl, subst, sym, take, true, ℕ, ◌++◌, ◌-◌, ◌<◌, ◌∙◌, ◌∷◌, ◌≡◌, ◌≢◌, ◌≤◌, le-ltb, lt-ltb, length-append, length-drop, length-take-le, take-append-drop, take_all, none-some, same_Some, IfErr, Prefix, ListenEntry, Logs, Entry, Given, All, Gone, LinkFault, Memory, ReadFault, Refused, WriteFault, tells_more, Gives, Tells, cut_entries, Place, Stage, Broken, Dropping, Ended, Open, Waiting, broken, is_present, shown, stage_behind, AreCalls, IsCall, Port, after_call, gives_all, gives_gone, gives_part, port_after, port_of, with_part, Agrees, IsAt, IsWhole, Stands, link_journal, told_at, with_close, with_ends, WentOn, GivesPiece, GivesTo, Leads, are_calls-append, calls_same, port_after-append, port_of-append}
 use Rattle.port_link.proofs.CallLemmas.{logs_same, tells_none}
 use Rattle.port_link.proofs.JournalLemmas.{no_ends, not_waiting, same_journal}
 use Rattle.links.specs.declared.journal.Entry.TheVariants as entry

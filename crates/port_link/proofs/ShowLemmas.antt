@@ -1,5 +1,5 @@
 -- What a port link shows behind a give.
-use Rattle.port_link.proofs.Terms.{Bool, Err, List, None, Ok, Option, Result, Some, ap, arith, if◌then◌else◌, inl, inr, length, nat_lt, refl, subst, sym, true, ℕ, ◌&&◌, ◌-◌, ◌==◌, ◌∙◌, ◌≡◌, ◌≤◌, and_parts, cases_lt, eqb-true, IfErr, IsErrOf, ◌^◌, ListenEntry, Rose, one_more, Given, All, Gone, LinkFault, Memory, WriteFault, told_by, ComesUntold, Counts, Gives, Handed, HasGiveCause, IsGone, Phase, Phases, TellsHanded, Told, Seen, Place, Stage, Broken, Dropping, Ended, Open, Waiting, broken, gones_behind, stage_behind, Port, IsJustBound, IsWhole, gives_at, link_journal, phases_at, present_phase, told_at, GivesPiece, told_nothing}
+use Rattle.port_link.proofs.Terms.{Bool, Err, List, None, Ok, Option, Result, Some, ap, arith, if◌then◌else◌, inl, inr, length, nat_lt, refl, subst, sym, true, ℕ, ◌&&◌, ◌-◌, ◌==◌, ◌∙◌, ◌≡◌, ◌≤◌, and_parts, cases_lt, eqb-true, IfErr, IsErrOf, ◌^◌, Rose, one_more, ListenEntry, Given, All, Gone, LinkFault, Memory, WriteFault, told_by, ComesUntold, Counts, Gives, Handed, HasGiveCause, IsGone, Phase, Phases, TellsHanded, Told, Seen, Place, Stage, Broken, Dropping, Ended, Open, Waiting, broken, gones_behind, stage_behind, Port, IsJustBound, IsWhole, gives_at, link_journal, phases_at, present_phase, told_at, GivesPiece, told_nothing}
 use Rattle.port_link.proofs.GiveLemmas.{behind_give, given_present}
 use Rattle.links.specs.Links as links
 

@@ -1,7 +1,7 @@
 -- What each way to the next event does.
 use Rattle.std.proofs.Math.Path.{fun_ext}
 use Rattle.links.proofs.Growing.{tells_then}
-use Rattle.port_link.proofs.Terms.{Bool, Err, List, Ok, Option, Result, Some, [], ap, arith, false, length, refl, subst, sym, true, ℕ, ◌+◌, ◌<◌, ◌∙◌, ◌∷◌, ◌≡◌, ◌≢◌, ◌≤◌, IsErrOf, IoFault, ListenEntry, HasCause, Accepts, Logs, LinkEvent, LinkFault, Memory, ReadFault, Refused, WriteFault, ComesUntold, Enters, GoesBy, Phases, Place, Stage, Broken, Dropping, Ended, Open, Waiting, is_done, is_present, shown, IsCall, Port, after_call, port_of, takes_bytes, IsAt, IsWhole, Stands, link_journal, phases_at, present_phase, told_at, HasOpenCause, IsTake, NextAt, StepsTo, TakesNext, TakesPiece, WentOn, closed_place, read_fault_of, taken, calls_on, calls_same}
+use Rattle.port_link.proofs.Terms.{Bool, Err, List, Ok, Option, Result, Some, [], ap, arith, false, length, refl, subst, sym, true, ℕ, ◌+◌, ◌<◌, ◌∙◌, ◌∷◌, ◌≡◌, ◌≢◌, ◌≤◌, IsErrOf, IoFault, HasCause, ListenEntry, Accepts, Logs, LinkEvent, LinkFault, Memory, ReadFault, Refused, WriteFault, ComesUntold, Enters, GoesBy, Phases, Place, Stage, Broken, Dropping, Ended, Open, Waiting, is_done, is_present, shown, IsCall, Port, after_call, port_of, takes_bytes, IsAt, IsWhole, Stands, link_journal, phases_at, present_phase, told_at, HasOpenCause, IsTake, NextAt, StepsTo, TakesNext, TakesPiece, WentOn, closed_place, read_fault_of, taken, calls_on, calls_same}
 use Rattle.port_link.proofs.CallLemmas.{logs_same, went_one, went_none, agrees_one, agrees_none, whole_one, whole_none, tells_one, tells_none}
 use Rattle.port_link.proofs.JournalLemmas.{no_ends, not_waiting, opened, took, ended, closed, closable, ended_more, dropped, same_journal}
 use Rattle.port_link.proofs.PhaseLemmas.{phase_changes, phase_here, gives_here, phases_closed}

@@ -1,6 +1,6 @@
 -- What gives of a piece make of a port.
 use Rattle.std.specs.Prelude.{◌≡◌, ℕ, ◌≤◌, Bool, true, List, ◌++◌, length, take, Option, None, Some, Result, Ok, Err, IfErr, OnOk}
-use Rattle.port_link.specs.Terms.{ListenEntry, Prefix, Given, All, Gone, LinkFault, Memory, Gives}
+use Rattle.port_link.specs.Terms.{Prefix, ListenEntry, Given, All, Gone, LinkFault, Memory, Gives}
 use Rattle.port_link.specs.declared.place.Place.{Place}
 use Rattle.port_link.specs.Ports.{Port, gives_all, gives_gone, gives_part, AreCalls, port_after}
 use Rattle.port_link.specs.Stages.{is_present, stage_behind}

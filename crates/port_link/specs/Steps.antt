@@ -1,7 +1,7 @@
 -- What a link does to its listener, over one call or several.
 use Rattle.std.specs.Prelude.{◌≡◌, ℕ, ◌+◌, ◌≤◌, Bool, List, [], ◌∷◌, ◌++◌, Option, None, Some, Result, Ok, Err, IsErrOf, Vec}
 use Rattle.std.specs.declared.alloc.Global.{Global}
-use Rattle.port_link.specs.Terms.{IoFault, ListenEntry, Rose, Logs, Entry, LinkEvent, LinkFault, Memory, ReadFault, ComesUntold, Enters, GivesAtClose, GoesBy, Tells}
+use Rattle.port_link.specs.Terms.{IoFault, Rose, ListenEntry, Logs, Entry, LinkEvent, LinkFault, Memory, ReadFault, ComesUntold, Enters, GivesAtClose, GoesBy, Tells}
 use Rattle.port_link.specs.declared.place.Place.{Place}
 use Rattle.port_link.specs.declared.place.Stage.TheVariants.{Waiting}
 use Rattle.port_link.specs.Ports.{port_of, AreCalls}

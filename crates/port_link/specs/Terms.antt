@@ -1,11 +1,11 @@
 -- The words that this crate's definitions are written in: those of crates below, and types of its code.
 pub use Rattle.rx_base.specs.declared.fault.IoFault.{IoFault}
-pub use Rattle.rx_io.specs.declared.listener.Listener.{Ghosts}
-pub use Rattle.rx_io.specs.declared.listener_calls.ListenEntry.{ListenEntry}
 pub use Rattle.rx_base.specs.Faults.{HasCause, Rose}
-pub use Rattle.rx_io.specs.Listening.{Accepts, Logs}
 pub use Rattle.rx_base.specs.Planned.{one_more}
 pub use Rattle.rx_base.specs.Prefix.{Prefix}
+pub use Rattle.rx_io.specs.declared.listener.Listener.{Ghosts}
+pub use Rattle.rx_io.specs.declared.listener_calls.ListenEntry.{ListenEntry}
+pub use Rattle.rx_io.specs.Listening.{Accepts, Logs}
 pub use Rattle.links.specs.declared.journal.Entry.{Entry}
 pub use Rattle.links.specs.declared.journal.Given.{Given}
 pub use Rattle.links.specs.declared.journal.Given.TheVariants.{All, Gone}

@@ -1,8 +1,7 @@
 -- A session's checkpoints as runs, one lemma for each event of a session.
 use Rattle.circular_buffer.proofs.Places.{slice_get-drop}
-use Rattle.rx_base.specs.declared.item.TheConstants.{MAX_ITEMS}
 use Rattle.run_history.specs.Machine as M
-use Rattle.recovery.proofs.Terms.{Bool, IfSome, List, None, Option, Some, [], ap, arith, drop, false, inl, inr, length, length-drop, refl, subst, suc, sym, take, zero, ℕ, ◌++◌, ◌+◌, ◌<◌, ◌^◌, ◌∙◌, ◌∷◌, ◌≡◌, ◌≤◌, both_ways, drop-map, length-take, take-map, take_all, slice_get_within, map, replicate, slice_get, Item, Entry, Choice, Env, saved_in_ring, Checkpoint, Slots, Log, Ledger, Image, base, no_connections_may, may_send, start, Limits, Override, Path, Served, origin, runs_start, writes_more, writes_none, writes_on, CpuState, with_live, standing_of, Live, Standing, Writes, served_same, items_in, KeepsItems, KeepsReplies, Rules, Carries, asks_under_all, chained_adopt, AreChained, AreCheckpoints, plan_of_trial, AreKept, HasFailed, HasSaved, Held, IsKept, KeepsSaved, StandsOn, Brings, CanSave, HasNoCheckpoint, IsAtStart, KeepsRing, Adopts}
+use Rattle.recovery.proofs.Terms.{Bool, IfSome, List, None, Option, Some, [], ap, arith, drop, false, inl, inr, length, length-drop, refl, subst, suc, sym, take, zero, ℕ, ◌++◌, ◌+◌, ◌<◌, ◌^◌, ◌∙◌, ◌∷◌, ◌≡◌, ◌≤◌, both_ways, drop-map, length-take, take-map, take_all, slice_get_within, map, replicate, slice_get, Item, MAX_ITEMS, Entry, Choice, Env, saved_in_ring, Checkpoint, Slots, Log, Ledger, Image, base, no_connections_may, may_send, start, Limits, Override, Path, Served, origin, runs_start, writes_more, writes_none, writes_on, CpuState, with_live, standing_of, Live, Standing, Writes, served_same, items_in, KeepsItems, KeepsReplies, Rules, Carries, asks_under_all, chained_adopt, AreChained, AreCheckpoints, plan_of_trial, AreKept, HasFailed, HasSaved, Held, IsKept, KeepsSaved, StandsOn, Brings, CanSave, HasNoCheckpoint, IsAtStart, KeepsRing, Adopts}
 use Rattle.recovery.proofs.Stands.{saved_states}
 use Rattle.recovery.proofs.Chains.{brings_none, chained_on, chained_with, chained_take, are_take, kept_take, kept_drop, kept_with}
 

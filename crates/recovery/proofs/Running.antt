@@ -1,6 +1,5 @@
 -- The guest of a trial runs to its next event: what that makes of the trial.
 use Rattle.rx_base.proofs.Budgets.{few_in_all}
-use Rattle.rx_base.specs.declared.item.TheConstants.{MAX_ITEMS}
 use Rattle.guest_cpu.specs.declared.event.Event.TheVariants as event
 use Rattle.run_history.specs.Touching.{Range}
 use Rattle.guest_cpu.specs.Running.{RunsBy}
@@ -9,7 +8,7 @@ use Rattle.guest_cpu.proofs.OneMore.{one_more}
 use Rattle.guest_cpu.proofs.TurnEvents.{Means, turn_means}
 use Rattle.guest_cpu.proofs.TurnWrites.{WritesAs, turn_writes}
 use Rattle.guest_cpu.proofs.QuietRuns.{goes_one, goes_on, ComesWriting, comes_writing}
-use Rattle.recovery.proofs.Terms.{AllocError, Bool, List, None, Option, Some, [], ap, arith, drop, false, length, refl, subst, sym, take, true, ℕ, ◌*◌, ◌++◌, ◌+◌, ◌-◌, ◌<◌, ◌^◌, ◌∙◌, ◌∷◌, ◌≡◌, ◌≤◌, Ok, Result, replicate, slice_get, unwrap_or, Item, Send, sent_to, Choice, Heap, Env, Log, Ledger, agree, served_next_more, may_send, Machine, State, Limits, Override, Path, env_at, planned_next, served_next, limits_of, Event, runs_write, writes_on, writes_then, CpuState, live_of, with_live, GoesOn, IsSilent, Adds, standing_of, Live, Standing, Turn, live_after, turn, with_range, RunsWriting, Writes, writes, served_on, env_within, everywhere, IsUnharmed, CanGoOn, Failure, IsUnder, items_of, pieces_of, IsTrying, KeepsBase, KeepsSaved}
+use Rattle.recovery.proofs.Terms.{AllocError, Bool, List, None, Option, Some, [], ap, arith, drop, false, length, refl, subst, sym, take, true, ℕ, ◌*◌, ◌++◌, ◌+◌, ◌-◌, ◌<◌, ◌^◌, ◌∙◌, ◌∷◌, ◌≡◌, ◌≤◌, Ok, Result, replicate, slice_get, unwrap_or, Item, MAX_ITEMS, Send, sent_to, Choice, Heap, Env, Log, Ledger, agree, served_next_more, may_send, Machine, State, Limits, Override, Path, env_at, planned_next, served_next, limits_of, Event, runs_write, writes_on, writes_then, CpuState, live_of, with_live, GoesOn, IsSilent, Adds, standing_of, Live, Standing, Turn, live_after, turn, with_range, RunsWriting, Writes, writes, served_on, env_within, everywhere, IsUnharmed, CanGoOn, Failure, IsUnder, items_of, pieces_of, IsTrying, KeepsBase, KeepsSaved}
 use Rattle.recovery.proofs.Few.{few_items}
 use Rattle.recovery.proofs.Starting.{failed_still}
 

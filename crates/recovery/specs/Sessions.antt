@@ -1,7 +1,6 @@
 -- Where a session stands whose program failed.
 use Rattle.std.specs.Prelude.{◌≡◌, ℕ, ◌≤◌, ◌^◌, List, [], ◌∷◌, length, map, Bool, true, false, None}
-use Rattle.rx_base.specs.declared.item.TheConstants.{MAX_ITEMS}
-use Rattle.recovery.specs.Terms.{Item, Send, sent_to, Entry, Choice, Heap, Checkpoint, Log, Ledger, Image, may_send, Override, Path, limits_of, CpuState, IsBounded, standing_of, Standing, events_of, heeded, items_in, received, AreSendable, KeepsItems, KeepsReplies, Rules, opens, AreBetween, AreInOrder, Covers, IsFeasible, passed_in, AreChained, AreCheckpoints}
+use Rattle.recovery.specs.Terms.{Item, MAX_ITEMS, Send, sent_to, Entry, Choice, Heap, Checkpoint, Log, Ledger, Image, may_send, Override, Path, limits_of, CpuState, IsBounded, standing_of, Standing, events_of, heeded, items_in, received, AreSendable, KeepsItems, KeepsReplies, Rules, opens, AreBetween, AreInOrder, Covers, IsFeasible, passed_in, AreChained, AreCheckpoints}
 
 -- A run of a session, from which its guest can go on unless it has ended: it is within the budget, it may send to connections alone that
 -- were opened, it did so, and its sends stand in the order of time and have as many bytes as a piece may.

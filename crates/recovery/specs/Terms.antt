@@ -2,6 +2,7 @@
 pub use Rattle.std.specs.declared.alloc.AllocError.{AllocError}
 pub use Rattle.std.specs.List.{AllByRecursion, position_or_len}
 pub use Rattle.rx_base.specs.declared.item.Item.{Item}
+pub use Rattle.rx_base.specs.declared.item.TheConstants.{MAX_ITEMS}
 pub use Rattle.rx_base.specs.Prefix.{Prefix}
 pub use Rattle.rx_base.specs.Sends.{Send, sent_to}
 pub use Rattle.links.specs.declared.journal.Entry.{Entry}

@@ -1,8 +1,7 @@
 -- A replay at its start, and at its end.
 use Rattle.item_log.specs.Log as logs
-use Rattle.rx_base.specs.declared.item.TheConstants.{MAX_ITEMS}
 use Rattle.run_history.specs.declared.answer.Answer.TheVariants as answer
-use Rattle.replay.proofs.Terms.{List, None, Option, [], ap, arith, drop, false, length, refl, subst, sym, true, ℕ, ◌+◌, ◌^◌, ◌≡◌, both_ways, length-replicate, Err, Send, tells_nothing, IsFresh, Phases, Seen, Choice, items_from, items_of, Log, Image, Answer, no_connections_may, no_connections, start_machine, start_standing, Standing, MayBegin, Bounds, heeded, heeded_behind, items_in, Recorded, Difference, Player, BreaksOff, IsLastSend, HasReplayedBy, LinkAnswers, bounds_of, DiffersBy, HasFilledBy, HasFound, AreOpen, AreOpenThen, IsBetween, IsEnd, LinkTurns, Stage, has, replay_of, stage_of}
+use Rattle.replay.proofs.Terms.{List, None, Option, [], ap, arith, drop, false, length, refl, subst, sym, true, ℕ, ◌+◌, ◌^◌, ◌≡◌, both_ways, length-replicate, Err, MAX_ITEMS, Send, tells_nothing, IsFresh, Phases, Seen, Choice, items_from, items_of, Log, Image, Answer, no_connections_may, no_connections, start_machine, start_standing, Standing, MayBegin, Bounds, heeded, heeded_behind, items_in, Recorded, Difference, Player, BreaksOff, IsLastSend, HasReplayedBy, LinkAnswers, bounds_of, DiffersBy, HasFilledBy, HasFound, AreOpen, AreOpenThen, IsBetween, IsEnd, LinkTurns, Stage, has, replay_of, stage_of}
 use Rattle.replay.specs.Giving as giving
 use Rattle.replay.specs.Making.{IsMade}
 use Rattle.replay.proofs.DifferLemmas.{differs_after, tells_found}

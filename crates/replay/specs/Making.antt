@@ -1,8 +1,7 @@
 -- A player that was just made.
 use Rattle.std.specs.Prelude.{◌≡◌, ◌^◌, [], None}
-use Rattle.rx_base.specs.declared.item.TheConstants.{MAX_ITEMS}
 use Rattle.item_log.specs.Log as logs
-use Rattle.replay.specs.Terms.{Framing, empty_log, Image, no_connections, start_standing}
+use Rattle.replay.specs.Terms.{MAX_ITEMS, Framing, empty_log, Image, no_connections, start_standing}
 use Rattle.replay.specs.declared.player.Player.{Player}
 
 -- its guest stands at the start, no event came, no answer of the allocator was used, and nothing differs

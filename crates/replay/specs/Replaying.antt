@@ -1,11 +1,10 @@
 -- What a replay of a record is: the run that the record tells of, over the events of a link, and its sends given again.
 use Rattle.std.specs.Prelude.{◌≡◌, ◌≢◌, ℕ, ◌+◌, ◌<◌, ◌≤◌, ◌^◌, List, [], ◌∷◌, ◌++◌, length, slice_get, unwrap_or, false, None, Some, Option, IsSome, IfSome, ◌⊎◌, true}
-use Rattle.rx_base.specs.declared.item.TheConstants.{MAX_ITEMS}
 use Rattle.links.specs.declared.journal.Entry.TheVariants as entry
 use Rattle.links.specs.declared.journal.LinkEvent.TheVariants as event
 use Rattle.run_history.specs.declared.answer.Answer.TheVariants as answer
 use Rattle.session_history.specs.Heeding as unheeded
-use Rattle.replay.specs.Terms.{Send, Entry, LinkEvent, Coming, HasEnded, IsNext, Refuses, Tells, events_in, pieces_in, Seen, Ask, Choice, is_allowed, most_blocks, Image, Answer, Cause, Chooses, Fails, Machine, State, Wants, Run, does, HasAnswerCause, IsLastRefused, IsLastTooLong, Bounds, heeded, items_in, nothing_before, received, Line, Recorded}
+use Rattle.replay.specs.Terms.{MAX_ITEMS, Send, Entry, LinkEvent, Coming, HasEnded, IsNext, Refuses, Tells, events_in, pieces_in, Seen, Ask, Choice, is_allowed, most_blocks, Image, Answer, Cause, Chooses, Fails, Machine, State, Wants, Run, does, HasAnswerCause, IsLastRefused, IsLastTooLong, Bounds, heeded, items_in, nothing_before, received, Line, Recorded}
 use Rattle.replay.specs.Giving.{AreGiven, AreGivenInPart}
 
 -- what a record allows a link: its own framing, and the most items and events that any session may have; nothing comes before a replay

@@ -24,9 +24,8 @@ pub use Rattle.rv_isa.specs.Words.{little_bytes, little_number}
 unfoldable pub use Rattle.rv_isa.specs.Words.{funct3, funct7, imm_b, imm_i, imm_j, imm_s, imm_u, opcode, rd, rs1, rs2}
 pub use Rattle.guest_image.specs.declared.image.Image.{Image}
 pub use Rattle.guest_image.specs.Image.{base, heap_end, heap_start, memory_of, stack_top}
-pub use Rattle.elf_file.specs.Written.{written}
 unfoldable pub use Rattle.guest_image.specs.Image.{zeros}
-pub use Rattle.guest_image.specs.Memory.{Area, byte_at, bytes_at, execute, put_bytes, read, write}
+pub use Rattle.guest_image.specs.Memory.{Area, bytes_at, execute, put_bytes, read, write}
 unfoldable pub use Rattle.guest_image.specs.Memory.{permitted}
 pub use Rattle.run_history.specs.declared.answer.Cause.{Cause}
 pub use Rattle.run_history.specs.declared.answer.Cause.TheVariants.{AssertFailed, BadAccess, BadCall, BadFree, BadInstruction, BadJump, Hang}

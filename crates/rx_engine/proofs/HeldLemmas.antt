@@ -1,10 +1,9 @@
 -- A session whose recoverable part is another one.
 use Rattle.links.specs.declared.journal.Entry.{Entry}
-use Rattle.rx_base.specs.declared.item.TheConstants.{MAX_ITEMS}
 use Rattle.recovery.specs.declared.recovering.Recovered.{Recovered}
 use Rattle.recovery.specs.Recoverables.{HoldsRing, KeepsHeld, KeepsUnsaved, held_of}
 use Rattle.recovery.specs.Recovering.{HasToRecover}
-use Rattle.rx_engine.proofs.Terms.{AllocError, List, ap, subst, sym, ℕ, ◌+◌, ◌^◌, ◌≡◌, ◌≤◌, Bool, Result, Seen, Heap, Env, oldest_of, Log, Image, Cause, Override, Path, Rules, Recoverable, KeepsRing, Held, KeepsBeside, failure_of, to_recover, walked, KeepsOldest, AdoptsBy, rules_by, SessionState, held_in, IsFailing, Since}
+use Rattle.rx_engine.proofs.Terms.{AllocError, List, ap, subst, sym, ℕ, ◌+◌, ◌^◌, ◌≡◌, ◌≤◌, Bool, Result, MAX_ITEMS, Seen, Heap, Env, oldest_of, Log, Image, Cause, Override, Path, Rules, Recoverable, KeepsRing, Held, KeepsBeside, failure_of, to_recover, walked, KeepsOldest, AdoptsBy, rules_by, SessionState, held_in, IsFailing, Since}
 use Rattle.rx_engine.specs.declared.session.Session.TheInside.{Inside}
 
 module _ {R : Type 0} where

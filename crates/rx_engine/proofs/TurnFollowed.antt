@@ -1,6 +1,5 @@
 -- What the guest of a session that follows makes of it in one turn: it ran to an event.
 use Rattle.guest_cpu.specs.declared.event.Event.{Event}
-use Rattle.rx_base.specs.declared.item.TheConstants.{MAX_ITEMS}
 use Rattle.guest_cpu.specs.declared.event.Event.TheVariants as step
 use Rattle.guest_cpu.specs.Writing.{RunsWriting}
 use Rattle.session_history.specs.declared.ends.SessionBreak.TheVariants as session_break
@@ -11,7 +10,7 @@ use Rattle.session_following.specs.declared.unfollowed.Unfollowed.TheVariants as
 use Rattle.session_following.specs.Missing.{IsMissing}
 use Rattle.session_following.specs.Standing.{HasJustBegun}
 use Rattle.rx_base.proofs.Budgets.{few_in_all}
-use Rattle.rx_engine.proofs.Terms.{AllocError, ap, append-nil, arith, inl, refl, subst, sym, ℕ, ◌+◌, ◌<◌, ◌∙◌, ◌≡◌, ◌≤◌, Bool, IfOk, Result, false, true, ◌≢◌, Send, Phases, Told, Seen, Choice, Heap, Env, Ledger, is_open, Image, Cause, AsksFor, FailsBy, Path, CpuState, live_of, with_live, Standing, Stop, Before, items_in, Rules, Noted, Shown, Unnoted, AsksForMore, Handed, plan_of, known_same, chosen_serves, memory_serves, unnoted_serves, Ran, ran_oldest, gives_same, trimmed_still, still_takes, KeepsOldest, rules_in, HasSameOpen, IsCounted, IsUnnoted, LinkServes, MayServe, NotesServe, rules_by, SessionState, env_of, Since, Turned, Unfollowed, moved_turn, ran_to, rules_following, plan_up_to, Agree, before_moved, IsUnfollowed, UnnotedBy, AsksOn, FailsOn, Follows, HasRunOn, IfFollows, KeepsTurning, TurnsTo, held_back, turn_as}
+use Rattle.rx_engine.proofs.Terms.{AllocError, ap, append-nil, arith, inl, refl, subst, sym, ℕ, ◌+◌, ◌<◌, ◌∙◌, ◌≡◌, ◌≤◌, Bool, IfOk, Result, false, true, ◌≢◌, MAX_ITEMS, Send, Phases, Told, Seen, Choice, Heap, Env, Ledger, is_open, Image, Cause, AsksFor, FailsBy, Path, CpuState, live_of, with_live, Standing, Stop, Before, items_in, Rules, Noted, Shown, Unnoted, AsksForMore, Handed, plan_of, known_same, chosen_serves, memory_serves, unnoted_serves, Ran, ran_oldest, gives_same, trimmed_still, still_takes, KeepsOldest, rules_in, HasSameOpen, IsCounted, IsUnnoted, LinkServes, MayServe, NotesServe, rules_by, SessionState, env_of, Since, Turned, Unfollowed, moved_turn, ran_to, rules_following, plan_up_to, Agree, before_moved, IsUnfollowed, UnnotedBy, AsksOn, FailsOn, Follows, HasRunOn, IfFollows, KeepsTurning, TurnsTo, held_back, turn_as}
 
 -- where its guest ran to
 module _ {R : Type 0} (permits : R → Heap → ℕ → ℕ → Bool) {rules : Rules} {image : Image} {handed : Handed} {told : Told} {seen : Seen} {before noted : Noted} {missing : List ℕ} {env : Env} {old inside : SessionState R} {cpu : CpuState R}

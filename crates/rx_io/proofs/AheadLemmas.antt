@@ -1,5 +1,6 @@
 -- A part of a list is given from its front.
-use Rattle.rx_io.proofs.Terms.{List, ap, arith, drop, drop-drop, length, length-take, slice_range, sym, take, take-append-drop, ℕ, ◌++◌, ◌+◌, ◌-◌, ◌∙◌, ◌≡◌, ◌≤◌, drop-take}
+use Rattle.std.proofs.Common.{List, ap, arith, drop, drop-drop, length, length-take, slice_range, sym, take, take-append-drop, ℕ, ◌++◌, ◌+◌, ◌-◌, ◌∙◌, ◌≡◌, ◌≤◌}
+use Rattle.std.proofs.lemmas.List.{drop-take}
 
 -- the first ones of a part, and the part behind them
 pub part_seam : (bytes : List ℕ) (start end count : ℕ) → count ≤ length (slice_range bytes start end) →

@@ -1,3 +1,2 @@
-pub mod Terms
 mod Places
 mod AheadLemmas

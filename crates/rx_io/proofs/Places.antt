@@ -2,7 +2,10 @@
 use Rattle.std.proofs.Math.ListN.{set}
 use Rattle.std.proofs.lemmas.Slice.Eq.{bytes_eq-Decides}
 use Rattle.std.proofs.lemmas.Bool.{false_from_ne_true}
-use Rattle.rx_io.proofs.Terms.{Global, Err, List, None, Ok, OnErr, OnOk, Result, Some, Vec, [], add-one, ap, arith, false, get_or, if◌then◌else◌, is_ok, length, refl, string_bytes, suc, sym, take, true, unwrap_or, zero, ℕ, ◌++◌, ◌+◌, ◌<◌, ◌∙◌, ◌∷◌, ◌≡◌, ◌≢◌, bytes_eq, Contents, Holds, File, IsPlace, found}
+use Rattle.std.proofs.Common.{Err, List, None, Ok, OnErr, OnOk, Result, Some, Vec, [], add-one, ap, arith, false, get_or, if◌then◌else◌, is_ok, length, refl, string_bytes, suc, sym, take, true, unwrap_or, zero, ℕ, ◌++◌, ◌+◌, ◌<◌, ◌∙◌, ◌∷◌, ◌≡◌, ◌≢◌}
+use Rattle.rx_io.specs.Terms.{Global, bytes_eq}
+use Rattle.rx_io.specs.Named.{Contents, Holds}
+use Rattle.rx_io.specs.Shelves.{File, IsPlace, found}
 
 same : (xs ys : List ℕ) → xs ≡ ys → bytes_eq xs ys ≡ true
 same xs ys e = (bytes_eq-Decides xs ys).1 e

@@ -1,12 +1,8 @@
 -- What a listener in memory has besides the calls that it tells.
 use Rattle.std.specs.Prelude.{◌≡◌, ℕ, Bool, true, false, List, [], ◌∷◌, Option, Some, None, Result, Ok, Err, Vec, is_some, map}
 use Rattle.std.specs.Vec.Iter.{into_iter_items}
-use Rattle.rx_io.specs.Terms.{Global, IoFault, ListenEntry}
-use Rattle.rx_base.specs.Outside.{Stream}
-use Rattle.rx_base.specs.Planned.{GivesBy}
+use Rattle.rx_io.specs.Terms.{Global, IoFault, Stream, fresh, piece_len, GivesBy, Takes, ListenEntry}
 use Rattle.rx_io.specs.Sources.{tame_stream}
-use Rattle.rx_base.specs.Outside.{fresh, piece_len}
-use Rattle.rx_base.specs.Taking.{Takes}
 use Rattle.rx_io.specs.declared.tame_listener.TameListener.{TameListener}
 use Rattle.rx_io.specs.declared.tame_source.TameSource.{TameSource}
 

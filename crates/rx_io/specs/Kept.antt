@@ -1,8 +1,7 @@
 -- What the files in memory tell.
 use Rattle.std.specs.Prelude.{List, Some, unwrap_or, []}
-use Rattle.rx_io.specs.Terms.{FileCall}
+use Rattle.rx_io.specs.Terms.{Plan, FileCall}
 use Rattle.rx_io.specs.Named.{Contents}
-use Rattle.rx_base.specs.Planned.{Plan}
 use Rattle.rx_io.specs.Shelves.{found}
 use Rattle.rx_io.specs.declared.memory_files.MemoryFiles.{MemoryFiles}
 use Rattle.rx_io.specs.declared.tame_files.TameFiles.{TameFiles}

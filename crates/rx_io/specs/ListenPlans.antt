@@ -1,8 +1,6 @@
 -- Listeners in memory of which certain calls are to fail.
 use Rattle.std.specs.Prelude.{◌≡◌, ℕ, ◌==◌, ◌&&◌, Bool, true, false, List, [], ◌∷◌, Result, Ok, Err, if◌then◌else◌}
-use Rattle.rx_io.specs.Terms.{IoFault, Failed, Memory}
-use Rattle.rx_base.specs.Planned.{one_more}
-use Rattle.rx_io.specs.declared.listener_calls.ListenCall.{ListenCall}
+use Rattle.rx_io.specs.Terms.{IoFault, Failed, Memory, one_more, ListenCall}
 use Rattle.rx_io.specs.declared.listener_calls.ListenCall.TheVariants as call
 
 -- The calls that are to fail, each by its kind and its number among the calls of that kind, counted from 1. How many calls of each

@@ -1,7 +1,6 @@
 -- What the calls on a listener add to the list of calls that it tells.
 use Rattle.std.specs.Prelude.{◌≡◌, ℕ, Bool, true, List, [], ◌∷◌, ◌++◌, length, take, Option, Some, None, Result, Ok, Err}
-use Rattle.rx_io.specs.Terms.{IoFault, Failed, Memory, ListenEntry}
-use Rattle.rx_io.specs.declared.listener_calls.ListenCall.{ListenCall}
+use Rattle.rx_io.specs.Terms.{IoFault, Failed, Memory, ListenCall, ListenEntry}
 use Rattle.rx_io.specs.declared.listener_calls.ListenCall.TheVariants as call
 use Rattle.rx_io.specs.declared.listener_calls.ListenEntry.TheVariants as entry
 

@@ -1,10 +1,8 @@
 -- What the listener in memory of which certain calls fail has, and what its calls do.
 use Rattle.std.specs.Prelude.{ℕ, Bool, false, List, Result, Some}
-use Rattle.rx_io.specs.Terms.{IoFault, ListenEntry}
+use Rattle.rx_io.specs.Terms.{IoFault, piece_len, Takes, ListenEntry}
 use Rattle.rx_io.specs.Connections.{tame_calls, tame_present, tame_inputs, tame_open, listener_most, no_input}
 use Rattle.rx_io.specs.ListenPlans.{ListenPlan, MovesBy, listen_fails}
-use Rattle.rx_base.specs.Outside.{piece_len}
-use Rattle.rx_base.specs.Taking.{Takes}
 use Rattle.rx_io.specs.declared.listener_calls.ListenCall.TheVariants as call
 use Rattle.rx_io.specs.declared.memory_listener.MemoryListener.{MemoryListener}
 use Rattle.rx_io.specs.declared.tame_listener.TameListener.{TameListener}

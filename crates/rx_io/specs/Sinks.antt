@@ -1,6 +1,6 @@
 -- What the sinks in memory tell.
 use Rattle.std.specs.Prelude.{ℕ, List}
-use Rattle.rx_base.specs.Planned.{Plan}
+use Rattle.rx_io.specs.Terms.{Plan}
 use Rattle.rx_io.specs.declared.tame_sink.TameSink.{TameSink}
 use Rattle.rx_io.specs.declared.memory_sink.MemorySink.{MemorySink}
 

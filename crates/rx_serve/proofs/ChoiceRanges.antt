@@ -3,10 +3,11 @@ use Rattle.std.specs.Prelude.{nat_lt}
 use Rattle.block_book.specs.Block.{touched, lies_in}
 use Rattle.block_book.specs.Answer.{bytes_asked, is_allowed, is_block, is_calloc, is_clear, same_ask}
 use Rattle.guest_image.proofs.Valid.{stack_top_below}
+use Rattle.guest_image.specs.Image.{heap_end, heap_start}
 use Rattle.guest_cpu.proofs.StartLemmas.{heap_above_null}
 use Rattle.block_book.specs.declared.choice.Ask.{Ask}
 use Rattle.block_book.specs.declared.choice.Ask.TheVariants.{Calloc as AskCalloc, Malloc as AskMalloc, Realloc as AskRealloc}
-use Rattle.rx_serve.proofs.Terms.{Bool, List, Some, [], ap, arith, eqb, false, get_or, inl, inr, leb, not, refl, subst, sym, true, true≢false, ℕ, ◌%◌, ◌&&◌, ◌+◌, ◌<◌, ◌^◌, ◌∙◌, ◌∷◌, ◌≡◌, ◌≤◌, and_parts, cases_eq, cases_lt, eqb-true, leb-true, ltb-true, or_cases, All-cons, All-from_get_or, All-head, All-nil, All-tail, same_Some, slice_get-get_or, All, slice_get, ◌==◌, ◌||◌, Item, Choice, Image, heap_end, heap_start, repeated_keeps, allocated_keeps, next_parts, received_keeps, allocated, received, Machine, State, start, start_machine, Run, next, ByChoice, ByEnd, ByItem, ByItself, BySend, Moved, moved, IsAsk, IsChoice, is_ask, AreAsks}
+use Rattle.rx_serve.proofs.Terms.{Bool, List, Some, [], ap, arith, eqb, false, get_or, inl, inr, leb, not, refl, subst, sym, true, true≢false, ℕ, ◌%◌, ◌&&◌, ◌+◌, ◌<◌, ◌^◌, ◌∙◌, ◌∷◌, ◌≡◌, ◌≤◌, and_parts, cases_eq, cases_lt, eqb-true, leb-true, ltb-true, or_cases, All-cons, All-from_get_or, All-head, All-nil, All-tail, same_Some, slice_get-get_or, All, slice_get, ◌==◌, ◌||◌, Item, Choice, Image, repeated_keeps, allocated_keeps, next_parts, received_keeps, allocated, received, Machine, State, start, start_machine, Run, next, ByChoice, ByEnd, ByItem, ByItself, BySend, Moved, moved, IsAsk, IsChoice, is_ask, AreAsks}
 
 -- a block that C allows begins in the heap, and ends there
 clear_within : (start end : ℕ) (live : List (ℕ × ℕ)) (at size : ℕ) → is_clear start end live at size ≡ true → (start ≤ at) × (at < end)

@@ -7,7 +7,7 @@ use Rattle.schedule_file.proofs.Same.{written_is_read}
 use Rattle.schedule_file.specs.Laws.{OneReading}
 use Rattle.replay.specs.Laws.{HasSession}
 use Rattle.over_trunk.specs.Laws.{IsWithin, IsAsRecorded, IsConverted, ConvertsToItself, SameBytesAreReplayed, SessionIsConverted}
-use Rattle.rx_serve.proofs.Terms.{List, None, Ok, Option, Some, [], ap, append-nil, arith, inl, inr, length, map, refl, subst, sym, take, ℕ, ◌++◌, ◌<◌, ◌∙◌, ◌≡◌, ◌≤◌, take-append-drop, none-some, same_Some, All, Err, IsSomeAnd, Contents, Stream, Image, IsImage, refusal, Answer, journal_of, IsEnd, items_in, NoneFailed, noted, Recorded, line_of, IsChoice, IsRecord, record_of, text_of, AreAsks, unnoted_of, keeping_for, bounds_of, ConvertsTrunk, ReplaysTrunk, WritesSends, ConvertValue, ReplayValue, RunValue, End, program_limit, Outside, Writes, options_of, rule_of, rules_of_run, window_of, trunk_of, replayed, HasServed, HasBeenReplayed, HasRecord, HasRecording, HasReplayCause, window_in, LeavesText, HasSameOutside, IsReplayedBy, RecordsAreConverted, RecordsAreReplayed, SecondVersionStays}
+use Rattle.rx_serve.proofs.Terms.{List, None, Ok, Option, Some, [], ap, append-nil, arith, inl, inr, length, map, refl, subst, sym, take, ℕ, ◌++◌, ◌<◌, ◌∙◌, ◌≡◌, ◌≤◌, take-append-drop, none-some, same_Some, All, Err, IsSomeAnd, Stream, Contents, Image, IsImage, refusal, Answer, journal_of, IsEnd, items_in, NoneFailed, noted, Recorded, line_of, IsChoice, IsRecord, record_of, text_of, AreAsks, unnoted_of, keeping_for, bounds_of, ConvertsTrunk, ReplaysTrunk, WritesSends, ConvertValue, ReplayValue, RunValue, End, program_limit, Outside, Writes, options_of, rule_of, rules_of_run, window_of, trunk_of, replayed, HasServed, HasBeenReplayed, HasRecord, HasRecording, HasReplayCause, window_in, LeavesText, HasSameOutside, IsReplayedBy, RecordsAreConverted, RecordsAreReplayed, SecondVersionStays}
 use Rattle.rx_serve.proofs.RouteLemmas.{to_trunk}
 use Rattle.rx_serve.proofs.ConvertLemmas.{as_replay}
 use Rattle.rx_serve.proofs.ChoiceRanges.{choices_fine}

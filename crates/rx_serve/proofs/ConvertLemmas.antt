@@ -1,7 +1,7 @@
 -- The command `convert`: what it leaves, from the calls that make it.
 use Rattle.std.proofs.Common.{Result, ◌≢◌}
 use Rattle.run_history.specs.declared.answer.Answer.TheVariants as answer
-use Rattle.rx_serve.proofs.Terms.{List, None, Ok, Option, inl, inr, subst, sym, ℕ, ◌∙◌, ◌≡◌, Err, Contents, Stream, Image, Answer, Recorded, EndsBy, ConvertsTrunk, ReplaysTrunk, ConvertValue, Outside, Writes, replayed, HasReplayCause, ConvertsFile, LeavesText}
+use Rattle.rx_serve.proofs.Terms.{List, None, Ok, Option, inl, inr, subst, sym, ℕ, ◌∙◌, ◌≡◌, Err, Stream, Contents, Image, Answer, Recorded, EndsBy, ConvertsTrunk, ReplaysTrunk, ConvertValue, Outside, Writes, replayed, HasReplayCause, ConvertsFile, LeavesText}
 
 -- a run's text was written, or a part of it
 pub leaves_text : (value : ConvertValue) (old new : Outside) {mid : Option Contents} {slice text : List ℕ} (end : Answer) → mid ≡ old.files → slice ≡ text → Writes mid new.files value.out slice end

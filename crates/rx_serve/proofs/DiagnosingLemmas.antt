@@ -1,7 +1,7 @@
 -- What `diagnose` leaves, from what its parts leave.
 use Rattle.std.specs.Prelude.{true, false}
 use Rattle.file_notes.proofs.BesideLemmas.{beside_here, beside_of, beside_other, beside_told, stands_beside, writes_beside}
-use Rattle.rx_serve.proofs.Terms.{Bool, List, None, Ok, Option, Some, [], ap, append-nil, arith, inl, inr, length, refl, subst, suc, sym, take, ℕ, ◌++◌, ◌∙◌, ◌∷◌, ◌≡◌, ◌≤◌, same_Some, Err, MatchOption, if◌then◌else◌, option_map, ◌≢◌, ◌⊎◌, IoFault, FileCall, Calls, HasCause, Contents, Stream, Choice, Heap, Image, Answer, Stop, holds_at_end, IsEnd, answer_of, Rules, Episode, Try, NoteList, list_episodes, NoneFailed, noted, Keeping, TellsMore, diagnosis_text, head_text, rest_text, calls_then, front_behind, IsThird, StandsBeside, AddsAlone, CallsFront, starts_of, Left, unnoted_of, Stands, all_kept, keeping_for, AreAllTables, Outcome, story_of, rules_by, IsBegun, SessionState, WatchesTrunk, BeginWith, NotedTablesAreTold, DiagnoseValue, RunValue, End, HasFaults, Outside, faults, outside, HasImage, status_of, options_of, rule_of, rules_of_run, window_of, Route, Trunk, ClosesFiles, IsFilesAnswer, ServesNoted, StartsFiles, WatchesNoted, names_of, report_form, CallsEnding, CallsServed, before_session, CallsClosing, CallsDiagnosed, ClosesDiagnosis, HasDiagnosed, HasDiagnosis, HasText, IsKept, StartsDiagnosis, before_diagnosed}
+use Rattle.rx_serve.proofs.Terms.{Bool, List, None, Ok, Option, Some, [], ap, append-nil, arith, inl, inr, length, refl, subst, suc, sym, take, ℕ, ◌++◌, ◌∙◌, ◌∷◌, ◌≡◌, ◌≤◌, same_Some, Err, MatchOption, if◌then◌else◌, option_map, ◌≢◌, ◌⊎◌, IoFault, HasCause, Stream, FileCall, Calls, Contents, Choice, Heap, Image, Answer, Stop, holds_at_end, IsEnd, answer_of, Rules, Episode, Try, NoteList, list_episodes, NoneFailed, noted, Keeping, TellsMore, diagnosis_text, head_text, rest_text, calls_then, front_behind, IsThird, StandsBeside, AddsAlone, CallsFront, starts_of, Left, unnoted_of, Stands, all_kept, keeping_for, AreAllTables, Outcome, story_of, rules_by, IsBegun, SessionState, WatchesTrunk, BeginWith, NotedTablesAreTold, DiagnoseValue, RunValue, End, HasFaults, Outside, faults, outside, HasImage, status_of, options_of, rule_of, rules_of_run, window_of, Route, Trunk, ClosesFiles, IsFilesAnswer, ServesNoted, StartsFiles, WatchesNoted, names_of, report_form, CallsEnding, CallsServed, before_session, CallsClosing, CallsDiagnosed, ClosesDiagnosis, HasDiagnosed, HasDiagnosis, HasText, IsKept, StartsDiagnosis, before_diagnosed}
 use Rattle.rx_serve.proofs.NotingLemmas.{closes_same}
 use Rattle.rx_serve.proofs.RouteLemmas.{to_trunk}
 use Rattle.rx_base.specs.declared.fault.IoFault.TheVariants as fault

@@ -9,7 +9,7 @@ use Rattle.session_history.specs.Ends.{EndsBy}
 use Rattle.session_history.specs.Passing.{passed_in}
 use Rattle.over_crowd.specs.Calls as crowd
 use Rattle.over_crowd.specs.Serving as gathered
-use Rattle.rx_serve.proofs.Terms.{IfSome, List, None, Option, Some, [], ap, append-nil, arith, drop, length, refl, subst, suc, sym, true, zero, ℕ, ◌++◌, ◌∙◌, ◌≡◌, ◌≤◌, length-take-le, take-append-drop, none-some, option_and_then_some, same_Some, Item, ListenEntry, IsDrained, Stream, Prefix, sent_to, Entry, Coming, CrowdEntry, Limits, Choice, payload, Image, Answer, next_parts, Chooses, Effect, Emits, Ends, Fails, Goes, State, Wants, start, Run, after, effect, next, output, SessionEnd, Stop, at_its_end, came_to, holds_at_end, is_end_answer, passed_all, received_at_end, HasPassedAll, IsAccount, Session, journal_of, AtEnd, EndsAt, HasComeTo, IsEnd, answer_of, end_answer, AreGiven, events_of, Rules, entries_of, Episode, Unnoted, noted, Keeping, HasNoted, IsOutcome, Telling, Carries, StopsTrunk, given_to, EndsAfter, GoesOverPort, GoesOverCrowd, End, GoesOver, IsDone, IsServed, Passed, PassedCalls, PassedOver, PassedTrunk, Port, Route, Serves, Several, Trunk, Headline, LastExits, received_items}
+use Rattle.rx_serve.proofs.Terms.{IfSome, List, None, Option, Some, [], ap, append-nil, arith, drop, length, refl, subst, suc, sym, true, zero, ℕ, ◌++◌, ◌∙◌, ◌≡◌, ◌≤◌, length-take-le, take-append-drop, none-some, option_and_then_some, same_Some, Item, IsDrained, Stream, Prefix, sent_to, ListenEntry, Entry, Coming, CrowdEntry, Limits, Choice, payload, Image, Answer, next_parts, Chooses, Effect, Emits, Ends, Fails, Goes, State, Wants, start, Run, after, effect, next, output, SessionEnd, Stop, at_its_end, came_to, holds_at_end, is_end_answer, passed_all, received_at_end, HasPassedAll, IsAccount, Session, journal_of, AtEnd, EndsAt, HasComeTo, IsEnd, answer_of, end_answer, AreGiven, events_of, Rules, entries_of, Episode, Unnoted, noted, Keeping, HasNoted, IsOutcome, Telling, Carries, StopsTrunk, given_to, EndsAfter, GoesOverPort, GoesOverCrowd, End, GoesOver, IsDone, IsServed, Passed, PassedCalls, PassedOver, PassedTrunk, Port, Route, Serves, Several, Trunk, Headline, LastExits, received_items}
 
 ended_of : Option State → Option ℕ
 ended_of None = None

@@ -3,10 +3,9 @@ use Rattle.std.proofs.lemmas.Slice.Eq.{bytes_eq-Decides}
 use Rattle.std.specs.Str.{bytes_eq}
 use Rattle.std.proofs.Common.{◌≢◌}
 use Rattle.command_line.specs.Texts.{Text}
-use Rattle.command_line.specs.Commands.{are_four, are_new, have_six, is_fifth, resume_form}
 use Rattle.command_line.specs.Options.{takes_of, value_of}
 use Rattle.command_line.proofs.Asking.{asked, asked_run, asked_serve, asked_diagnose}
-use Rattle.rx_serve.proofs.Terms.{List, Some, false, not, refl, subst, sym, true, true≢false, ◌&&◌, ◌∙◌, ◌≡◌, and_parts, ◌≢◌, IsThird, AreTwo, DiagnoseValue, ResumeValue, RunValue, ServeValue, command_of, diagnose, diagnose_form, diagnose_value, fits, has_fourth, have_names, is_diagnose, is_resume, is_run, is_serve, positional, resume, resume_value, run, run_form, run_value, serve, serve_form, serve_value, Parts, conns_row, diagnosis_row, port_row, record_row, report_row, names_of, new_names}
+use Rattle.rx_serve.proofs.Terms.{List, Some, false, not, refl, subst, sym, true, true≢false, ◌&&◌, ◌∙◌, ◌≡◌, and_parts, ◌≢◌, IsThird, AreTwo, DiagnoseValue, ResumeValue, RunValue, ServeValue, are_four, are_new, command_of, diagnose, diagnose_form, diagnose_value, fits, has_fourth, have_names, have_six, is_diagnose, is_fifth, is_resume, is_run, is_serve, positional, resume, resume_form, resume_value, run, run_form, run_value, serve, serve_form, serve_value, Parts, conns_row, diagnosis_row, port_row, record_row, report_row, names_of, new_names}
 
 not_alike : (a b : Text) → not (bytes_eq a b) ≡ true → a ≢ b
 not_alike a b differs same = elim (bytes_eq a b) as (λ t. bytes_eq a b ≡ t → not t ≡ true → ⊥) [

@@ -1,7 +1,7 @@
 -- What stands in a session's files at its end, and that the counts of it fit into a record.
 use Rattle.rx_base.specs.declared.fault.IoFault.TheVariants as fault
 use Rattle.run_history.specs.declared.answer.Answer.TheVariants as answer
-use Rattle.rx_serve.proofs.Terms.{Bool, List, None, Ok, Option, Some, [], arith, inl, inr, refl, subst, sym, ℕ, ◌*◌, ◌+◌, ◌<◌, ◌^◌, ◌∙◌, ◌≡◌, ◌≤◌, few_in_all, IoFault, FileCall, Contents, Stream, Choice, Heap, Image, Answer, Stop, is_end_answer, Session, journal_of, IsEnd, answer_of, Rules, Episode, Try, NoneFailed, Shown, noted, few_items, Keeping, Form, MAX_ITEMS, whole_texts, AreAsks, InRecord, InReport, Left, Nothing, unnoted_of, Names, Stands, Options, AreInRange, keeping_for, rules_of, IsHandedLast, IsNoteStop, Outcome, SessionState, HasServedTrunk, RunValue, Outside, outside, status_of, Route, Watches, ClosesFiles, EndsFiles, HaveTexts, IsFilesAnswer, ServesNoted, StartsFiles, WatchesNoted, names_of, report_form}
+use Rattle.rx_serve.proofs.Terms.{Bool, List, None, Ok, Option, Some, [], arith, inl, inr, refl, subst, sym, ℕ, ◌*◌, ◌+◌, ◌<◌, ◌^◌, ◌∙◌, ◌≡◌, ◌≤◌, IoFault, MAX_ITEMS, few_in_all, Stream, FileCall, Contents, Choice, Heap, Image, Answer, Stop, is_end_answer, Session, journal_of, IsEnd, answer_of, Rules, Episode, Try, NoneFailed, Shown, noted, few_items, Keeping, Form, whole_texts, AreAsks, InRecord, InReport, Left, Nothing, unnoted_of, Names, Stands, Options, AreInRange, keeping_for, rules_of, IsHandedLast, IsNoteStop, Outcome, SessionState, HasServedTrunk, RunValue, Outside, outside, status_of, Route, Watches, ClosesFiles, EndsFiles, HaveTexts, IsFilesAnswer, ServesNoted, StartsFiles, WatchesNoted, names_of, report_form}
 use Rattle.rx_serve.proofs.FewSteps.{few_steps}
 use Rattle.session_history.specs.declared.ends.SessionBreak.TheVariants as session_break
 use Rattle.session_history.specs.declared.ends.Stop.TheVariants as stop

@@ -8,7 +8,7 @@ use Rattle.over_port.proofs.CallLemmas.{given_is}
 use Rattle.links.proofs.Moved.{gave}
 use Rattle.over_crowd.specs.Calls as crowd
 use Rattle.over_crowd.proofs.CallLemmas as crowd_lemmas
-use Rattle.rx_serve.proofs.Terms.{List, Some, [], ap, false, map, refl, subst, sym, ℕ, ◌++◌, ◌∙◌, ◌∷◌, ◌≡◌, flat_map, ListenEntry, Send, sent_to, Entry, ComesUntold, Piece, events_in, pieces_in, CrowdEntry, Limits, Image, output, Stop, at_its_end, Session, journal_of, OpensOnce, PassesAtOnce, SentIsPassed, piece_of, IsEnd, IsEnded, OwesNothingAtEnd, answer_of, nothing_before, Rules, is_gone, given_to, CalledPort, CalledCrowd}
+use Rattle.rx_serve.proofs.Terms.{List, Some, [], ap, false, map, refl, subst, sym, ℕ, ◌++◌, ◌∙◌, ◌∷◌, ◌≡◌, flat_map, Send, sent_to, ListenEntry, Entry, ComesUntold, Piece, events_in, pieces_in, CrowdEntry, Limits, Image, output, Stop, at_its_end, Session, journal_of, OpensOnce, PassesAtOnce, SentIsPassed, piece_of, IsEnd, IsEnded, OwesNothingAtEnd, answer_of, nothing_before, Rules, is_gone, given_to, CalledPort, CalledCrowd}
 use Rattle.rx_serve.proofs.CrowdOrder.{several_open_once}
 use Rattle.rx_serve.proofs.PortOrder.{opens_once}
 

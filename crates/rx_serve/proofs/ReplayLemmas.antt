@@ -1,6 +1,6 @@
 -- The command `replay`: what it leaves, from the calls that make it.
 use Rattle.run_history.specs.declared.answer.Answer.TheVariants as answer
-use Rattle.rx_serve.proofs.Terms.{List, Option, inl, inr, subst, ℕ, ◌≡◌, Contents, Stream, Image, IsImage, Answer, Recorded, EndsBy, ReplaysTrunk, ReplayValue, program_limit, Outside, HasFile, HasRecord, HasRecording, HasReplayCause, ReplaysFile, window_in}
+use Rattle.rx_serve.proofs.Terms.{List, Option, inl, inr, subst, ℕ, ◌≡◌, Stream, Contents, Image, IsImage, Answer, Recorded, EndsBy, ReplaysTrunk, ReplayValue, program_limit, Outside, HasFile, HasRecord, HasRecording, HasReplayCause, ReplaysFile, window_in}
 
 -- a program and its record were loaded
 pub has_recording : {told mid : Option Contents} (value : ReplayValue) {program slice : List ℕ} {recording : Recorded} {image : Image} {window : ℕ} → HasFile told value.program program_limit program → mid ≡ told

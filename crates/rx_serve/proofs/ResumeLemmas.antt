@@ -7,7 +7,7 @@ use Rattle.schedule_file.specs.Lines as recording
 use Rattle.schedule_file.specs.declared.recorded.Unfinished.{Unfinished as Read}
 use Rattle.session_following.specs.declared.unfollowed.Unfollowed.TheVariants as unfollowed
 use Rattle.run_history.specs.declared.answer.Answer.TheVariants as answer
-use Rattle.rx_serve.proofs.Terms.{Bool, List, None, Ok, Option, Some, [], ap, append-nil, arith, drop, false, inl, inr, length, refl, rules, subst, suc, sym, take, true, ℕ, ◌*◌, ◌++◌, ◌+◌, ◌<◌, ◌^◌, ◌∙◌, ◌∷◌, ◌≡◌, ◌≤◌, length-take-le, take-append-drop, All-cons, few_in_all, All, AllPairs, Err, IsSome, Result, if◌then◌else◌, slice_index_or, ◌==◌, FileCall, Calls, Rose, Contents, Stream, LinkEvent, Choice, Heap, Image, Answer, Path, Stop, Session, journal_of, HasAnswerCause, IsEnd, answer_of, Rules, Episode, Try, NoneFailed, Shown, noted, rules_behind, Handed, adopted_try, few_items, Keeping, Form, MAX_ITEMS, VERSION, calls_then, whole_texts, whole_texts_behind, AreAsks, AddsAlone, Left, Nothing, unnoted_of, AreTwo, Names, Stands, StandsBehind, report_text, told_text, HasBoth, all_kept, nothing_kept, Options, begun_rules, AreInRange, keeping_for, rules_of, Outcome, rules_by, IsBegun, SessionState, Unfollowed, MayBeHanded, UnnotedBy, stop_as, ResumesBy, ResumesTrunk, StopsFollowing, answer_as, trunk_counts, RunValue, End, Faults, HasFaults, Outside, faults, outside, status_of, options_of, rule_of, rules_of_run, Route, trunk_of, ClosesFiles, EndsFiles, HaveTexts, IsFilesAnswer, ServesNotedBehind, StandsFrom, names_of, report_form, CallsEnding, CallsServedBehind, AreHandedOver, FourTexts, HasResumed, StartsTakenOver, StopsNoted, before_taken, ResumesNoted, ServesOnNoted, resumed_answer}
+use Rattle.rx_serve.proofs.Terms.{Bool, List, None, Ok, Option, Some, [], ap, append-nil, arith, drop, false, inl, inr, length, refl, rules, subst, suc, sym, take, true, ℕ, ◌*◌, ◌++◌, ◌+◌, ◌<◌, ◌^◌, ◌∙◌, ◌∷◌, ◌≡◌, ◌≤◌, length-take-le, take-append-drop, All-cons, All, AllPairs, Err, IsSome, Result, if◌then◌else◌, slice_index_or, ◌==◌, MAX_ITEMS, few_in_all, Rose, Stream, FileCall, Calls, Contents, LinkEvent, Choice, Heap, Image, Answer, Path, Stop, Session, journal_of, HasAnswerCause, IsEnd, answer_of, Rules, Episode, Try, NoneFailed, Shown, noted, rules_behind, Handed, adopted_try, few_items, Keeping, Form, VERSION, calls_then, whole_texts, whole_texts_behind, AreAsks, AddsAlone, Left, Nothing, unnoted_of, AreTwo, Names, Stands, StandsBehind, report_text, told_text, HasBoth, all_kept, nothing_kept, Options, begun_rules, AreInRange, keeping_for, rules_of, Outcome, rules_by, IsBegun, SessionState, Unfollowed, MayBeHanded, UnnotedBy, stop_as, ResumesBy, ResumesTrunk, StopsFollowing, answer_as, trunk_counts, RunValue, End, Faults, HasFaults, Outside, faults, outside, status_of, options_of, rule_of, rules_of_run, Route, trunk_of, ClosesFiles, EndsFiles, HaveTexts, IsFilesAnswer, ServesNotedBehind, StandsFrom, names_of, report_form, CallsEnding, CallsServedBehind, AreHandedOver, FourTexts, HasResumed, StartsTakenOver, StopsNoted, before_taken, ResumesNoted, ServesOnNoted, resumed_answer}
 use Rattle.rx_serve.proofs.FewSteps.{few_steps}
 use Rattle.rx_serve.proofs.GuardLemmas.{keeps_to_blocks}
 use Rattle.rx_serve.proofs.HeadlineLemmas.{headline}

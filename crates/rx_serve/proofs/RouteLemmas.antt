@@ -1,7 +1,7 @@
 -- What a session leaves that served a trunk, a port or a crowd, as that of any route; and what a port leaves that couldn't be bound.
 use Rattle.rx_base.specs.declared.fault.IoFault.TheVariants as fault
 use Rattle.run_history.specs.declared.answer.Answer.TheVariants as answer
-use Rattle.rx_serve.proofs.Terms.{List, None, Option, Some, refl, sym, ℕ, ◌∙◌, ◌≡◌, Err, IoFault, ListenEntry, HasCause, Stream, ComesUntold, CrowdEntry, Limits, Image, Answer, Rules, Try, Noted, Keeping, Outcome, ServesTrunk, WatchesTrunk, ServesPort, ServesCrowd, HasFaults, faults, Port, Serves, Several, Trunk, Watches, IsBindAnswer}
+use Rattle.rx_serve.proofs.Terms.{List, None, Option, Some, refl, sym, ℕ, ◌∙◌, ◌≡◌, Err, IoFault, HasCause, Stream, ListenEntry, ComesUntold, CrowdEntry, Limits, Image, Answer, Rules, Try, Noted, Keeping, Outcome, ServesTrunk, WatchesTrunk, ServesPort, ServesCrowd, HasFaults, faults, Port, Serves, Several, Trunk, Watches, IsBindAnswer}
 
 module _ (rules : Rules) (keeping : Keeping) (image : Image) (source source_later : Option Stream) (sink sink_later : Option (List ℕ)) (outcome : Outcome) (before now : Noted) (counted : ℕ) where
   pub watched_trunk : (tables_before tables : Option (List (List Try))) → WatchesTrunk rules keeping image source source_later sink sink_later outcome before now counted tables_before tables

@@ -3,9 +3,9 @@ pub use Rattle.std.proofs.Common.{Bool, IfSome, List, None, Ok, Option, Some, []
 pub use Rattle.std.proofs.lemmas.Bool.{and_parts, cases_eq, cases_lt, eqb-true, leb-true, ltb-true, ne_eqb, or_cases, or_from, or_parts}
 pub use Rattle.std.proofs.lemmas.List.{length-take-le, take-append-drop}
 pub use Rattle.std.proofs.lemmas.List.Elements.{All-cons, All-from_get_or, All-head, All-nil, All-tail}
-pub use Rattle.rx_base.proofs.Budgets.{few_in_all}
 pub use Rattle.std.proofs.lemmas.Option.{none-some, option_and_then_some, same_Some, slice_get-get_or, slice_get_within}
 pub use Rattle.std.specs.Prelude.{All, AllPairs, Err, IsErrOf, IsSome, IsSomeAnd, MatchOption, Result, Vec, flat_map, if◌then◌else◌, is_some, option_map, slice_get, slice_index_or, ◌==◌, ◌||◌, ◌≢◌, ◌⊎◌}
+pub use Rattle.rx_base.proofs.Budgets.{few_in_all}
 pub use Rattle.links.proofs.Journaled.{events_in-append}
 pub use Rattle.crowd_link.proofs.PlaceLemmas.{number_cases}
 pub use Rattle.run_history.proofs.Repeats.{repeated_keeps}
@@ -18,8 +18,8 @@ pub use Rattle.file_notes.proofs.CallingLemmas.{calls_then, front_all, front_beh
 pub use Rattle.file_notes.proofs.LawLemmas.{whole_texts, whole_texts_behind}
 pub use Rattle.session_state.proofs.ending.StartLemmas.{begun_rules}
 pub use Rattle.command_line.proofs.Ranges.{resumed_in_range, session_in_range}
-pub use Rattle.rx_serve.specs.Terms.{Added, AddsAlone, Answer, AreAllTables, AreAsks, AreGiven, AreHeeded, AreInRange, AreTwo, AtEnd, BeginWith, Binds, BreaksOffTrunk, CalledCrowd, CalledPort, Calls, CallsFront, CallsUpTo, Carries, Choice, Chooses, ComesUntold, Coming, CommandValue, ComparesConverted, Contents, ConvertValue, ConvertsTrunk, Counts, CrowdBinds, CrowdEntry, DiagnoseValue, Difference, DrillEnds, Effect, Emits, Ended, Ends, EndsAfter, EndsAt, EndsBy, Entry, Episode, Fails, FileCall, Form, Global, Goes, GoesOverCrowd, GoesOverPort, Guard, Handed, HasAnswerCause, HasBoth, HasCause, HasComeTo, HasNoted, HasPassedAll, HasRanges, HasServedTrunk, Heap, Image, InRecord, InReport, IoFault, IsAccount, IsAsk, IsBegun, IsChoice, IsComplete, IsDrained, IsEnd, IsEnded, IsHandedLast, IsImage, IsNoteStop, IsOutcome, IsReading, IsReadyToServe, IsRecord, IsThird, Item, Keeping, KeepsToLiveBlocks, Left, Limits, LinkEvent, ListenEntry, Loaded, MAX_ITEMS, Machine, MayBeHanded, Names, NoOtherAnswer, NoOtherEnd, NoneFailed, NoteList, Noted, NotedTablesAreTold, Nothing, OpensOnce, Options, Outcome, Override, OwesNothingAtEnd, Parts, PassesAtOnce, Path, Piece, Prefix, ReadReport, ReadsRecord, ReadsUnfinished, RecordRefusal, Recorded, Refused, ReplayValue, ReplaysTrunk, ResumeValue, ResumesBy, ResumesTrunk, Rose, Rules, Run, RunValue, Send, SendsAreWritten, SentIsPassed, ServeValue, Served, ServesCrowd, ServesOnTrunk, ServesPort, ServesTrunk, Session, SessionEnd, SessionState, Shown, StandbyValue, Stands, StandsBehind, StandsBeside, Started, State, Stop, StopsFollowing, StopsTrunk, Stream, Telling, TellsMore, Try, Turned, Unfinished, Unfollowed, Unnoted, UnnotedBy, VERSION, Wants, WatchesTrunk, Way, WritesSends, adopted_try, after, all_kept, answer_as, answer_of, asm, before_end, bounds_of, choice_line, choice_lines, closes, command_of, convert, convert_shown, count_of, diagnose, diagnose_shown, diagnosis_text, drill, drill_shown, effect, end_answer, entries_of, env_at, events_in, events_of, fits, frame, framing, given_to, handed_of, has_fourth, have_names, head_text, heap_end, heap_start, heeded, is_ask, is_gone, is_line, items_in, journal_of, judged_from, judged_lines, judged_under, keeping_for, line_of, lines_of, lines_text, list_episodes, noted, nothing_before, nothing_kept, onto, origin, output, payload, piece_of, pieces_in, planned_next, positional, record_of, refused_behind, refused_from, refused_line, refused_lines, refused_under, replay, replay_shown, report_text, rest_text, resume, resume_shown, rules_behind, rules_by, rules_of, run, run_in, run_shown, sent_to, serve, serve_shown, standby, standby_shown, starting, starts_of, stop_as, story_of, text_of, texts_of, told_text, trunk_counts, unfinished_last, unfinished_line, unframe, unframing, unnoted_of, written}
-unfoldable pub use Rattle.rx_serve.specs.Terms.{allocated, conns_row, diagnose_form, diagnose_value, diagnosis_row, does, end_line, end_of, head_line, head_of, is_diagnose, is_resume, is_run, is_serve, line_text, next, permits, port_row, received, record_row, refusal, report_row, resume_value, run_form, run_value, serve_form, serve_value, start, start_machine}
+pub use Rattle.rx_serve.specs.Terms.{Added, AddsAlone, Answer, AreAllTables, AreAsks, AreGiven, AreHeeded, AreInRange, AreTwo, AtEnd, BeginWith, Binds, BreaksOffTrunk, CalledCrowd, CalledPort, Calls, CallsFront, CallsUpTo, Carries, Choice, Chooses, ComesUntold, Coming, CommandValue, ComparesConverted, Contents, ConvertValue, ConvertsTrunk, Counts, CrowdBinds, CrowdEntry, DiagnoseValue, Difference, DrillEnds, Effect, Emits, Ended, Ends, EndsAfter, EndsAt, EndsBy, Entry, Episode, Fails, FileCall, Form, Global, Goes, GoesOverCrowd, GoesOverPort, Guard, Handed, HasAnswerCause, HasBoth, HasCause, HasComeTo, HasNoted, HasPassedAll, HasRanges, HasServedTrunk, Heap, Image, InRecord, InReport, IoFault, IsAccount, IsAsk, IsBegun, IsChoice, IsComplete, IsDrained, IsEnd, IsEnded, IsHandedLast, IsImage, IsNoteStop, IsOutcome, IsReading, IsReadyToServe, IsRecord, IsThird, Item, Keeping, KeepsToLiveBlocks, Left, Limits, LinkEvent, ListenEntry, Loaded, MAX_ITEMS, Machine, MayBeHanded, Names, NoOtherAnswer, NoOtherEnd, NoneFailed, NoteList, Noted, NotedTablesAreTold, Nothing, OpensOnce, Options, Outcome, Override, OwesNothingAtEnd, Parts, PassesAtOnce, Path, Piece, Prefix, ReadReport, ReadsRecord, ReadsUnfinished, RecordRefusal, Recorded, Refused, ReplayValue, ReplaysTrunk, ResumeValue, ResumesBy, ResumesTrunk, Rose, Rules, Run, RunValue, Send, SendsAreWritten, SentIsPassed, ServeValue, Served, ServesCrowd, ServesOnTrunk, ServesPort, ServesTrunk, Session, SessionEnd, SessionState, Shown, StandbyValue, Stands, StandsBehind, StandsBeside, Started, State, Stop, StopsFollowing, StopsTrunk, Stream, Telling, TellsMore, Try, Turned, Unfinished, Unfollowed, Unnoted, UnnotedBy, VERSION, Wants, WatchesTrunk, Way, WritesSends, adopted_try, after, all_kept, answer_as, answer_of, are_four, are_new, asm, before_end, bounds_of, choice_line, choice_lines, closes, command_of, convert, convert_shown, count_of, diagnose, diagnose_shown, diagnosis_text, drill, drill_shown, effect, end_answer, entries_of, env_at, events_in, events_of, fits, frame, framing, given_to, handed_of, has_fourth, have_names, have_six, head_text, heeded, is_ask, is_fifth, is_gone, is_line, items_in, journal_of, judged_from, judged_lines, judged_under, keeping_for, line_of, lines_of, lines_text, list_episodes, noted, nothing_before, nothing_kept, onto, origin, output, payload, piece_of, pieces_in, planned_next, positional, record_of, refused_behind, refused_from, refused_line, refused_lines, refused_under, replay, replay_shown, report_text, rest_text, resume, resume_shown, rules_behind, rules_by, rules_of, run, run_in, run_shown, sent_to, serve, serve_shown, standby, standby_shown, starting, starts_of, stop_as, story_of, text_of, texts_of, told_text, trunk_counts, unfinished_last, unfinished_line, unframe, unframing, unnoted_of, written}
+unfoldable pub use Rattle.rx_serve.specs.Terms.{allocated, conns_row, diagnose_form, diagnose_value, diagnosis_row, does, end_line, end_of, head_line, head_of, is_diagnose, is_resume, is_run, is_serve, line_text, next, permits, port_row, received, record_row, refusal, report_row, resume_form, resume_value, run_form, run_value, serve_form, serve_value, start, start_machine}
 pub use Rattle.rx_serve.specs.declared.ending.End.{End}
 pub use Rattle.rx_serve.specs.Limits.{counts_limit, program_limit, record_limit, report_limit}
 pub use Rattle.rx_serve.specs.Outside.{Faults, HasFaults, IsUntouched, Outside, faults, outside}

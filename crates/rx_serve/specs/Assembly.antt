@@ -3,7 +3,7 @@ use Rattle.std.specs.Prelude.{◌≡◌, ◌⊎◌, ℕ, ◌<◌, ◌≤◌, Lis
 use Rattle.rv_asm.specs.Assembling.{IsAssembled, AnswersFault}
 use Rattle.rv_asm.specs.Refusals.{refusal_of}
 use Rattle.run_history.specs.declared.answer.Answer.TheVariants as answer
-use Rattle.rx_serve.specs.Terms.{Rose, Contents, Holds, Prefix, Image, written, Answer}
+use Rattle.rx_serve.specs.Terms.{Rose, Prefix, Contents, Holds, Image, written, Answer}
 use Rattle.rx_serve.specs.Limits.{assembly_window, source_limit}
 use Rattle.rx_serve.specs.Loading.{Has}
 

@@ -1,7 +1,7 @@
 -- Which files a command called by their names, in order.
 use Rattle.std.specs.Prelude.{◌≡◌, ℕ, true, List, [], ◌∷◌, ◌++◌, All, Option, Result, Ok, Err}
 use Rattle.run_history.specs.declared.answer.Answer.TheVariants as answer
-use Rattle.rx_serve.specs.Terms.{FileCall, Loaded, Calls, Prefix, Answer, IsEnd, CallsFront, ending, is_addition, starting, starts_of, ConvertValue, ReplayValue, RunValue}
+use Rattle.rx_serve.specs.Terms.{Prefix, FileCall, Loaded, Calls, Answer, IsEnd, CallsFront, ending, is_addition, starting, starts_of, ConvertValue, ReplayValue, RunValue}
 use Rattle.rx_serve.specs.Noting.{names_of}
 
 -- one call that loads a file was made; where memory ran out, perhaps none

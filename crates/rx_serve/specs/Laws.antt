@@ -1,6 +1,6 @@
 -- What holds of a `run` and of a `serve`, and of a `replay` and a `convert` of the record that a `run` left.
 use Rattle.std.specs.Prelude.{[], ◌≡◌, ◌≢◌, ◌++◌, ℕ, false, List, Option, Some, None, IfSome}
-use Rattle.rx_serve.specs.Terms.{Contents, Stream, Answer, State, output, Stop, journal_of, IsComplete, IsEnd, answer_of, AreHeeded, is_gone, Recorded, VERSION, AreAllHeeded, WritesSends, given_to, CommandValue, ConvertValue, ReplayValue, RunValue, ServeValue}
+use Rattle.rx_serve.specs.Terms.{Stream, Contents, Answer, State, output, Stop, journal_of, IsComplete, IsEnd, answer_of, AreHeeded, is_gone, Recorded, VERSION, AreAllHeeded, WritesSends, given_to, CommandValue, ConvertValue, ReplayValue, RunValue, ServeValue}
 use Rattle.rx_serve.specs.Settings.{rules_of_run}
 use Rattle.command_line.specs.Ranges.{AreInRange}
 use Rattle.over_crowd.specs.Calls as crowd

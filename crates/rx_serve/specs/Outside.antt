@@ -1,7 +1,7 @@
 -- What stands outside of a command at a moment, as far as it tells, and the faults that it has counted.
 use Rattle.std.specs.Prelude.{◌≡◌, ℕ, List, Option}
 use Rattle.run_history.specs.declared.answer.Answer.TheVariants as answer
-use Rattle.rx_serve.specs.Terms.{FileCall, Rose, Contents, Stream, Answer}
+use Rattle.rx_serve.specs.Terms.{Rose, Stream, FileCall, Contents, Answer}
 
 -- what the files tell at a moment, their contents and the calls on them, what the input and the output tell, and how many instructions were counted
 pub record Outside : Type 0 where

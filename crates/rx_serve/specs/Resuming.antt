@@ -9,7 +9,7 @@ use Rattle.session_following.specs.Reaching.{HasAskedBefore, HasNotReached}
 use Rattle.session_following.specs.declared.unfollowed.Unfollowed.TheVariants as unfollowed
 use Rattle.session_history.specs.declared.ends.SessionBreak.TheVariants as session_break
 use Rattle.session_history.specs.declared.ends.Stop.TheVariants as stop
-use Rattle.rx_serve.specs.Terms.{IoFault, FileCall, Calls, Contents, Stream, Prefix, LinkEvent, Coming, events_in, Choice, Image, Answer, Path, Served, origin, answer_of, items_in, Rules, Episode, NoneFailed, AsksForMore, HasFollowed, heard_alone, rules_behind, Handed, plan_of, VERSION, line_of, AreAsks, CallsFront, is_addition, taking_over, Left, unnoted_of, told_text, TakesOverBoth, Unfollowed, IsUnfollowedBy, UnnotedBy, stop_as, TakesUnfollowed, TakesTrunk, WritesWhole, ResumeValue, RunValue, run_in}
+use Rattle.rx_serve.specs.Terms.{IoFault, Stream, Prefix, FileCall, Calls, Contents, LinkEvent, Coming, events_in, Choice, Image, Answer, Path, Served, origin, answer_of, items_in, Rules, Episode, NoneFailed, AsksForMore, HasFollowed, heard_alone, rules_behind, Handed, plan_of, VERSION, line_of, AreAsks, CallsFront, is_addition, taking_over, Left, unnoted_of, told_text, TakesOverBoth, Unfollowed, IsUnfollowedBy, UnnotedBy, stop_as, TakesUnfollowed, TakesTrunk, WritesWhole, ResumeValue, RunValue, run_in}
 use Rattle.rx_serve.specs.declared.ending.End.{End}
 use Rattle.rx_serve.specs.Ended.{HasNoSession}
 use Rattle.rx_serve.specs.Noting.{IsFilesAnswer, StandsFrom, names_of, report_form}

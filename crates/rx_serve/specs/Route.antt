@@ -4,7 +4,7 @@ use Rattle.std.specs.Io.KnownBytes.{Appends}
 use Rattle.session_history.specs.declared.ends.SessionEnd.TheVariants as session_end
 use Rattle.over_crowd.specs.Calls as crowd
 use Rattle.over_crowd.specs.Serving as gathered
-use Rattle.rx_serve.specs.Terms.{ListenEntry, IsDrained, Stream, Prefix, sent_to, ComesUntold, Coming, CrowdEntry, Limits, payload, Image, Answer, output, SessionEnd, Stop, Session, journal_of, AtBreak, IsEnd, Rules, is_open, Try, Noted, Keeping, TellsMore, AreAllTables, IsOutcome, Outcome, Telling, story_of, GoesOverTrunk, RecordsAt, given_to, EndsAfter, GoesOverPort, GoesOverCrowd}
+use Rattle.rx_serve.specs.Terms.{IsDrained, Stream, Prefix, sent_to, ListenEntry, ComesUntold, Coming, CrowdEntry, Limits, payload, Image, Answer, output, SessionEnd, Stop, Session, journal_of, AtBreak, IsEnd, Rules, is_open, Try, Noted, Keeping, TellsMore, AreAllTables, IsOutcome, Outcome, Telling, story_of, GoesOverTrunk, RecordsAt, given_to, EndsAfter, GoesOverPort, GoesOverCrowd}
 use Rattle.rx_serve.specs.Outside.{Outside}
 
 -- A trunk, by what its source and its sink told before and after; or so many connections of a port, one after another, by the calls that its listener

@@ -2,9 +2,8 @@
 use Rattle.std.specs.Prelude.{ℕ, ◌*◌, ◌^◌, Bool, true}
 use Rattle.command_line.specs.declared.run_words.Guard.TheVariants as guarded
 use Rattle.heap_guard.specs.declared.guard.GuardMode.TheVariants as mode
-use Rattle.rx_serve.specs.Terms.{Heap, permits, Rules, Options, rules_of, Guard, RunValue}
+use Rattle.rx_serve.specs.Terms.{MAX_ITEMS, Heap, permits, Rules, Options, rules_of, Guard, RunValue}
 use Rattle.rx_serve.specs.declared.settings.TheConstants.{MAX_EVENTS}
-use Rattle.rx_base.specs.declared.item.TheConstants.{MAX_ITEMS}
 
 -- the bytes of the program's window
 abbrev pub window_of : RunValue → ℕ

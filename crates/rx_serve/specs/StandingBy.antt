@@ -2,7 +2,7 @@
 use Rattle.std.specs.Prelude.{◌≡◌, ◌⊎◌, ℕ, ◌+◌, ◌<◌, ◌≤◌, List, [], ◌∷◌, ◌++◌, length, Option, None, Some, Result, Ok, Err}
 use Rattle.file_notes.specs.Writing as files
 use Rattle.run_history.specs.declared.answer.Answer.TheVariants as answer
-use Rattle.rx_serve.specs.Terms.{IoFault, FileCall, Added, Calls, Contents, Stream, Prefix, Send, sent_to, Entry, Choice, Image, Answer, IsEnd, Recorded, VERSION, choice_lines, end_line, head_line, record_of, text_of, count_of, CallsFront, starts_of, BreaksOffTrunk, FollowsTrunk, ServesOnTrunk, StandbyValue}
+use Rattle.rx_serve.specs.Terms.{IoFault, Stream, Prefix, Send, sent_to, FileCall, Added, Calls, Contents, Entry, Choice, Image, Answer, IsEnd, Recorded, VERSION, choice_lines, end_line, head_line, record_of, text_of, count_of, CallsFront, starts_of, BreaksOffTrunk, FollowsTrunk, ServesOnTrunk, StandbyValue}
 use Rattle.rx_serve.specs.declared.ending.End.{End}
 use Rattle.rx_serve.specs.Ended.{HasNoSession}
 use Rattle.rx_serve.specs.Noting.{IsFilesAnswer}

@@ -1,17 +1,18 @@
 -- The words that this crate's definitions are written in: those of crates below, and types of its code.
 pub use Rattle.std.specs.declared.alloc.Global.{Global}
-pub use Rattle.rx_base.specs.declared.item.Item.{Item}
 pub use Rattle.rx_base.specs.declared.fault.IoFault.{IoFault}
+pub use Rattle.rx_base.specs.declared.item.Item.{Item}
+pub use Rattle.rx_base.specs.declared.item.TheConstants.{MAX_ITEMS}
+pub use Rattle.rx_base.specs.Faults.{HasCause, Rose}
+pub use Rattle.rx_base.specs.Outside.{IsDrained, Stream}
+pub use Rattle.rx_base.specs.Prefix.{Prefix}
+pub use Rattle.rx_base.specs.Sends.{Send, sent_to}
 pub use Rattle.rx_io.specs.declared.file_calls.FileCall.{FileCall}
 pub use Rattle.rx_io.specs.declared.file_calls.FileCall.TheVariants.{Added, Loaded, Started}
 pub use Rattle.rx_io.specs.declared.listener_calls.ListenEntry.{ListenEntry}
 pub use Rattle.rx_io.specs.Calling.{Calls}
-pub use Rattle.rx_base.specs.Faults.{HasCause, Rose}
 pub use Rattle.rx_io.specs.Listening.{Binds}
 pub use Rattle.rx_io.specs.Named.{Contents, Holds}
-pub use Rattle.rx_base.specs.Outside.{IsDrained, Stream}
-pub use Rattle.rx_base.specs.Prefix.{Prefix}
-pub use Rattle.rx_base.specs.Sends.{Send, sent_to}
 pub use Rattle.links.specs.declared.journal.Entry.{Entry}
 pub use Rattle.links.specs.declared.journal.LinkEvent.{LinkEvent}
 pub use Rattle.links.specs.Links.{ComesUntold, Coming, Counts, Piece, events_in, pieces_in}
@@ -26,10 +27,9 @@ pub use Rattle.trunk_text.specs.Framing.{framing}
 pub use Rattle.trunk_text.specs.Turns.{Moved, Turned, Way}
 pub use Rattle.trunk_text.specs.Unframing.{unframing}
 pub use Rattle.guest_image.specs.declared.image.Image.{Image}
-pub use Rattle.guest_image.specs.Image.{heap_end, heap_start}
-pub use Rattle.elf_file.specs.Written.{written}
 pub use Rattle.elf_file.specs.Refusals.{IsImage}
 unfoldable pub use Rattle.elf_file.specs.Refusals.{refusal}
+pub use Rattle.elf_file.specs.Written.{written}
 pub use Rattle.run_history.specs.declared.answer.Answer.{Answer}
 pub use Rattle.run_history.specs.declared.answer.Answer.TheVariants.{AsmRefused, BadWords, CountsRefused, ElfRefused, Exited, FileFault, Finished, GaveUp, InputRefused, LimitEvents, LimitItems, Memory, MessageTooLong, Mismatch, ReadFault, RecordRefused, ReportRefused, Short, TooLarge, WriteFault}
 unfoldable pub use Rattle.run_history.specs.Call.{allocated, received}
@@ -66,7 +66,6 @@ pub use Rattle.schedule_file.specs.declared.recorded.RecordRefusal.{RecordRefusa
 pub use Rattle.schedule_file.specs.declared.recorded.RecordRefusal.TheVariants.{Refused}
 pub use Rattle.schedule_file.specs.declared.recorded.Recorded.{Recorded}
 pub use Rattle.schedule_file.specs.declared.recorded.TheConstants.{VERSION}
-pub use Rattle.rx_base.specs.declared.item.TheConstants.{MAX_ITEMS}
 pub use Rattle.schedule_file.specs.declared.recorded.Unfinished.{Unfinished}
 pub use Rattle.schedule_file.specs.Answers.{ReadsRecord, ReadsUnfinished}
 pub use Rattle.schedule_file.specs.Lines.{choice_line, choice_lines, line_of, lines_text}
@@ -108,8 +107,8 @@ pub use Rattle.over_port.specs.Serving.{CalledPort, EndsAfter, GoesOverPort, Ser
 pub use Rattle.over_crowd.specs.Serving.{CalledCrowd, GoesOverCrowd, ServesCrowd}
 pub use Rattle.drill.specs.Drilling.{DrillEnds}
 pub use Rattle.command_line.specs.declared.run_words.Guard.{Guard}
-pub use Rattle.command_line.specs.Commands.{AsmValue, CommandValue, ConvertValue, DiagnoseValue, DrillValue, ReplayValue, ResumeValue, RunValue, ServeValue, StandbyValue, asm, command_of, convert, convert_shown, diagnose, diagnose_shown, drill, drill_shown, fits, frame, has_fourth, have_names, positional, replay, replay_shown, resume, resume_shown, run, run_in, run_shown, serve, serve_shown, standby, standby_shown, unframe}
-unfoldable pub use Rattle.command_line.specs.Commands.{diagnose_form, diagnose_value, is_diagnose, is_resume, is_run, is_serve, resume_value, run_form, run_value, serve_form, serve_value}
+pub use Rattle.command_line.specs.Commands.{AsmValue, CommandValue, ConvertValue, DiagnoseValue, DrillValue, ReplayValue, ResumeValue, RunValue, ServeValue, StandbyValue, are_four, are_new, asm, command_of, convert, convert_shown, diagnose, diagnose_shown, drill, drill_shown, fits, frame, has_fourth, have_names, have_six, is_fifth, positional, replay, replay_shown, resume, resume_shown, run, run_in, run_shown, serve, serve_shown, standby, standby_shown, unframe}
+unfoldable pub use Rattle.command_line.specs.Commands.{diagnose_form, diagnose_value, is_diagnose, is_resume, is_run, is_serve, resume_form, resume_value, run_form, run_value, serve_form, serve_value}
 pub use Rattle.command_line.specs.Parts.{Parts, texts_of}
 pub use Rattle.command_line.specs.Ranges.{HasRanges}
 unfoldable pub use Rattle.command_line.specs.Table.{conns_row, diagnosis_row, port_row, record_row, report_row}

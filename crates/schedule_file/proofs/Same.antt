@@ -1,7 +1,7 @@
 -- A text has one reading at most, and one where no line is refused.
 use Rattle.std.specs.List.{concat}
 use Rattle.std.proofs.lemmas.Option.{same_Some}
-use Rattle.schedule_file.proofs.Terms.{Bool, IfSome, List, None, Option, Some, [], ap, append_assoc, arith, cond, false, inl, inr, length, refl, subst, sym, true, ℕ, ◌++◌, ◌+◌, ◌<◌, ◌^◌, ◌∙◌, ◌∷◌, ◌≡◌, ◌≤◌, append-nil, flat_map-append, All-cons, All-head, All-nil, All-tail, All, is_some, map, ◌≢◌, Choice, Framing, AreLines, are_lines, is_line-torn, joined, lines_of-line, IsTorn, is_line, lines_of, Finish, Head, Line, Recorded, MAX_ITEMS, MAX_WINDOW, VERSION, Unfinished, choice_line, choice_lines, end_line, head_line, line_of, line_text, lines_text, IsAnswer, IsChoice, IsReading, IsRecord, record_of, text_of, judged_from, judged_lines, judged_under, refused_behind, refused_line, unfinished_last, unfinished_line, unfinished_with, answer_of, end_of, head_of, IsFinish, IsTornBehind, IsUnfinished, IsUnfinishedReading, finish_text, text_before, unfinished_of}
+use Rattle.schedule_file.proofs.Terms.{Bool, IfSome, List, None, Option, Some, [], ap, append_assoc, arith, cond, false, inl, inr, length, refl, subst, sym, true, ℕ, ◌++◌, ◌+◌, ◌<◌, ◌^◌, ◌∙◌, ◌∷◌, ◌≡◌, ◌≤◌, append-nil, flat_map-append, All-cons, All-head, All-nil, All-tail, All, is_some, map, ◌≢◌, MAX_ITEMS, Choice, Framing, AreLines, are_lines, is_line-torn, joined, lines_of-line, IsTorn, is_line, lines_of, Finish, Head, Line, Recorded, MAX_WINDOW, VERSION, Unfinished, choice_line, choice_lines, end_line, head_line, line_of, line_text, lines_text, IsAnswer, IsChoice, IsReading, IsRecord, record_of, text_of, judged_from, judged_lines, judged_under, refused_behind, refused_line, unfinished_last, unfinished_line, unfinished_with, answer_of, end_of, head_of, IsFinish, IsTornBehind, IsUnfinished, IsUnfinishedReading, finish_text, text_before, unfinished_of}
 use Rattle.schedule_file.proofs.LineLemmas.{is_line-line}
 use Rattle.schedule_file.proofs.Written.{head_of-sound, is_head-facts, answer_of-line, answer_of-sound, is_end-facts, end_of-sound}
 use Rattle.schedule_file.proofs.Refusing.{IsRead, cut_head, last_lines, lines_of-last, missing, read_end, read_head, read_torn, reading-missing, refused_too}

@@ -1,5 +1,5 @@
 -- What the code tells of a first line and of a last line.
-use Rattle.schedule_file.proofs.Terms.{Bool, List, None, Some, ap, arith, cond, drop, false, refl, sym, true, ℕ, ◌&&◌, ◌-◌, ◌<◌, ◌^◌, ◌∙◌, ◌≡◌, ◌≤◌, nat_tests, bytes_eq, nat_le, nat_lt, Framing, by_same, not_in_range, behind_digits, clipped, first_number, number_from, second_number, Line, MAX_ITEMS, MAX_WINDOW, VERSION, end_line, head_line, line_text, answer_of, end_of, end_told, frame_told, head_of, head_told, is_answer, is_end, is_head, line_told, window_part, written_end, written_head}
+use Rattle.schedule_file.proofs.Terms.{Bool, List, None, Some, ap, arith, cond, drop, false, refl, sym, true, ℕ, ◌&&◌, ◌-◌, ◌<◌, ◌^◌, ◌∙◌, ◌≡◌, ◌≤◌, nat_tests, bytes_eq, nat_le, nat_lt, MAX_ITEMS, Framing, by_same, not_in_range, behind_digits, clipped, first_number, number_from, second_number, Line, MAX_WINDOW, VERSION, end_line, head_line, line_text, answer_of, end_of, end_told, frame_told, head_of, head_told, is_answer, is_end, is_head, line_told, window_part, written_end, written_head}
 use Rattle.schedule_file.proofs.Written.{head_with, head_same, end_with, end_same}
 
 -- ---- the first line

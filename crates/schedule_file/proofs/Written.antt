@@ -2,7 +2,7 @@
 use Rattle.std.proofs.lemmas.Bool.{and_parts}
 use Rattle.msg_frame.specs.declared.framing.Framing.TheVariants as framing
 use Rattle.text_lines.proofs.Digits.{number-decimal, behind-decimal, two-decimals}
-use Rattle.schedule_file.proofs.Terms.{Bool, List, None, Option, Some, [], ap, arith, drop, false, refl, true, ℕ, ◌&&◌, ◌++◌, ◌<◌, ◌^◌, ◌∙◌, ◌∷◌, ◌≡◌, ◌≤◌, nat_tests, decimal, nat_le, nat_lt, slice_index, ◌==◌, Ask, Calloc, Malloc, Realloc, Framing, by_option, written_complete, written_sound, behind_digits, first_number, number_from, second_number, Finish, Head, Line, MAX_ITEMS, MAX_WINDOW, VERSION, arguments, eight_digits, end_line, frame_name, head_line, letter, line_text, mark, IsAnswer, IsAsk, IsAskOf, WasCalloc, answer_of, ask_told, asked_told, end_of, end_told, frame_told, head_of, head_told, hex_at, is_answer, is_ask, is_ask_of, is_end, is_head, is_marked, line_told, was_calloc, written_end, written_head}
+use Rattle.schedule_file.proofs.Terms.{Bool, List, None, Option, Some, [], ap, arith, drop, false, refl, true, ℕ, ◌&&◌, ◌++◌, ◌<◌, ◌^◌, ◌∙◌, ◌∷◌, ◌≡◌, ◌≤◌, nat_tests, decimal, nat_le, nat_lt, slice_index, ◌==◌, MAX_ITEMS, Ask, Calloc, Malloc, Realloc, Framing, by_option, written_complete, written_sound, behind_digits, first_number, number_from, second_number, Finish, Head, Line, MAX_WINDOW, VERSION, arguments, eight_digits, end_line, frame_name, head_line, letter, line_text, mark, IsAnswer, IsAsk, IsAskOf, WasCalloc, answer_of, ask_told, asked_told, end_of, end_told, frame_told, head_of, head_told, hex_at, is_answer, is_ask, is_ask_of, is_end, is_head, is_marked, line_told, was_calloc, written_end, written_head}
 use Rattle.schedule_file.proofs.Digits.{hex-front}
 
 -- ---- the first line

@@ -1,6 +1,6 @@
 -- What holds of every record and its text.
 use Rattle.std.specs.Prelude.{◌≡◌, ℕ, ◌^◌, ◌<◌, ◌≤◌, true, None, Some, List, ◌++◌, All, length}
-use Rattle.schedule_file.specs.Terms.{Choice, Framing, Finish, Head, Line, Recorded, MAX_ITEMS, MAX_WINDOW, VERSION, Unfinished}
+use Rattle.schedule_file.specs.Terms.{MAX_ITEMS, Choice, Framing, Finish, Head, Line, Recorded, MAX_WINDOW, VERSION, Unfinished}
 use Rattle.schedule_file.specs.Lines.{head_line, line_text, end_line, choice_lines}
 use Rattle.schedule_file.specs.Records.{IsAnswer, IsChoice, IsRecord, IsReading, text_of, record_of}
 use Rattle.schedule_file.specs.Telling.{is_head, head_of, answer_of, is_end, end_of}

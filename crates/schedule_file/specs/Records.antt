@@ -1,6 +1,6 @@
 -- Which values a record may have, and what a reading of a text is.
 use Rattle.std.specs.Prelude.{◌≡◌, ℕ, ◌^◌, ◌<◌, ◌≤◌, true, false, List, map, All, Option, None, Some}
-use Rattle.schedule_file.specs.Terms.{Ask, Calloc, Malloc, Realloc, Choice, is_calloc, Framing, Line, Recorded, MAX_ITEMS, MAX_WINDOW, VERSION}
+use Rattle.schedule_file.specs.Terms.{MAX_ITEMS, Ask, Calloc, Malloc, Realloc, Choice, is_calloc, Framing, Line, Recorded, MAX_WINDOW, VERSION}
 use Rattle.schedule_file.specs.Lines.{line_of, record_text}
 
 -- the numbers of an ask have 32 bits

@@ -3,7 +3,7 @@
 use Rattle.std.specs.Prelude.{ℕ, ◌+◌, ◌-◌, ◌*◌, ◌^◌, Bool, false, not, ◌&&◌, ◌||◌, List, [], ◌∷◌, length, take, drop, Option, Some, None, slice_index, nat_le, nat_lt, if◌then◌else◌, ◌==◌}
 use Rattle.msg_frame.specs.declared.framing.Framing.TheVariants as framing
 use Rattle.text_lines.specs.Written.{if_written}
-use Rattle.schedule_file.specs.Terms.{Ask, Calloc, Malloc, Realloc, is_calloc, Framing, behind_digits, first_number, number_from, second_number, Finish, Head, Line, MAX_ITEMS, MAX_WINDOW, VERSION}
+use Rattle.schedule_file.specs.Terms.{MAX_ITEMS, Ask, Calloc, Malloc, Realloc, is_calloc, Framing, behind_digits, first_number, number_from, second_number, Finish, Head, Line, MAX_WINDOW, VERSION}
 use Rattle.schedule_file.specs.Lines.{head_line, line_text, end_line}
 
 -- the number that a lower-case hexadecimal digit stands for

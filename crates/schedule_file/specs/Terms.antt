@@ -1,5 +1,6 @@
 -- The words that this crate's definitions are written in: those of crates below, and types of its code.
 pub use Rattle.std.specs.Fmt.{decimal}
+pub use Rattle.rx_base.specs.declared.item.TheConstants.{MAX_ITEMS}
 pub use Rattle.block_book.specs.declared.choice.Ask.{Ask}
 pub use Rattle.block_book.specs.declared.choice.Ask.TheVariants.{Calloc, Malloc, Realloc}
 pub use Rattle.block_book.specs.declared.choice.Choice.{Choice}
@@ -14,5 +15,4 @@ pub use Rattle.schedule_file.specs.declared.recorded.RecordRefusal.{RecordRefusa
 pub use Rattle.schedule_file.specs.declared.recorded.RecordRefusal.TheVariants.{Memory, Refused}
 pub use Rattle.schedule_file.specs.declared.recorded.Recorded.{Recorded}
 pub use Rattle.schedule_file.specs.declared.recorded.TheConstants.{MAX_WINDOW, VERSION}
-pub use Rattle.rx_base.specs.declared.item.TheConstants.{MAX_ITEMS}
 pub use Rattle.schedule_file.specs.declared.recorded.Unfinished.{Unfinished}

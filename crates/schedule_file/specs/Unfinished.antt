@@ -1,6 +1,6 @@
 -- The text that a session leaves which is killed: its last line may be missing, and behind the others may stand a torn line.
 use Rattle.std.specs.Prelude.{◌≡◌, ◌^◌, ◌<◌, ◌≤◌, List, ℕ, [], ◌++◌, All, Option, None, Some, IfSome}
-use Rattle.schedule_file.specs.Terms.{IsTorn, Finish, Line, Recorded, MAX_ITEMS, MAX_WINDOW, VERSION, Unfinished}
+use Rattle.schedule_file.specs.Terms.{MAX_ITEMS, IsTorn, Finish, Line, Recorded, MAX_WINDOW, VERSION, Unfinished}
 use Rattle.schedule_file.specs.Lines.{head_line, lines_text, end_line}
 use Rattle.schedule_file.specs.Records.{IsAnswer}
 

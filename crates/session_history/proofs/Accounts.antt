@@ -1,6 +1,7 @@
 -- What each event of a session makes of its account.
 use Rattle.links.specs.declared.journal.Entry.TheVariants as entry
-use Rattle.session_history.proofs.Terms.{Bool, List, [], ap, append_assoc, arith, length, length-append, refl, subst, sym, ℕ, ◌++◌, ◌+◌, ◌∙◌, ◌∷◌, ◌≡◌, ◌≤◌, Item, Prefix, Send, Entry, LinkEvent, items_from, Image, Follows, IsUsed, served_follows, served_is_run, start, start_machine, Run, Limits, Override, Path, Served, origin, heeded_behind, Before, items_in, nothing_before, received, AreInOrder, Covers, IsFeasible, passed_in, Moment, journal, IsDuePiece, Rules, Carries, IsSoundBefore, NothingIsSound}
+use Rattle.session_history.proofs.Terms.{Bool, List, [], ap, append_assoc, arith, length, length-append, refl, subst, sym, ℕ, ◌++◌, ◌+◌, ◌∙◌, ◌∷◌, ◌≡◌, ◌≤◌, Item, Prefix, Send, Entry, LinkEvent, items_from, Image, Follows, IsUsed, served_follows, served_is_run, start, start_machine, Run, Limits, Override, Path, Served, origin, Before, heeded_behind, items_in, nothing_before, received, AreInOrder, Covers, IsFeasible, passed_in, Moment, journal, IsDuePiece, Rules, Carries, IsSoundBefore}
+use Rattle.session_history.specs.Laws.{NothingIsSound}
 use Rattle.session_history.proofs.Paths.{served_same, served_on, served_with}
 use Rattle.session_history.proofs.Growing.{Grows, run_grows}
 use Rattle.session_history.proofs.Passing.{in_order_wider, in_order_then, covers_on, covers_pass, feasible_on, feasible_pass, timed_on}

@@ -1,7 +1,7 @@
 -- Each end has a cause of its own.
 use Rattle.links.specs.declared.journal.Entry.TheVariants as entry
 use Rattle.links.specs.declared.journal.LinkEvent.TheVariants as event
-use Rattle.session_history.proofs.Terms.{List, Option, Some, [], ap, refl, subst, sym, ℕ, ◌++◌, ◌∙◌, ◌∷◌, ◌≡◌, ◌≢◌, same_from_push, none-some, same_Some, unwrap_or, Entry, LinkEvent, Comes, Coming, ComesUntold, HasEnded, IsNext, Refuses, last_taken, IsPieceOf, Fails, Wants, FailsBy, SessionEnd, Bounds, Unheeded, events_of, refusal, Rules, Survivor, IsLastRefused, IsLastTooLong, IsWaiting, StandsAt, OneEnd}
+use Rattle.session_history.proofs.Terms.{List, Option, Some, [], ap, refl, subst, sym, ℕ, ◌++◌, ◌∙◌, ◌∷◌, ◌≡◌, ◌≢◌, same_from_push, none-some, same_Some, unwrap_or, Entry, LinkEvent, Comes, ComesUntold, Coming, HasEnded, IsNext, Refuses, last_taken, IsPieceOf, Fails, Wants, FailsBy, SessionEnd, Bounds, Unheeded, events_of, refusal, Rules, Survivor, IsLastRefused, IsLastTooLong, IsWaiting, StandsAt, OneEnd}
 use Rattle.session_history.specs.declared.ends.SessionEnd.TheVariants as session_end
 use Rattle.run_history.specs.declared.answer.Cause.{Cause}
 use Rattle.session_history.specs.Heeding as unheeded

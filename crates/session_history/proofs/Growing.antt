@@ -1,9 +1,10 @@
 -- What a run adds: sends, each with a number of items taken between those of its ends.
 use Rattle.block_book.specs.Answer.{is_allowed}
+use Rattle.block_book.specs.declared.choice.Ask.{Ask}
 use Rattle.run_history.specs.Machine.{Ends}
 use Rattle.run_history.specs.Call.{received}
 use Rattle.run_history.proofs.Shapes.{Alone, Picks, Same, Shape, Takes, does_shape}
-use Rattle.session_history.proofs.Terms.{Bool, List, None, Option, Some, [], ap, append-nil, append_assoc, arith, cond, false, refl, subst, sym, true, ℕ, ◌++◌, ◌∙◌, ◌∷◌, ◌≡◌, ◌≤◌, none-some, same_Some, slice_get, Ask, Item, Send, Choice, repeated_keeps, allocated_keeps, next_parts, received_keeps, allocated, chooses, takes, Chooses, Effect, Emits, Fails, Goes, Machine, State, Wants, after, does, next, run, AreBetween}
+use Rattle.session_history.proofs.Terms.{Bool, List, None, Option, Some, [], ap, append-nil, append_assoc, arith, cond, false, refl, subst, sym, true, ℕ, ◌++◌, ◌∙◌, ◌∷◌, ◌≡◌, ◌≤◌, none-some, same_Some, slice_get, Item, Send, Choice, repeated_keeps, allocated_keeps, next_parts, received_keeps, allocated, chooses, takes, Chooses, Effect, Emits, Fails, Goes, Machine, State, Wants, after, does, next, run, AreBetween}
 
 -- the second state is the first with more sends
 pub record Grows (first second : State) : Type 0 where

@@ -1,17 +1,10 @@
 -- Why a session over a port isn't answered by a fault of writing, nor by a refusal.
-use Rattle.std.proofs.Common.{None, Some, arith, inl, inr, ℕ, ◌≡◌, ◌≢◌}
-use Rattle.run_history.specs.declared.answer.Answer.{Answer}
 use Rattle.run_history.specs.declared.answer.Answer.TheVariants as answer
-use Rattle.guest_image.specs.declared.image.Image.{Image}
-use Rattle.links.specs.Links.{ComesUntold, Coming, Counts, Refuses}
+use Rattle.session_history.proofs.Terms.{None, Some, arith, inl, inr, ℕ, ◌≡◌, ◌≢◌, ComesUntold, Coming, Counts, Refuses, Image, Answer, Stop, Rules, Session, IsEnded, answer_of}
 use Rattle.session_history.specs.declared.ends.SessionBreak.TheVariants as session_break
 use Rattle.session_history.specs.declared.ends.SessionEnd.TheVariants as session_end
-use Rattle.session_history.specs.declared.ends.Stop.{Stop}
 use Rattle.session_history.specs.declared.ends.Stop.TheVariants as stop
-use Rattle.session_history.specs.Account.{Session}
 use Rattle.session_history.specs.Answering.{HasAnswerCause, port_counts}
-use Rattle.session_history.specs.Ends.{IsEnded, answer_of}
-use Rattle.session_history.specs.Lawful.{Rules}
 use Rattle.session_history.proofs.Ended.{came_to}
 
 -- no answer is a fault of writing, where no count of those rises

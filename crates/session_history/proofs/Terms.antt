@@ -11,7 +11,7 @@ pub use Rattle.run_history.proofs.Outputs.{prefix_sent, prefix_trans, sent_to-mo
 pub use Rattle.run_history.proofs.Repeats.{repeated_add, repeated_from, repeated_join, repeated_keeps}
 pub use Rattle.run_history.proofs.Runs.{allocated_keeps, element_behind, next_after, next_parts, received_keeps}
 pub use Rattle.run_history.proofs.Serves.{Follows, IsUsed, served_follows, served_is_run, served_more, serves_to}
-pub use Rattle.session_history.specs.Terms.{Ask, AsksFor, CLOSED, Choice, Chooses, Closed, Comes, ComesUntold, Coming, Effect, Emits, Ends, Entry, Fails, FailsBy, Framing, Goes, Grant, Grew, Guest, HasEnded, Heard, Image, IsInOrder, IsNext, IsPieceOf, Item, Limits, LinkEvent, Machine, Open, Override, Parts, Path, Phase, Phases, Piece, Prefix, Refuses, Run, Send, Served, State, Unopened, Wants, after, bare_item, behind_items, brought, chooses, connections_after, does_with, env_at, events_in, first_items, guest_of, hear, hear_parts, heard, in_order, is_refused, items_by, items_of, last_taken, message_item, origin, output, phases_after, pieces_in, planned_next, register, rest_of, run, sent_to, serve, takes}
+pub use Rattle.session_history.specs.Terms.{Answer, AsksFor, CLOSED, Choice, Chooses, Closed, Comes, ComesUntold, Coming, Counts, Effect, Emits, Ends, Entry, Fails, FailsBy, Framing, Goes, Grant, Grew, Guest, HasEnded, Heard, Image, IsInOrder, IsNext, IsPieceOf, Item, Limits, LinkEvent, Machine, Open, Override, Parts, Path, Phase, Phases, Piece, Prefix, Refuses, Run, Send, Served, State, Unopened, Wants, after, bare_item, behind_items, brought, chooses, connections_after, does_with, env_at, events_in, first_items, guest_of, hear, hear_parts, heard, in_order, is_refused, items_by, items_of, last_taken, message_item, origin, output, phases_after, pieces_in, planned_next, register, rest_of, run, sent_to, serve, takes}
 unfoldable pub use Rattle.session_history.specs.Terms.{allocated, cut, cut_whole, does, grant, heard_from, items_from, next, no_connections, none_open, served_next, serves, start, start_machine}
 pub use Rattle.session_history.specs.declared.ends.SessionEnd.{SessionEnd}
 pub use Rattle.session_history.specs.declared.ends.Stop.{Stop}
@@ -24,6 +24,5 @@ pub use Rattle.session_history.specs.Lawful.{AreDue, AreLawful, Chapter, IsDue, 
 pub use Rattle.session_history.specs.Account.{HasPassedAll, IsAccount, IsBroken, Session, journal_of}
 pub use Rattle.session_history.specs.Serving.{Carries, Ending, IsSoundBefore, Serving, ending_at, first_survivor, moment_of}
 pub use Rattle.session_history.specs.Giving.{AreGiven}
-pub use Rattle.session_history.specs.Ends.{AtEnd, EndsAt, EndsBy, HasCome, HasComeTo, IsEnd, IsLastRefused, IsLastTooLong, IsWaiting, StandsAt, answer_of, before_end, end_answer}
-pub use Rattle.session_history.specs.Laws.{NothingIsSound}
+pub use Rattle.session_history.specs.Ends.{AtEnd, EndsAt, EndsBy, HasCome, HasComeTo, IsEnd, IsEnded, IsLastRefused, IsLastTooLong, IsWaiting, StandsAt, answer_of, before_end, end_answer}
 pub use Rattle.session_history.specs.AccountLaws.{AreInTurn, IsComplete, LinksOpenOnce, NoOtherAnswer, OneEnd, OpensOnce, PassesAtOnce, SentIsPassed, ServedIsPassed, piece_of}

@@ -7,7 +7,6 @@ pub use Rattle.links.specs.declared.journal.LinkEvent.{LinkEvent}
 pub use Rattle.links.specs.declared.journal.LinkEvent.TheVariants.{Ends}
 pub use Rattle.links.specs.Links.{Closed, Comes, ComesUntold, Coming, Counts, Grew, HasEnded, IsFresh, IsInOrder, IsNext, Open, Phase, Phases, Piece, Refuses, Tells, TellsHanded, Told, Unopened, cut_entries, events_in, last_taken, phases_after, pieces_in}
 pub use Rattle.links.specs.Seen.{Seen}
-pub use Rattle.block_book.specs.declared.choice.Ask.{Ask}
 pub use Rattle.block_book.specs.declared.choice.Choice.{Choice}
 pub use Rattle.msg_frame.specs.declared.framing.Framing.{Framing}
 pub use Rattle.msg_frame.specs.Messages.{Parts}

@@ -1,7 +1,6 @@
 -- What a session is asked for.
 use Rattle.std.specs.Prelude.{ℕ, ◌*◌, ◌/◌, ◌≤◌, ◌^◌, Bool}
-use Rattle.rx_base.specs.declared.item.TheConstants.{MAX_ITEMS}
-use Rattle.session_state.specs.Terms.{Heap, limits_of, Before, nothing_before, Rules, Keeping, Options}
+use Rattle.session_state.specs.Terms.{MAX_ITEMS, Heap, limits_of, Before, nothing_before, Rules, Keeping, Options}
 
 -- each number is in its range
 pub record AreInRange (options : Options) : Type 0 where

@@ -1,11 +1,10 @@
 -- A follower at its start, and where it has caught up or following broke off.
 use Rattle.item_log.specs.Log as logs
-use Rattle.rx_base.specs.declared.item.TheConstants.{MAX_ITEMS}
 use Rattle.run_history.specs.declared.answer.Answer.TheVariants as answer
 use Rattle.run_history.proofs.Connections.{no_connections_may}
 use Rattle.replay.specs.Making.{IsMade}
 use Rattle.replay.specs.declared.player.Player.{Player}
-use Rattle.standby.proofs.Terms.{List, None, Option, Some, [], ap, arith, drop, false, length, refl, subst, sym, true≢false, ℕ, ◌+◌, ◌^◌, ◌∙◌, ◌∷◌, ◌≡◌, both_ways, length-replicate, Err, Result, Send, Entry, tells_nothing, IsFresh, Phases, Seen, Choice, items_from, items_of, Log, Image, Answer, no_connections, start_machine, start_standing, Standing, HasAnswerCause, MayBegin, Bounds, heeded, heeded_behind, items_in, Recorded, Difference, differs_after, found_is, HasGoneOn, replay_start, DiffersBy, HasFound, TellsDifference, AreOpen, AreOpenThen, LinkHears, Stage, has, replay_of, stage_of, LeavesLink, bounds_of, Follower, Unfollowed, AreFollowed, BreaksBy, CatchesUp, EndsAs, FollowsBy, HasBroken, IsBroken, IsFollowing, IsUnderWay, LinkCatches, kept_to}
+use Rattle.standby.proofs.Terms.{List, None, Option, Some, [], ap, arith, drop, false, length, refl, subst, sym, true≢false, ℕ, ◌+◌, ◌^◌, ◌∙◌, ◌∷◌, ◌≡◌, both_ways, length-replicate, Err, Result, MAX_ITEMS, Send, Entry, tells_nothing, IsFresh, Phases, Seen, Choice, items_from, items_of, Log, Image, Answer, no_connections, start_machine, start_standing, Standing, HasAnswerCause, MayBegin, Bounds, heeded, heeded_behind, items_in, Recorded, Difference, differs_after, found_is, HasGoneOn, replay_start, DiffersBy, HasFound, TellsDifference, AreOpen, AreOpenThen, LinkHears, Stage, has, replay_of, stage_of, LeavesLink, bounds_of, Follower, Unfollowed, AreFollowed, BreaksBy, CatchesUp, EndsAs, FollowsBy, HasBroken, IsBroken, IsFollowing, IsUnderWay, LinkCatches, kept_to}
 
 -- a follower that turns
 pub record HasTurned (Went : Type 0) (image : Image) (recording : Recorded) (before now : Seen) (counter later : ℕ) (follower : Follower) : Type 0 where

@@ -4,8 +4,7 @@ use Rattle.links.specs.declared.journal.Entry.TheVariants as entry
 use Rattle.links.specs.declared.journal.LinkEvent.TheVariants as event
 use Rattle.run_history.specs.declared.answer.Answer.TheVariants as answer
 use Rattle.session_history.specs.Heeding as unheeded
-use Rattle.standby.specs.Terms.{Item, Prefix, sent_to, Entry, LinkEvent, Coming, HasEnded, IsNext, Refuses, Tells, Told, events_in, pieces_in, Seen, Choice, is_bare, Image, Answer, Run, AsksFor, FailsBy, IsLaidOut, Limits, Path, Served, guest_of, IsLastRefused, IsLastTooLong, heeded, items_in, received, Recorded, count_of, AreOfLines, bounds_of}
-use Rattle.rx_base.specs.declared.item.TheConstants.{KEEP}
+use Rattle.standby.specs.Terms.{Item, KEEP, Prefix, sent_to, Entry, LinkEvent, Coming, HasEnded, IsNext, Refuses, Tells, Told, events_in, pieces_in, Seen, Choice, is_bare, Image, Answer, Run, AsksFor, FailsBy, IsLaidOut, Limits, Path, Served, guest_of, IsLastRefused, IsLastTooLong, heeded, items_in, received, Recorded, count_of, AreOfLines, bounds_of}
 use Rattle.standby.specs.declared.follower.Follower.{Follower}
 use Rattle.standby.specs.Following.{HasCaughtUp}
 use Rattle.standby.specs.Missing.{AllGiven, PartGiven}

@@ -1,7 +1,7 @@
 -- One call on a trunk, as a part of how it goes on.
 use Rattle.links.specs.declared.journal.Given.TheVariants.{All as Whole}
 use Rattle.links.specs.declared.journal.LinkEvent.TheVariants as event
-use Rattle.trunk_wire.proofs.Terms.{Bool, Err, List, Ok, Result, Some, [], append-nil, false, is_ok, length, refl, subst, sym, true, ℕ, ◌++◌, ◌<◌, ◌^◌, ◌∙◌, ◌∷◌, ◌≡◌, All-cons, All-nil, IsDrained, Prefix, CONNECTIONS, Given, Gone, LinkEvent, LinkFault, Memory, ReadFault, Refused, WriteFault, Enters, IsInOrder, Piece, phases_after, IsFrameOf, piece_frame, HasOffset, Reads, TakesBy, Writes, WritesBy, count_after, count_nothing, refusal_in, Intake, IsCut, IsFramed, IsTail, Output, TookFrames, WroteFrames}
+use Rattle.trunk_wire.proofs.Terms.{Bool, Err, List, Ok, Result, Some, [], append-nil, false, is_ok, length, refl, subst, sym, true, ℕ, ◌++◌, ◌<◌, ◌^◌, ◌∙◌, ◌∷◌, ◌≡◌, All-cons, All-nil, CONNECTIONS, IsDrained, Prefix, Given, Gone, LinkEvent, LinkFault, Memory, ReadFault, Refused, WriteFault, Enters, IsInOrder, Piece, phases_after, IsFrameOf, piece_frame, HasOffset, Reads, TakesBy, Writes, WritesBy, count_after, count_nothing, refusal_in, Intake, IsCut, IsFramed, IsTail, Output, TookFrames, WroteFrames}
 
 -- the frame of an event was taken
 took_frame : (old new : Intake) (event : LinkEvent) (bytes : List ℕ) → new.takes ≡ true → Reads old.told new.told old.took new.took bytes → IsFrameOf event bytes → IsInOrder old.phases event

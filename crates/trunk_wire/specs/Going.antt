@@ -1,6 +1,6 @@
 -- How a trunk goes on: what it takes from its source and writes to its sink over any number of calls.
 use Rattle.std.specs.Prelude.{◌≡◌, ℕ, ◌^◌, ◌<◌, Bool, true, false, All, List, [], ◌∷◌, ◌++◌, length, Option, None, Some}
-use Rattle.trunk_wire.specs.Terms.{IsDrained, Stream, Prefix, CONNECTIONS, LinkEvent, Handed, IsInOrder, Phases, Piece, phases_after}
+use Rattle.trunk_wire.specs.Terms.{CONNECTIONS, IsDrained, Stream, Prefix, LinkEvent, Handed, IsInOrder, Phases, Piece, phases_after}
 use Rattle.trunk_wire.specs.Calls.{Reads, Writes, count_after, IsRefused}
 use Rattle.trunk_wire.specs.Frames.{AreFramesOf, piece_frame, frames}
 use Rattle.trunk_wire.specs.Grammar.{Part, front}

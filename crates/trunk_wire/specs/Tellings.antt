@@ -1,6 +1,6 @@
 -- What a trunk tells of the bytes that it took and wrote.
 use Rattle.std.specs.Prelude.{ℕ, zero, suc, nat_le, Bool, true, false, ◌&&◌, List, [], ◌∷◌, length, Option, None, Some, Result, Ok, Err, option_map, if◌then◌else◌}
-use Rattle.trunk_wire.specs.Terms.{Stream, CONNECTIONS, LinkEvent, LinkFault, Refused, Closed, Coming, Open, Phase, Phases, Piece, Refuses, Told, Unopened}
+use Rattle.trunk_wire.specs.Terms.{CONNECTIONS, Stream, LinkEvent, LinkFault, Refused, Closed, Coming, Open, Phase, Phases, Piece, Refuses, Told, Unopened}
 use Rattle.trunk_wire.specs.Grammar.{event_at}
 use Rattle.trunk_wire.specs.Parts.{last_bytes}
 use Rattle.trunk_wire.specs.declared.refusal.Refusal.{Refusal}

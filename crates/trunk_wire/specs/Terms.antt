@@ -1,9 +1,9 @@
 -- The words that this crate's definitions are written in: those of crates below, and types of its code.
 pub use Rattle.std.specs.Io.KnownBytes.{Appends}
 pub use Rattle.rx_base.specs.declared.fault.IoFault.{IoFault}
+pub use Rattle.rx_base.specs.declared.item.TheConstants.{CONNECTIONS}
 pub use Rattle.rx_base.specs.Outside.{IsDrained, Stream, Took}
 pub use Rattle.rx_base.specs.Prefix.{Prefix}
-pub use Rattle.rx_base.specs.declared.item.TheConstants.{CONNECTIONS}
 pub use Rattle.links.specs.declared.journal.Entry.{Entry}
 pub use Rattle.links.specs.declared.journal.Given.{Given}
 pub use Rattle.links.specs.declared.journal.Given.TheVariants.{All, Gone}

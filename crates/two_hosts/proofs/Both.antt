@@ -1,23 +1,13 @@
 -- What clients had of both hosts, and the run that emits it.
 use Rattle.std.proofs.Common.{List, [], ap, append-nil, refl, subst, sym, take, ℕ, ◌++◌, ◌∙◌, ◌∷◌, ◌≡◌}
-use Rattle.rx_base.specs.declared.item.Item.{Item}
-use Rattle.rx_base.specs.Prefix.{Prefix}
-use Rattle.rx_base.specs.Sends.{sent_to}
 use Rattle.links.specs.Links.{events_in}
-use Rattle.run_history.specs.Served.{Limits, Path, Served, origin}
 use Rattle.run_history.proofs.Outputs.{sent_to-append}
-use Rattle.session_history.specs.Account.{journal_of}
-use Rattle.session_history.specs.Heeding.{events_of}
-use Rattle.session_history.specs.Passing.{passed_behind}
 use Rattle.session_history.proofs.Closing.{items_longer}
 use Rattle.session_history.proofs.Heeding.{events_alone, items_in-alike}
-use Rattle.follow.specs.Held.{count_of, held}
-use Rattle.follow.specs.Handed.{HasReached, Stand}
-use Rattle.follow.specs.Takeover.{IsFollowed, IsTakeover, Takeover, passed_first, plan_in}
-use Rattle.follow.specs.Following.{heard_alone}
 use Rattle.follow.proofs.Agreed.{held_at_release}
 use Rattle.follow.proofs.Behind.{followed_is_past}
 use Rattle.follow.proofs.Placed.{episodes_are_placed}
+use Rattle.two_hosts.specs.Terms.{Item, Prefix, sent_to, Limits, Path, Served, origin, journal_of, events_of, passed_behind, heard_alone, HasReached, Stand, count_of, held, IsFollowed, IsTakeover, Takeover, passed_first, plan_in}
 use Rattle.two_hosts.specs.Hosts.{AreHosts, Hosts, emitted, given_by_second, had_of_first, items_followed, items_of_second, rules_of_second}
 use Rattle.two_hosts.specs.Rows.{AreInRow, given_in_row}
 use Rattle.two_hosts.specs.Laws.{AllAreOne, BothArePassed, HostsAreOne, ItemsGoOn, ThirdTakesOver}

@@ -1,24 +1,14 @@
 -- Something meets what the laws ask for.
 use Rattle.std.proofs.Common.{List, None, [], ap, append-nil, arith, false, length, length-append, refl, subst, sym, ◌++◌, ◌∷◌, ◌≡◌}
-use Rattle.rx_base.specs.declared.item.Item.{Item}
-use Rattle.rx_base.specs.Prefix.{Prefix}
-use Rattle.links.specs.declared.journal.LinkEvent.{LinkEvent}
 use Rattle.item_log.specs.Heard.{items_from, items_of}
 use Rattle.guest_image.specs.declared.image.Image.{Image}
-use Rattle.run_history.specs.Served.{origin}
-use Rattle.session_history.specs.Account.{IsAccount, Session}
-use Rattle.session_history.specs.Heeding.{AreHeeded, Bounds, heeded_behind, items_in, nothing_before}
-use Rattle.session_history.specs.Lawful.{Rules}
-use Rattle.session_history.specs.Serving.{IsSoundBefore, first_survivor}
 use Rattle.session_history.proofs.Endings.{ending_account, ending_none}
 use Rattle.session_history.proofs.Heeding.{events_alone}
 use Rattle.session_history.proofs.Paths.{served_same}
 use Rattle.session_history.proofs.Sessions.{serving_first}
-use Rattle.follow.specs.Handed.{Handed, IsHandedBy, Stand}
-use Rattle.follow.specs.Takeover.{IsTakeover, Takeover}
-use Rattle.follow.specs.Following.{HasFollowed, rules_behind}
 use Rattle.follow.proofs.Behind.{followed_is_sound}
 use Rattle.follow.proofs.Runs.{same_limits}
+use Rattle.two_hosts.specs.Terms.{Item, Prefix, LinkEvent, origin, IsAccount, Session, AreHeeded, Bounds, heeded_behind, items_in, nothing_before, Rules, IsSoundBefore, first_survivor, HasFollowed, rules_behind, Handed, IsHandedBy, Stand, IsTakeover, Takeover}
 use Rattle.two_hosts.specs.Hosts.{AreHosts, Hosts, items_of_second, rules_of_second, takeover_of_second}
 use Rattle.two_hosts.specs.Rows.{AreInRow}
 use Rattle.two_hosts.proofs.Both.{third_takes_over}

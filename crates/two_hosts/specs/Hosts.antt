@@ -1,20 +1,7 @@
 -- A host that was killed, and the one that went on for it.
 use Rattle.std.specs.Prelude.{◌≡◌, ℕ, List, [], take}
-use Rattle.rx_base.specs.declared.item.Item.{Item}
-use Rattle.rx_base.specs.Prefix.{Prefix}
-use Rattle.rx_base.specs.Sends.{sent_to}
-use Rattle.links.specs.declared.journal.LinkEvent.{LinkEvent}
 use Rattle.run_history.specs.Run.{output}
-use Rattle.run_history.specs.Served.{Limits, Path}
-use Rattle.session_history.specs.Account.{IsAccount, Session, journal_of}
-use Rattle.session_history.specs.Heeding.{items_in}
-use Rattle.session_history.specs.Lawful.{Rules}
-use Rattle.session_history.specs.Passing.{passed_behind}
-use Rattle.trials.specs.Episodes.{Recovery}
-use Rattle.follow.specs.Held.{count_of}
-use Rattle.follow.specs.Handed.{Handed}
-use Rattle.follow.specs.Takeover.{IsTakeover, Takeover, passed_first}
-use Rattle.follow.specs.Following.{HasFollowed, heard_alone, rules_behind}
+use Rattle.two_hosts.specs.Terms.{Item, Prefix, sent_to, LinkEvent, Limits, Path, IsAccount, Session, journal_of, items_in, Rules, passed_behind, Recovery, HasFollowed, heard_alone, rules_behind, Handed, count_of, IsTakeover, Takeover, passed_first}
 
 -- Both as data: the first host up to where it stopped, with what it handed over; the second one's rules, the events that it followed, where its run stood
 -- when it was released, and its session behind that.

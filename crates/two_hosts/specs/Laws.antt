@@ -1,18 +1,8 @@
 -- What holds of a host that was killed and of the one that went on for it.
 use Rattle.std.specs.Prelude.{◌≡◌, ℕ, true, List, [], ◌∷◌, ◌++◌}
-use Rattle.rx_base.specs.declared.item.Item.{Item}
-use Rattle.rx_base.specs.Prefix.{Prefix}
-use Rattle.rx_base.specs.Sends.{sent_to}
-use Rattle.run_history.specs.Served.{Limits}
-use Rattle.session_history.specs.Account.{HasPassedAll, journal_of}
-use Rattle.session_history.specs.Heeding.{nothing_before}
 use Rattle.session_history.specs.Opened.{is_open}
-use Rattle.session_history.specs.Passing.{passed_in}
-use Rattle.session_history.specs.Serving.{first_survivor}
-use Rattle.trials.specs.Episodes.{AreRecovered, Recovery}
 use Rattle.follow.specs.Runs.{AreWider}
-use Rattle.follow.specs.Handed.{Handed, IsHandedBy}
-use Rattle.follow.specs.Takeover.{IsTakeover}
+use Rattle.two_hosts.specs.Terms.{Item, Prefix, sent_to, Limits, HasPassedAll, journal_of, nothing_before, passed_in, first_survivor, AreRecovered, Recovery, Handed, IsHandedBy, IsTakeover}
 use Rattle.two_hosts.specs.Hosts.{AreHosts, Hosts, emitted, given_by_second, had_of_first, items_followed, items_of_second, rules_of_second, takeover_of_second}
 use Rattle.two_hosts.specs.Rows.{AreInRow, given_in_row}
 

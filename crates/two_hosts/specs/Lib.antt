@@ -1,3 +1,4 @@
+pub mod Terms
 pub mod Hosts
 pub mod Rows
 pub mod Laws

@@ -1,6 +1,6 @@
 -- Any number of hosts in a row, each of which went on for the one before it.
 use Rattle.std.specs.Prelude.{◌≡◌, ℕ, List, [], ◌∷◌, ◌++◌, take}
-use Rattle.follow.specs.Held.{count_of}
+use Rattle.two_hosts.specs.Terms.{count_of}
 use Rattle.two_hosts.specs.Hosts.{AreHosts, Hosts, given_by_second, had_of_first, takeover_of_second}
 
 -- of two and two hosts the first of the later ones is the second of the earlier ones

@@ -1,6 +1,5 @@
 -- Where a session stands at its begin, and after each turn.
 use Rattle.item_log.specs.Log as logs
-use Rattle.rx_base.specs.declared.item.TheConstants.{MAX_ITEMS}
 use Rattle.reply_ledger.specs.Inside as I
 use Rattle.reply_ledger.specs.Shows as S
 use Rattle.reply_ledger.specs.Ledger as ledgers
@@ -11,7 +10,7 @@ use Rattle.run_history.specs.Machine as M
 use Rattle.session_history.specs.Heeding as H
 use Rattle.session_history.proofs.Accounts.{nothing_is_sound}
 use Rattle.session_state.proofs.Lemmas.{in_force_by, none_noted, tells_none, watched_kept, known_same}
-use Rattle.session_state.proofs.Terms.{Bool, List, None, Option, [], ap, arith, drop, false, inl, inr, length, refl, subst, suc, sym, take, true, zero, ℕ, ◌*◌, ◌++◌, ◌+◌, ◌-◌, ◌/◌, ◌<◌, ◌^◌, ◌∙◌, ◌∷◌, ◌≡◌, ◌≤◌, replicate, slice_get, Send, tells_nothing, Grew, IsFresh, Seen, Heap, Framing, Log, Ledger, no_replies, Image, Answer, no_connections, Path, origin, runs_start, CpuState, standing_of, Standing, served_same, serving_first, items_in, nothing_before, KeepsReplies, Rules, Stands, CanGive, Try, Noted, Shown, recovered_first, in_force_none, oldest_kept, handled_first, none_followed, alone, keeping_by, stands_of, KeepsRing, Options, keeping_for, rules_in, rules_of, IsBegun, SessionState, AreTables, HasWatched, IsTrimmed, LeavesBy, keeping_of, IsBetween, Since, Story, told_since, GoesFurther, HasSameFrame, HasServedLink, HasServedOn, IsCounted, MayServe, StaysKnown, outcome_of, rules_by}
+use Rattle.session_state.proofs.Terms.{Bool, List, None, Option, [], ap, arith, drop, false, inl, inr, length, refl, subst, suc, sym, take, true, zero, ℕ, ◌*◌, ◌++◌, ◌+◌, ◌-◌, ◌/◌, ◌<◌, ◌^◌, ◌∙◌, ◌∷◌, ◌≡◌, ◌≤◌, replicate, slice_get, MAX_ITEMS, Send, tells_nothing, Grew, IsFresh, Seen, Heap, Framing, Log, Ledger, no_replies, Image, Answer, no_connections, Path, origin, runs_start, CpuState, standing_of, Standing, served_same, serving_first, items_in, nothing_before, KeepsReplies, Rules, Stands, CanGive, Try, Noted, Shown, recovered_first, in_force_none, oldest_kept, handled_first, none_followed, alone, keeping_by, stands_of, KeepsRing, Options, keeping_for, rules_in, rules_of, IsBegun, SessionState, AreTables, HasWatched, IsTrimmed, LeavesBy, keeping_of, IsBetween, Since, Story, told_since, GoesFurther, HasSameFrame, HasServedLink, HasServedOn, IsCounted, MayServe, StaysKnown, outcome_of, rules_by}
 use Rattle.session_state.proofs.ending.LeavingLemmas.{start_trimmed}
 use Rattle.session_state.proofs.standing.FrameLemmas.{same_rules}
 

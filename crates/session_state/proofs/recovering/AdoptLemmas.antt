@@ -1,6 +1,5 @@
 -- What a failure makes of a session: it goes on as a trial, or gives up.
 use Rattle.session_history.specs.declared.ends.Stop.TheVariants as stop
-use Rattle.rx_base.specs.declared.item.TheConstants.{MAX_ITEMS}
 use Rattle.std.proofs.lemmas.List.Sums.{sum_by-append}
 use Rattle.session_history.specs.declared.ends.SessionBreak.TheVariants as session_break
 use Rattle.session_history.specs.declared.ends.SessionEnd.TheVariants as session_end
@@ -8,7 +7,7 @@ use Rattle.trials.specs.EpisodeLaws.{GoesOnAs}
 use Rattle.trials.proofs.Recovered.{recovery_adopts}
 use Rattle.recovery.specs.Walking.{HasBegun}
 use Rattle.session_state.proofs.Lemmas.{held_by, held_of, note_at_none, rings_of, account_of, journal_of_story, owes_nothing, answers_as, broken_counting, broken_noting, none_lost, none_noted, notes_here, notes_missed, received_is, TellsOne, tables_given_up, tables_here, tables_memory, tables_then, told_unwatched, note_ends, note_handed}
-use Rattle.session_state.proofs.Terms.{List, None, Option, Some, [], ap, append-nil, arith, drop, inl, inr, length, map, refl, subst, suc, sym, take, zero, ℕ, ◌++◌, ◌+◌, ◌-◌, ◌<◌, ◌^◌, ◌∙◌, ◌∷◌, ◌≡◌, ◌≤◌, ◌⊎◌, map-append, none-some, option_map, sum, Entry, grew_more, Grew, Tells, Told, Seen, Choice, Env, Log, Image, Cause, Fails, Wants, AsksFor, FailsBy, Limits, Override, Path, CpuState, Standing, SessionBreak, served_same, entries_of-then, serving_account, serving_adopts, events_of, heeded, items_in, KeepsItems, KeepsPhases, KeepsReplies, LeavesNothing, Rules, Survivor, entries_of, opens, first_survivor, Episode, Try, Noted, noted, asks_under_all, steps_later, recovered_then, AreChained, AreRecovered, IsRecovery, Recovery, adopted_by, episode_of, Trial, survivor_in, table, Recovered, Adopted, handled_adopts, has_ring, stands_up_to, ring_fails, HasHandled, HasRing, Keeping, keeping_by, stands_of, HasAdoptedRun, HasRecovery, HasToRecover, KeepsSlots, LeavesRun, LeavesSession, recovery_of, AreBehind, IsInForce, KeepsRing, Failure, Held, taken_in, steps_of, TellsMore, TellsTable, SessionState, held_in, AllAnswered, AreTables, HasGivenUp, IsNoteFault, TriedOn, Walk, spent, walk_behind, HoldsCheckpoints, keeping_of, AnswersFor, HasMissed, HasNotedMore, IsBrokenOff, IsEnding, IsFailing, IsGoing, IsTold, Since, Story, entries, unwatched, Adopting, AdoptsTo, end_of}
+use Rattle.session_state.proofs.Terms.{List, None, Option, Some, [], ap, append-nil, arith, drop, inl, inr, length, map, refl, subst, suc, sym, take, zero, ℕ, ◌++◌, ◌+◌, ◌-◌, ◌<◌, ◌^◌, ◌∙◌, ◌∷◌, ◌≡◌, ◌≤◌, ◌⊎◌, map-append, none-some, option_map, sum, MAX_ITEMS, Entry, grew_more, Grew, Tells, Told, Seen, Choice, Env, Log, Image, Cause, Fails, Wants, AsksFor, FailsBy, Limits, Override, Path, CpuState, Standing, SessionBreak, served_same, entries_of-then, serving_account, serving_adopts, events_of, heeded, items_in, KeepsItems, KeepsPhases, KeepsReplies, LeavesNothing, Rules, Survivor, entries_of, opens, first_survivor, Episode, Try, Noted, noted, asks_under_all, steps_later, recovered_then, AreChained, AreRecovered, IsRecovery, Recovery, adopted_by, episode_of, Trial, survivor_in, table, Recovered, Adopted, handled_adopts, has_ring, stands_up_to, ring_fails, HasHandled, HasRing, Keeping, keeping_by, stands_of, HasAdoptedRun, HasRecovery, HasToRecover, KeepsSlots, LeavesRun, LeavesSession, recovery_of, AreBehind, IsInForce, KeepsRing, Failure, Held, taken_in, steps_of, TellsMore, TellsTable, SessionState, held_in, AllAnswered, AreTables, HasGivenUp, IsNoteFault, TriedOn, Walk, spent, walk_behind, HoldsCheckpoints, keeping_of, AnswersFor, HasMissed, HasNotedMore, IsBrokenOff, IsEnding, IsFailing, IsGoing, IsTold, Since, Story, entries, unwatched, Adopting, AdoptsTo, end_of}
 
 -- what was spent with one recovery more
 spent_more : (recoveries : List Recovery) (recovery : Recovery) → spent (recoveries ++ recovery ∷ []) ≡ spent recoveries + ((recovery.survivor.now.steps - recovery.survivor.begun.steps) + steps_of recovery.trials)

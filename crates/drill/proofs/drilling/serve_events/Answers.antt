@@ -1,6 +1,5 @@
-use Rattle.drill.proofs.Terms.{Some, ap, sym, ◌-◌, ◌∙◌, ◌≡◌, Script, Stop, answer_of, list_choices, list_episodes, outcome_of, end_status, passed_bytes, refuses_none}
-use Rattle.session_state.specs.Serving.{rules_by}
 use Rattle.session_state.proofs.ending.StartLemmas.{begun_rules}
+use Rattle.drill.proofs.Terms.{Some, ap, sym, ◌-◌, ◌∙◌, ◌≡◌, Script, Stop, answer_of, list_choices, list_episodes, outcome_of, rules_by, end_status, passed_bytes, refuses_none}
 use Rattle.drill.proofs.DrillLemmas.{ends_with, sums_up}
 use Rattle.drill.proofs.drilling.serve_events.Goals as goal
 

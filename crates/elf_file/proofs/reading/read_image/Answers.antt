@@ -1,5 +1,4 @@
-use Rattle.elf_file.proofs.Terms.{List, None, Some, ap₂, arith, length, map, refl, rules, sym, ℕ, ◌∙◌, ◌≡◌, All-same, filter, Segment, HasBytes, IsPlaced, layout_refusal, is_loaded, place_of, segment_of, header_refusal, table_refusal}
-use Rattle.elf_file.specs.ProgramFile.{program_headers}
+use Rattle.elf_file.proofs.Terms.{List, None, Some, ap₂, arith, length, map, refl, rules, sym, ℕ, ◌∙◌, ◌≡◌, All-same, filter, Segment, HasBytes, IsPlaced, layout_refusal, is_loaded, place_of, program_headers, segment_of, header_refusal, table_refusal}
 use Rattle.elf_file.proofs.Refusing.{header_lies, few_segments, segments_unrefused, all_placed, all_full, segments_are, layout_is, refused_by_header, refused_by_table, refused_by_layout}
 use Rattle.elf_file.proofs.reading.read_image.Goals as goal
 

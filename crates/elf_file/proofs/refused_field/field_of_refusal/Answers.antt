@@ -1,5 +1,4 @@
-use Rattle.elf_file.proofs.Terms.{None, ap, arith, length, rules, subst, sym, true, ◌∙◌, ◌≡◌, is_some, header_refusal, HasTable}
-use Rattle.elf_file.specs.ProgramFile.{program_headers}
+use Rattle.elf_file.proofs.Terms.{None, ap, arith, length, rules, subst, sym, true, ◌∙◌, ◌≡◌, is_some, program_headers, header_refusal, HasTable}
 use Rattle.elf_file.proofs.Headers.{has_table}
 use Rattle.elf_file.proofs.Refusing.{header_lies}
 use Rattle.elf_file.proofs.Found.{header_field_found}

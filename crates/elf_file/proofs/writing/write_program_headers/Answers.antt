@@ -1,4 +1,5 @@
-use Rattle.elf_file.proofs.Terms.{ap, drop, length, subst, sym, ◌++◌, ◌+◌, ◌∙◌, take_all, All-more, All-same, Segment, HasWordFlags, file_bytes, program_headers}
+use Rattle.elf_file.proofs.Terms.{ap, drop, length, subst, sym, ◌++◌, ◌+◌, ◌∙◌, take_all, All-more, All-same, Segment, HasWordFlags, file_bytes}
+use Rattle.elf_file.specs.Written.{program_headers}
 use Rattle.elf_file.proofs.Written.{headers_more, place_more}
 use Rattle.elf_file.proofs.writing.write_program_headers.Goals as goal
 

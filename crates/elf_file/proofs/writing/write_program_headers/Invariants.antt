@@ -1,4 +1,5 @@
-use Rattle.elf_file.proofs.Terms.{drop, length, take, ◌*◌, ◌++◌, ◌+◌, ◌≡◌, All, HasWordFlags, file_bytes, program_headers}
+use Rattle.elf_file.proofs.Terms.{drop, length, take, ◌*◌, ◌++◌, ◌+◌, ◌≡◌, All, HasWordFlags, file_bytes}
+use Rattle.elf_file.specs.Written.{program_headers}
 use Rattle.elf_file.proofs.writing.write_program_headers.Given as goal
 
 abbrev pub invariant-segments : goal.invariant-segments

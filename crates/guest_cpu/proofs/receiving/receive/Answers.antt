@@ -14,7 +14,7 @@ returns-clause-state c =
     let front : c.split_at.result.0.now ≡ take (slice_index c.args.core.now.regs.x 11) c.args.item.now.bytes =
     c.split_at.ensures.front ∙ ap (λ n. take n c.as_slice-bytes.result.now) c.min.ensures
     ∙ take_min (slice_index c.args.core.now.regs.x 11) c.as_slice-bytes.result.now ∙ ap (take (slice_index c.args.core.now.regs.x 11)) bytes in
-    rw (c.write_front.ensures.memory, front, c.take.ensures, bytes, c.from.ensures, c.from-2.ensures) refl
+    rw (c.write_front.ensures.memory, front, c.take.ensures, bytes, c.from.ensures) refl
 
 pub returns-clause-wrote : goal.returns-clause-wrote
 returns-clause-wrote c =

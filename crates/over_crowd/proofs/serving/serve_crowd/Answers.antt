@@ -1,8 +1,7 @@
 use Rattle.std.proofs.Common.{refl, rules, subst, sym, ◌∙◌}
 use Rattle.crowd_link.specs.CrowdLaws.{crowd_stands}
-use Rattle.session_history.specs.Answering.{HasAnswerCause}
+use Rattle.session_history.specs.Answering.{HasAnswerCause, port_counts}
 use Rattle.over_trunk.proofs.ServeLemmas.{left_recorded}
-use Rattle.session_history.specs.Answering.{port_counts}
 use Rattle.session_history.proofs.PortCauses.{no_refusal, no_write_fault, port_cause}
 use Rattle.over_crowd.specs.Terms.{seen_of, told_nothing, IsJustBound, Answer, keeping_for, rules_by}
 use Rattle.over_crowd.proofs.ServeLemmas.{serves}

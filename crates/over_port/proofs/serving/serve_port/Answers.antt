@@ -1,9 +1,8 @@
 use Rattle.std.proofs.Common.{refl, rules, subst, sym, ◌-◌, ◌∙◌}
 use Rattle.port_link.specs.PortLaws.{port_stands}
 use Rattle.over_trunk.proofs.ServeLemmas.{left_recorded}
-use Rattle.over_port.specs.Terms.{seen_of, told_nothing, IsJustBound, Image, Answer, HasAnswerCause, keeping_for, outcome_of, rules_by, IsBegun}
+use Rattle.over_port.specs.Terms.{seen_of, told_nothing, IsJustBound, Image, Answer, HasAnswerCause, port_counts, keeping_for, outcome_of, rules_by, IsBegun}
 use Rattle.over_port.specs.Serving.{ServesPort}
-use Rattle.session_history.specs.Answering.{port_counts}
 use Rattle.over_port.proofs.ServeLemmas.{serves}
 use Rattle.session_history.proofs.PortCauses.{no_refusal, no_write_fault, port_cause}
 use Rattle.over_port.proofs.serving.serve_port.Goals as goal

@@ -1,4 +1,5 @@
-use Rattle.rv_exec.proofs.Terms.{ap, arith, rules, subst, sym, ◌+◌, ◌-◌, ◌∙◌, ◌≡◌, Table, Ran, regs_of, counter, seen}
+use Rattle.code_table.specs.Tables.{Table}
+use Rattle.rv_exec.proofs.Terms.{ap, arith, rules, subst, sym, ◌+◌, ◌-◌, ◌∙◌, ◌≡◌, Ran, regs_of, counter, seen}
 use Rattle.rv_exec.proofs.QuickLemmas.{ran_none}
 use Rattle.rv_exec.proofs.EntryLoop.{first_regs, first_zero, less_before, ran_as, ran_behind, ran_still, ran_to}
 use Rattle.rv_exec.proofs.straight.run_straight.Goals as goal

@@ -1,4 +1,4 @@
-use Rattle.rx_io.proofs.Terms.{Keeps}
+use Rattle.rx_io.specs.Terms.{Keeps}
 use Rattle.rx_io.proofs.attempts.write_some.Given as goal
 
 abbrev pub invariant-tries : goal.invariant-tries

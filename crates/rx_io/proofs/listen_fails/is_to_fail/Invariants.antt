@@ -1,4 +1,4 @@
-use Rattle.rx_io.proofs.Terms.{drop, ◌≡◌}
+use Rattle.std.proofs.Common.{drop, ◌≡◌}
 use Rattle.rx_io.specs.ListenPlans.{is_to_fail}
 use Rattle.rx_io.proofs.listen_fails.is_to_fail.Given as goal
 

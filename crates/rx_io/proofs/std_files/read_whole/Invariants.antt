@@ -1,4 +1,5 @@
-use Rattle.rx_io.proofs.Terms.{length, ◌≤◌, Consumes}
+use Rattle.std.proofs.Common.{length, ◌≤◌}
+use Rattle.rx_io.specs.Terms.{Consumes}
 use Rattle.rx_io.proofs.std_files.read_whole.Given as goal
 
 abbrev pub invariant-pieces : goal.invariant-pieces

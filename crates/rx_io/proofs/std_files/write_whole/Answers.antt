@@ -1,4 +1,5 @@
-use Rattle.rx_io.proofs.Terms.{ap, append_assoc, sym, take, take-append-drop, ◌++◌, ◌∙◌, Appends-trans}
+use Rattle.std.proofs.Common.{ap, append_assoc, sym, take, take-append-drop, ◌++◌, ◌∙◌}
+use Rattle.std.proofs.KnownBytes.{Appends-trans}
 use Rattle.rx_io.proofs.std_files.write_whole.Goals as goal
 
 -- what was written before, and then the piece

@@ -1,4 +1,5 @@
-use Rattle.rx_io.proofs.Terms.{List, length, ℕ, ◌++◌, ◌≡◌, Appends}
+use Rattle.std.proofs.Common.{List, length, ℕ, ◌++◌, ◌≡◌}
+use Rattle.rx_io.specs.Terms.{Appends}
 use Rattle.rx_io.proofs.std_files.write_whole.Given as goal
 
 abbrev pub invariant-pieces : goal.invariant-pieces

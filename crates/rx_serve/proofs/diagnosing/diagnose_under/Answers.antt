@@ -1,7 +1,7 @@
 use Rattle.diagnosis.specs.Examined.{ran_of, tables_of}
 use Rattle.rx_engine.specs.declared.left.Left.{Left as Leaves}
 use Rattle.rx_serve.proofs.Lemmas.{options_in_range, closes_other, closes_same, not_read, not_write, begun_own, counts_fit, not_begun, ready, rose_within, diagnosed, diagnosis_other, diagnosis_part, some_kept, start_faults, watched_length}
-use Rattle.rx_serve.proofs.Terms.{ap, arith, inl, inr, refl, subst, sym, ℕ, ◌+◌, ◌-◌, ◌<◌, ◌^◌, ◌∙◌, ◌≡◌, ◌≤◌, IsEnd, answer_of, MAX_ITEMS, diagnose_shown, run_shown, options_of, IsFilesAnswer}
+use Rattle.rx_serve.proofs.Terms.{ap, arith, inl, inr, refl, subst, sym, ℕ, ◌+◌, ◌-◌, ◌<◌, ◌^◌, ◌∙◌, ◌≡◌, ◌≤◌, MAX_ITEMS, IsEnd, answer_of, diagnose_shown, run_shown, options_of, IsFilesAnswer}
 use Rattle.rx_serve.proofs.diagnosing.diagnose_under.Goals as goal
 
 pub returns-in-Err-clause-ends : goal.returns-in-Err-clause-ends

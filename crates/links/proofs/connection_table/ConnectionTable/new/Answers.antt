@@ -1,5 +1,5 @@
-use Rattle.links.proofs.Terms.{nat_lt}
 use Rattle.rx_base.specs.declared.item.TheConstants.{CONNECTIONS}
+use Rattle.links.proofs.Terms.{nat_lt}
 use Rattle.links.proofs.Tables.{new_table}
 use Rattle.links.proofs.connection_table.ConnectionTable.new.Goals as goal
 

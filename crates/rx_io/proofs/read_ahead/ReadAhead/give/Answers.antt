@@ -1,4 +1,5 @@
-use Rattle.rx_io.proofs.Terms.{ap, arith, drop, length, length-take-le, slice_range, sym, take, ◌++◌, ◌+◌, ◌∙◌, ◌≡◌, ◌≤◌, take_at}
+use Rattle.std.proofs.Common.{ap, arith, drop, length, length-take-le, slice_range, sym, take, ◌++◌, ◌+◌, ◌∙◌, ◌≡◌, ◌≤◌}
+use Rattle.std.proofs.lemmas.List.{take_at}
 use Rattle.rx_io.specs.Ahead.{ahead}
 use Rattle.rx_io.proofs.AheadLemmas.{part_seam}
 use Rattle.rx_io.proofs.read_ahead.ReadAhead.give.Goals as goal

@@ -1,4 +1,4 @@
-use Rattle.rx_io.proofs.Terms.{rules}
+use Rattle.std.proofs.Common.{rules}
 use Rattle.rx_io.proofs.Places.{place_holds}
 use Rattle.rx_io.proofs.shelf.Shelf.bytes_of.Goals as goal
 

@@ -1,4 +1,4 @@
-use Rattle.rx_io.proofs.Terms.{rules}
+use Rattle.std.proofs.Common.{rules}
 use Rattle.rx_io.proofs.Places.{place_made, none_more}
 use Rattle.rx_io.proofs.shelf.Shelf.place_of.Goals as goal
 

@@ -1,4 +1,5 @@
-use Rattle.rx_io.proofs.Terms.{None, take, ◌≡◌, found}
+use Rattle.std.proofs.Common.{None, take, ◌≡◌}
+use Rattle.rx_io.specs.Shelves.{found}
 use Rattle.rx_io.proofs.shelf.Shelf.place_of.Given as goal
 
 abbrev pub invariant-loop-i : goal.invariant-loop-i

@@ -1,4 +1,4 @@
-use Rattle.rx_io.proofs.Terms.{rules}
+use Rattle.std.proofs.Common.{rules}
 use Rattle.rx_io.proofs.Places.{place_push}
 use Rattle.rx_io.proofs.shelf.Shelf.push.Goals as goal
 
