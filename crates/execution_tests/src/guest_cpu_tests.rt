@@ -119,9 +119,9 @@ Asks at 10010 [1 5 10 0 0]
 const DONE: &str = "\
 Asks at 10010 [1 5 10 0 0]
 Chooses(Choice { ask: Malloc { size: 16 }, at: 73728, zeroed: false }) at 10030 [2 7 18 1 0]
-Emits(0, Bytes { bytes: [0, 0, 0, 0, 0, 0, 0, 0, 0, 0, 0, 0] }) at 10070 [2 23 34 1 1]
+Emits(0, Listed { values: [0, 0, 0, 0, 0, 0, 0, 0, 0, 0, 0, 0] }) at 10070 [2 23 34 1 1]
 Asks at 10010 [2 28 39 1 1]
-Emits(0, Bytes { bytes: [2, 0, 0, 0, 2, 0, 0, 0, 2, 0, 0, 0] }) at 10070 [3 19 59 1 2]
+Emits(0, Listed { values: [2, 0, 0, 0, 2, 0, 0, 0, 2, 0, 0, 0] }) at 10070 [3 19 59 1 2]
 Asks at 10010 [3 29 69 1 2]
 ";
 
@@ -129,10 +129,10 @@ Asks at 10010 [3 29 69 1 2]
 const LATER: &str = "\
 Asks at 10010 [3 29 69 1 2]
 Chooses(Choice { ask: Malloc { size: 16 }, at: 73728, zeroed: false }) at 10030 [4 7 77 2 2]
-Emits(0, Bytes { bytes: [3, 0, 0, 0, 3, 0, 0, 0, 3, 0, 0, 0] }) at 10070 [4 23 93 2 3]
+Emits(0, Listed { values: [3, 0, 0, 0, 3, 0, 0, 0, 3, 0, 0, 0] }) at 10070 [4 23 93 2 3]
 Asks at 10010 [4 33 103 2 3]
 Chooses(Choice { ask: Malloc { size: 16 }, at: 73728, zeroed: false }) at 10030 [5 7 111 3 3]
-Emits(0, Bytes { bytes: [5, 0, 0, 0, 5, 0, 0, 0, 5, 0, 0, 0] }) at 10070 [5 23 127 3 4]
+Emits(0, Listed { values: [5, 0, 0, 0, 5, 0, 0, 0, 5, 0, 0, 0] }) at 10070 [5 23 127 3 4]
 Asks at 10010 [5 28 132 3 4]
 ";
 
@@ -140,10 +140,10 @@ Asks at 10010 [5 28 132 3 4]
 const OTHER: &str = "\
 Asks at 10010 [1 5 10 0 0]
 Chooses(Choice { ask: Malloc { size: 16 }, at: 73728, zeroed: false }) at 10030 [2 7 18 1 0]
-Emits(0, Bytes { bytes: [0, 0, 0, 0, 0, 0, 0, 0, 0, 0, 0, 0] }) at 10070 [2 23 34 1 1]
+Emits(0, Listed { values: [0, 0, 0, 0, 0, 0, 0, 0, 0, 0, 0, 0] }) at 10070 [2 23 34 1 1]
 Asks at 10010 [2 33 44 1 1]
 Chooses(Choice { ask: Malloc { size: 16 }, at: 73728, zeroed: false }) at 10030 [3 7 52 2 1]
-Emits(0, Bytes { bytes: [9, 0, 0, 0, 9, 0, 0, 0, 9, 0, 0, 0] }) at 10070 [3 23 68 2 2]
+Emits(0, Listed { values: [9, 0, 0, 0, 9, 0, 0, 0, 9, 0, 0, 0] }) at 10070 [3 23 68 2 2]
 Asks at 10010 [3 28 73 2 2]
 ";
 

@@ -25,20 +25,20 @@ followed_is_sound rules image handed events released alone heeds followed =
     let same = items_in-alike rules.bounds (rules_behind rules handed events released).bounds.before (heard_alone events) [] whole in
     let passed = only_held rules handed events released in
     let in_time = held_is_in_time handed.counts released.state in
-    let few = taken_within rules.limits items (plan_of handed.episodes) (origin image) released followed.ran (omega (arith, start_taken image (origin image) refl)) in
+    let few = taken_within rules.limits items (plan_of rules.limits.keep handed.episodes) (origin image) released followed.ran (omega (arith, start_taken image (origin image) refl)) in
     record {
       heeded = heeded-alike rules.bounds (rules_behind rules handed events released).bounds.before (heard_alone events) [] whole ∙ heeds ∙ sym whole;
       carries =
           record {
-            served = subst (λ (its : List Item). Served rules.limits its (plan_of handed.episodes) (origin image) released) (sym same) followed.ran;
+            served = subst (λ (its : List Item). Served rules.limits its (plan_of rules.limits.keep handed.episodes) (origin image) released) (sym same) followed.ran;
             taken = subst (λ (its : List Item). released.state.machine.taken ≤ length its) (sym same) few;
             covers = subst (λ (sends : List Send). Covers sends released.state) (sym passed) in_time.0;
             feasible = subst (λ (sends : List Send). IsFeasible sends released.state) (sym passed) in_time.1;
             ordered =
                 subst (λ (its : List Item). AreInOrder (length its) (passed_in (rules_behind rules handed events released).bounds [])) (sym same)
                 (subst (AreInOrder (length items)) (sym passed)
-                (in_order_wider released.state.machine.taken (length items) pieces few (held_is_in_order rules.limits items (plan_of handed.episodes) image released handed.counts followed.ran)));
-            timed = timed_from rules.limits items (plan_of handed.episodes) image released followed.ran;
+                (in_order_wider released.state.machine.taken (length items) pieces few (held_is_in_order rules.limits items (plan_of rules.limits.keep handed.episodes) image released handed.counts followed.ran)));
+            timed = timed_from rules.limits items (plan_of rules.limits.keep handed.episodes) image released followed.ran;
           };
     }
 

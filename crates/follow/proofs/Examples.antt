@@ -17,7 +17,7 @@ given_up point = record { point = point; cause = Hang; pc = 0; tries = record { 
 
 -- the environment in force at each of the first twelve counts of items
 abbrev in_force : List Episode → List Env
-in_force episodes = map (env_at (plan_of episodes)) (0 ∷ 1 ∷ 2 ∷ 3 ∷ 4 ∷ 5 ∷ 6 ∷ 7 ∷ 8 ∷ 9 ∷ 10 ∷ 11 ∷ [])
+in_force episodes = map (env_at (plan_of 4 episodes)) (0 ∷ 1 ∷ 2 ∷ 3 ∷ 4 ∷ 5 ∷ 6 ∷ 7 ∷ 8 ∷ 9 ∷ 10 ∷ 11 ∷ [])
 
 -- the later one is in force behind its checkpoint, and the earlier one up to there
 two_in_turn : in_force (survived 1 Pad 2 ∷ survived 3 Delay 5 ∷ []) ≡ Plain ∷ Plain ∷ Pad ∷ Pad ∷ Delay ∷ Delay ∷ Delay ∷ Delay ∷ Delay ∷ Plain ∷ Plain ∷ Plain ∷ []
@@ -35,11 +35,15 @@ from_earlier = refl
 none_survived : in_force (survived 0 Zero 0 ∷ given_up 5 ∷ []) ≡ Zero ∷ Zero ∷ Zero ∷ Zero ∷ Plain ∷ Plain ∷ Plain ∷ Plain ∷ Plain ∷ Plain ∷ Plain ∷ Plain ∷ []
 none_survived = refl
 
+-- and where an environment is kept for one item: the first two are apart
+kept_for_one : map (env_at (plan_of 1 (survived 1 Pad 2 ∷ survived 3 Delay 5 ∷ []))) (0 ∷ 1 ∷ 2 ∷ 3 ∷ 4 ∷ 5 ∷ 6 ∷ 7 ∷ []) ≡ Plain ∷ Plain ∷ Pad ∷ Plain ∷ Delay ∷ Delay ∷ Plain ∷ Plain ∷ []
+kept_for_one = refl
+
 -- as ranges: the first of them has two, and the third one
-two_ranges : ranges_of (survived 1 Pad 2 ∷ survived 3 Delay 5 ∷ []) ≡ record { low = 4; until = 9; env = Delay } ∷ record { low = 2; until = 6; env = Pad } ∷ []
+two_ranges : ranges_of 4 (survived 1 Pad 2 ∷ survived 3 Delay 5 ∷ []) ≡ record { low = 4; until = 9; env = Delay } ∷ record { low = 2; until = 6; env = Pad } ∷ []
 two_ranges = refl
 
-one_range : ranges_of (survived 3 Pad 5 ∷ survived 1 Delay 7 ∷ []) ≡ record { low = 2; until = 11; env = Delay } ∷ []
+one_range : ranges_of 4 (survived 3 Pad 5 ∷ survived 1 Delay 7 ∷ []) ≡ record { low = 2; until = 11; env = Delay } ∷ []
 one_range = refl
 
 -- A run sent a reply with 2 items taken, and one with 3. The first host passed the first one with 4 items received, and a second host gives the other with

@@ -37,7 +37,7 @@ whole rules image before session recoveries conn = record {
 
 -- it is one for each session that has an account and its recoveries, as an engine's does at each answer
 takes_over : (rules : Rules) (image : Image) (before : List Episode) (session : Session) (recoveries : List Recovery) (conn : ℕ) → IsAccount rules image session → AreRecovered rules image [] (first_survivor rules image) session.earlier recoveries session.survivor
-    → rules.bounds.before.plan ≡ plan_of before → AreWellPlaced before → IfSome (last_or None before) (StandsPast rules.limits rules.bounds.before.plan (starting_path rules image)) → IsTakeover (whole rules image before session recoveries conn)
+    → rules.bounds.before.plan ≡ plan_of rules.limits.keep before → AreWellPlaced before → IfSome (last_or None before) (StandsPast rules.limits rules.bounds.before.plan (starting_path rules image)) → IsTakeover (whole rules image before session recoveries conn)
 takes_over rules image before session recoveries conn account recovered told placed past = record {
   account = account;
   recovered = recovered;

@@ -60,10 +60,10 @@ recovered_placed rules image before first [] [] now are = λ k d below. absurd (
 recovered_placed rules image before first [] (recovery ∷ recoveries) now are = absurd are
 recovered_placed rules image before first (chapter ∷ chapters) [] now are = absurd are
 recovered_placed rules image before first (chapter ∷ chapters) (recovery ∷ recoveries) now are =
-    of (survivor_in recovery.trials) refl (λ trial rest. recovered_placed rules image (before ++ chapter.entries) (adopted_by recovery trial) chapters recoveries now rest) are.3
+    of (survivor_in recovery.trials) refl (λ trial rest. recovered_placed rules image (before ++ chapter.entries) (adopted_by rules recovery trial) chapters recoveries now rest) are.3
   where
-    of : (o : Option Trial) → survivor_in recovery.trials ≡ o → ((trial : Trial) → AreRecovered rules image (before ++ chapter.entries) (adopted_by recovery trial) chapters recoveries now → AreWellPlaced (map episode_of recoveries))
-        → MatchOption o ⊥ (λ trial. AreRecovered rules image (before ++ chapter.entries) (adopted_by recovery trial) chapters recoveries now) → AreWellPlaced (map episode_of (recovery ∷ recoveries))
+    of : (o : Option Trial) → survivor_in recovery.trials ≡ o → ((trial : Trial) → AreRecovered rules image (before ++ chapter.entries) (adopted_by rules recovery trial) chapters recoveries now → AreWellPlaced (map episode_of recoveries))
+        → MatchOption o ⊥ (λ trial. AreRecovered rules image (before ++ chapter.entries) (adopted_by rules recovery trial) chapters recoveries now) → AreWellPlaced (map episode_of (recovery ∷ recoveries))
     of None is so rest = absurd rest
     of (Some trial) is so rest =
         one_more (episode_of recovery) (map episode_of recoveries) (recovery_placed recovery trial is (trial_placed rules image (before ++ chapter.entries) recovery trial are.2 is)) (so trial rest)

@@ -26,21 +26,21 @@ one_more plan ranges override same count = of (ltb count override.low) refl
     of false is = refl
 
 -- and behind an episode, and some
-exact_behind : (plan ranges : List Override) (episode : Episode) → ((count : ℕ) → env_at ranges count ≡ env_at plan count) → (count : ℕ) → env_at (ranges_behind ranges episode) count ≡ env_at (plan_behind plan episode) count
-exact_behind plan ranges episode same = of (adopted_try episode.tries)
+exact_behind : (keep : ℕ) (plan ranges : List Override) (episode : Episode) → ((count : ℕ) → env_at ranges count ≡ env_at plan count) → (count : ℕ) → env_at (ranges_behind keep ranges episode) count ≡ env_at (plan_behind keep plan episode) count
+exact_behind keep plan ranges episode same = of (adopted_try episode.tries)
   where
     of : (o : Option Try) → (count : ℕ)
-        → env_at (option_map_or (λ (attempt : Try). unmasked (plan_of_trial ranges attempt.checkpoint attempt.env episode.point)) o ranges) count
-        ≡ env_at (option_map_or (λ (attempt : Try). plan_of_trial plan attempt.checkpoint attempt.env episode.point) o plan) count
+        → env_at (option_map_or (λ (attempt : Try). unmasked (plan_of_trial keep ranges attempt.checkpoint attempt.env episode.point)) o ranges) count
+        ≡ env_at (option_map_or (λ (attempt : Try). plan_of_trial keep plan attempt.checkpoint attempt.env episode.point) o plan) count
     of None count = same count
-    of (Some attempt) count = one_more plan ranges (record { low = cond (eqb attempt.checkpoint 0) 0 (attempt.checkpoint + 1); until = episode.point + 4; env = attempt.env }) same count
+    of (Some attempt) count = one_more plan ranges (record { low = cond (eqb attempt.checkpoint 0) 0 (attempt.checkpoint + 1); until = episode.point + keep; env = attempt.env }) same count
 
-exact_from : (plan ranges : List Override) (episodes : List Episode) → ((count : ℕ) → env_at ranges count ≡ env_at plan count) → (count : ℕ) → env_at (ranges_from ranges episodes) count ≡ env_at (plan_from plan episodes) count
-exact_from plan ranges [] same = same
-exact_from plan ranges (episode ∷ episodes) same = exact_from (plan_behind plan episode) (ranges_behind ranges episode) episodes (exact_behind plan ranges episode same)
+exact_from : (keep : ℕ) (plan ranges : List Override) (episodes : List Episode) → ((count : ℕ) → env_at ranges count ≡ env_at plan count) → (count : ℕ) → env_at (ranges_from keep ranges episodes) count ≡ env_at (plan_from keep plan episodes) count
+exact_from keep plan ranges [] same = same
+exact_from keep plan ranges (episode ∷ episodes) same = exact_from keep (plan_behind keep plan episode) (ranges_behind keep ranges episode) episodes (exact_behind keep plan ranges episode same)
 
 pub ranges_are_exact : RangesAreExact
-ranges_are_exact episodes count = exact_from [] [] episodes (λ count. refl) count
+ranges_are_exact keep episodes count = exact_from keep [] [] episodes (λ count. refl) count
 
 -- those that begin before a count do
 before_begins : (low : ℕ) (plan : List Override) → BeginBefore low (before low plan)
@@ -68,18 +68,18 @@ some_fall low (override ∷ plan) are = of (ltb override.low low) (some_fall low
     of true rest = (some_begin low override.low plan are.0, rest)
     of false rest = rest
 
-fall_behind : (ranges : List Override) (episode : Episode) → AreFalling ranges → AreFalling (ranges_behind ranges episode)
-fall_behind ranges episode are = of (adopted_try episode.tries)
+fall_behind : (keep : ℕ) (ranges : List Override) (episode : Episode) → AreFalling ranges → AreFalling (ranges_behind keep ranges episode)
+fall_behind keep ranges episode are = of (adopted_try episode.tries)
   where
-    of : (o : Option Try) → AreFalling (option_map_or (λ (attempt : Try). unmasked (plan_of_trial ranges attempt.checkpoint attempt.env episode.point)) o ranges)
+    of : (o : Option Try) → AreFalling (option_map_or (λ (attempt : Try). unmasked (plan_of_trial keep ranges attempt.checkpoint attempt.env episode.point)) o ranges)
     of None = are
     of (Some attempt) =
         let low : ℕ = cond (eqb attempt.checkpoint 0) 0 (attempt.checkpoint + 1) in
         (before_begins low ranges, some_fall low ranges are)
 
-fall_from : (ranges : List Override) (episodes : List Episode) → AreFalling ranges → AreFalling (ranges_from ranges episodes)
-fall_from ranges [] are = are
-fall_from ranges (episode ∷ episodes) are = fall_from (ranges_behind ranges episode) episodes (fall_behind ranges episode are)
+fall_from : (keep : ℕ) (ranges : List Override) (episodes : List Episode) → AreFalling ranges → AreFalling (ranges_from keep ranges episodes)
+fall_from keep ranges [] are = are
+fall_from keep ranges (episode ∷ episodes) are = fall_from keep (ranges_behind keep ranges episode) episodes (fall_behind keep ranges episode are)
 
 pub ranges_fall : RangesFall
-ranges_fall episodes = fall_from [] episodes tt
+ranges_fall keep episodes = fall_from keep [] episodes tt

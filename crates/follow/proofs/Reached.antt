@@ -35,7 +35,7 @@ record Began (rules : Rules) (image : Image) (now : Survivor) (episode : Episode
   was : IsRecovery rules image entries recovery
   is : survivor_in recovery.trials ≡ Some trial
   point : episode.point ≡ point_of recovery
-  plan : now.plan ≡ (adopted_by recovery trial).plan
+  plan : now.plan ≡ (adopted_by rules recovery trial).plan
   begun : now.begun ≡ trial.path
 
 -- or it began past that episode, as the first survivor does where the session followed another one
@@ -63,12 +63,12 @@ began_behind rules image before first [] [] now last was are = IfSome_then last 
 began_behind rules image before first [] (recovery ∷ recoveries) now last was are = absurd are
 began_behind rules image before first (chapter ∷ chapters) [] now last was are = absurd are
 began_behind rules image before first (chapter ∷ chapters) (recovery ∷ recoveries) now last was are =
-    of (survivor_in recovery.trials) refl (λ trial began rest. began_behind rules image (before ++ chapter.entries) (adopted_by recovery trial) chapters recoveries now (Some (episode_of recovery)) began rest) are.3
+    of (survivor_in recovery.trials) refl (λ trial began rest. began_behind rules image (before ++ chapter.entries) (adopted_by rules recovery trial) chapters recoveries now (Some (episode_of recovery)) began rest) are.3
   where
     of : (o : Option Trial) → survivor_in recovery.trials ≡ o
-        → ((trial : Trial) → BeganPast rules image (adopted_by recovery trial) (episode_of recovery) → AreRecovered rules image (before ++ chapter.entries) (adopted_by recovery trial) chapters recoveries now
+        → ((trial : Trial) → BeganPast rules image (adopted_by rules recovery trial) (episode_of recovery) → AreRecovered rules image (before ++ chapter.entries) (adopted_by rules recovery trial) chapters recoveries now
         → IfSome (last_or (Some (episode_of recovery)) (map episode_of recoveries)) (BeganPast rules image now))
-        → MatchOption o ⊥ (λ trial. AreRecovered rules image (before ++ chapter.entries) (adopted_by recovery trial) chapters recoveries now)
+        → MatchOption o ⊥ (λ trial. AreRecovered rules image (before ++ chapter.entries) (adopted_by rules recovery trial) chapters recoveries now)
         → IfSome (last_or (Some (episode_of recovery)) (map episode_of recoveries)) (BeganPast rules image now)
     of None is so rest = absurd rest
     of (Some trial) is so rest = so trial (inl (record { entries = before ++ chapter.entries; recovery = recovery; trial = trial; was = are.2; is = is; point = refl; plan = refl; begun = refl })) rest
@@ -102,7 +102,7 @@ front_length xs ys front = omega (arith, ap length (sym front.1), length-append 
 
 -- the survivor's plan is the one that was told
 same_plan : (over : Takeover) → IsTakeover over → over.session.survivor.plan ≡ plan_in over
-same_plan over is = plan_of_report over.rules over.image over.before over.session.earlier over.recoveries over.session.survivor is.told is.recovered ∙ ap plan_of (sym is.handed_by.episodes)
+same_plan over is = plan_of_report over.rules over.image over.before over.session.earlier over.recoveries over.session.survivor is.told is.recovered ∙ ap (plan_of over.rules.limits.keep) (sym is.handed_by.episodes) ∙ ap (λ (keep : ℕ). plan_of keep over.handed.episodes) (sym is.wide.keep)
 
 -- the first host's run, under the second one's limits and on all items
 pub first_served : (over : Takeover) (first second : Path) → IsTakeover over → Served over.rules.limits (heard_first over) over.session.survivor.plan first second → Served over.limits over.items (plan_in over) first second

@@ -8,9 +8,9 @@ use Rattle.follow.proofs.Reached.{front_length}
 
 pub stays_reached : StaysReached
 stays_reached limits items handed path later stand next reached served =
-    let longer = is_longer limits items (plan_of handed.episodes) path later served in
+    let longer = is_longer limits items (plan_of limits.keep handed.episodes) path later served in
     record {
-      past = IfSome_then (last_or None handed.episodes) reached.past (λ episode past. past_on limits limits items (plan_of handed.episodes) path later episode stand next (same_limits limits) past served);
+      past = IfSome_then (last_or None handed.episodes) reached.past (λ episode past. past_on limits limits items (plan_of limits.keep handed.episodes) path later episode stand next (same_limits limits) past served);
       chose = prefix_trans handed.choices path.choices later.choices reached.chose longer.choices;
       finished = IfSome_then handed.finish reached.finished (λ finish few. omega (arith, few, longer.steps));
       covers = λ conn. omega (arith, reached.covers conn, front_length (output path.state conn) (output later.state conn) (longer.outputs conn));
@@ -39,33 +39,33 @@ taken_within limits items plan first second served =
 -- where a host was released its run asks for no more
 none_more : (rules : Rules) (image : Image) (handed : Handed) (events : List LinkEvent) (released : Path) → HasFollowed rules image handed events released → AsksForMore rules image handed events → ⊥
 none_more rules image handed events released followed asked =
-    of_compared (compare rules.limits (items_in rules.bounds (heard_alone events)) (plan_of handed.episodes) (origin image) asked.path released asked.ran followed.ran)
+    of_compared (compare rules.limits (items_in rules.bounds (heard_alone events)) (plan_of rules.limits.keep handed.episodes) (origin image) asked.path released asked.ran followed.ran)
   where
-    of_compared : Compared rules.limits (items_in rules.bounds (heard_alone events)) (plan_of handed.episodes) asked.path released → ⊥
+    of_compared : Compared rules.limits (items_in rules.bounds (heard_alone events)) (plan_of rules.limits.keep handed.episodes) asked.path released → ⊥
     of_compared (Equal same) =
-        subst (λ (p : Path). (stand : Stand rules.limits (plan_of handed.episodes) p) → ¬ HasReached rules.limits handed p stand) same asked.not_yet followed.stand followed.reached
+        subst (λ (p : Path). (stand : Stand rules.limits (plan_of rules.limits.keep handed.episodes) p) → ¬ HasReached rules.limits handed p stand) same asked.not_yet followed.stand followed.reached
     of_compared (Before later) =
         let items : List Item = items_in rules.bounds (heard_alone events) in
-        let few = taken_within rules.limits items (plan_of handed.episodes) (origin image) released followed.ran (omega (arith, start_taken image (origin image) refl)) in
-        let most = asks_on rules.limits items (plan_of handed.episodes) asked.path released (received rules.bounds (heard_alone events)) asked.asks later in
+        let few = taken_within rules.limits items (plan_of rules.limits.keep handed.episodes) (origin image) released followed.ran (omega (arith, start_taken image (origin image) refl)) in
+        let most = asks_on rules.limits items (plan_of rules.limits.keep handed.episodes) asked.path released (received rules.bounds (heard_alone events)) asked.asks later in
         omega (arith, few, most)
     of_compared (Behind later) =
-        let asks : AsksFor rules.limits (plan_of handed.episodes) asked.path asked.path.state.machine.taken = record { lives = asked.asks.lives; taken = refl; asks = asked.asks.asks } in
+        let asks : AsksFor rules.limits (plan_of rules.limits.keep handed.episodes) asked.path asked.path.state.machine.taken = record { lives = asked.asks.lives; taken = refl; asks = asked.asks.asks } in
         asked.not_yet (AtRequest asks)
         (stays_reached rules.limits (items_in rules.bounds (heard_alone events)) handed released asked.path followed.stand (AtRequest asks) followed.reached
-        (later_served rules.limits (items_in rules.bounds (heard_alone events)) (plan_of handed.episodes) released asked.path later))
+        (later_served rules.limits (items_in rules.bounds (heard_alone events)) (plan_of rules.limits.keep handed.episodes) released asked.path later))
 
 -- with the same events it was released at one place
 same_place : (rules : Rules) (image : Image) (handed : Handed) (events : List LinkEvent) (released other : Path) → HasFollowed rules image handed events released → HasFollowed rules image handed events other → released ≡ other
 same_place rules image handed events released other one two =
-    of_compared (compare rules.limits (items_in rules.bounds (heard_alone events)) (plan_of handed.episodes) (origin image) released other one.ran two.ran)
+    of_compared (compare rules.limits (items_in rules.bounds (heard_alone events)) (plan_of rules.limits.keep handed.episodes) (origin image) released other one.ran two.ran)
   where
-    of_compared : Compared rules.limits (items_in rules.bounds (heard_alone events)) (plan_of handed.episodes) released other → released ≡ other
+    of_compared : Compared rules.limits (items_in rules.bounds (heard_alone events)) (plan_of rules.limits.keep handed.episodes) released other → released ≡ other
     of_compared (Equal same) = same
     of_compared (Before later) =
-        absurd (two.first released one.stand one.ran (later_steps rules.limits (items_in rules.bounds (heard_alone events)) (plan_of handed.episodes) released other later) one.reached)
+        absurd (two.first released one.stand one.ran (later_steps rules.limits (items_in rules.bounds (heard_alone events)) (plan_of rules.limits.keep handed.episodes) released other later) one.reached)
     of_compared (Behind later) =
-        absurd (one.first other two.stand two.ran (later_steps rules.limits (items_in rules.bounds (heard_alone events)) (plan_of handed.episodes) other released later) two.reached)
+        absurd (one.first other two.stand two.ran (later_steps rules.limits (items_in rules.bounds (heard_alone events)) (plan_of rules.limits.keep handed.episodes) other released later) two.reached)
 
 pub one_release : OneRelease
 one_release rules image handed events [] released other one two =

@@ -18,7 +18,7 @@ serves_wider limits wider env item guest are early kept =
     ∙ ap (λ (refused : Bool). cond refused (Fails BadAccess) (does_with (grant env guest) item guest.machine)) (refused_wider limits wider guest.heap (touched guest.machine) are kept)
 
 pub same_limits : (limits : Limits) → AreWider limits limits
-same_limits limits = record { budget = omega arith; permits = λ heap at count may. may }
+same_limits limits = record { budget = omega arith; permits = λ heap at count may. may; keep = refl }
 
 -- so is an instruction of a served run
 next_wider : (limits wider : Limits) (items : List Item) (env : Env) (path to : Path) → AreWider limits wider → served_next limits items env path ≡ Some to → served_next wider items env path ≡ Some to

@@ -8,8 +8,8 @@ use Rattle.follow.specs.Following.{HasFollowed, heard_alone, rules_behind}
 -- A run that has reached what was handed over has reached it wherever it stands later.
 abbrev pub StaysReached : Type 0
 StaysReached =
-    (limits : Limits) (items : List Item) (handed : Handed) (path later : Path) (stand : Stand limits (plan_of handed.episodes) path) (next : Stand limits (plan_of handed.episodes) later) →
-    HasReached limits handed path stand → Served limits items (plan_of handed.episodes) path later → HasReached limits handed later next
+    (limits : Limits) (items : List Item) (handed : Handed) (path later : Path) (stand : Stand limits (plan_of limits.keep handed.episodes) path) (next : Stand limits (plan_of limits.keep handed.episodes) later) →
+    HasReached limits handed path stand → Served limits items (plan_of limits.keep handed.episodes) path later → HasReached limits handed later next
 
 -- Of the events of one trunk a second host takes so many before it is released, and there is one place where it is.
 abbrev pub OneRelease : Type 0

@@ -13,17 +13,17 @@ heard_alone events = map (λ (event : LinkEvent). entry.Took event) events
 -- with some events a run that follows asked for the item that is received next, and hadn't reached what was handed over
 pub record AsksForMore (rules : Rules) (image : Image) (handed : Handed) (events : List LinkEvent) : Type 0 where
   pub path : Path
-  pub ran : Served rules.limits (items_in rules.bounds (heard_alone events)) (plan_of handed.episodes) (origin image) path
-  pub asks : AsksFor rules.limits (plan_of handed.episodes) path (received rules.bounds (heard_alone events))
-  pub not_yet : (stand : Stand rules.limits (plan_of handed.episodes) path) → ¬ HasReached rules.limits handed path stand
+  pub ran : Served rules.limits (items_in rules.bounds (heard_alone events)) (plan_of rules.limits.keep handed.episodes) (origin image) path
+  pub asks : AsksFor rules.limits (plan_of rules.limits.keep handed.episodes) path (received rules.bounds (heard_alone events))
+  pub not_yet : (stand : Stand rules.limits (plan_of rules.limits.keep handed.episodes) path) → ¬ HasReached rules.limits handed path stand
 
 -- A second host followed, and was released there: its run stands where it has reached what was handed over, and nowhere before it had. Each event was
 -- taken where the run asked for more.
 pub record HasFollowed (rules : Rules) (image : Image) (handed : Handed) (events : List LinkEvent) (released : Path) : Type 0 where
-  pub ran : Served rules.limits (items_in rules.bounds (heard_alone events)) (plan_of handed.episodes) (origin image) released
-  pub stand : Stand rules.limits (plan_of handed.episodes) released
+  pub ran : Served rules.limits (items_in rules.bounds (heard_alone events)) (plan_of rules.limits.keep handed.episodes) (origin image) released
+  pub stand : Stand rules.limits (plan_of rules.limits.keep handed.episodes) released
   pub reached : HasReached rules.limits handed released stand
-  pub first : (path : Path) (there : Stand rules.limits (plan_of handed.episodes) path) → Served rules.limits (items_in rules.bounds (heard_alone events)) (plan_of handed.episodes) (origin image) path → path.steps < released.steps →
+  pub first : (path : Path) (there : Stand rules.limits (plan_of rules.limits.keep handed.episodes) path) → Served rules.limits (items_in rules.bounds (heard_alone events)) (plan_of rules.limits.keep handed.episodes) (origin image) path → path.steps < released.steps →
       ¬ HasReached rules.limits handed path there
   pub asked : (front back : List LinkEvent) (event : LinkEvent) → events ≡ front ++ event ∷ back → AsksForMore rules image handed front
 
@@ -31,4 +31,4 @@ pub record HasFollowed (rules : Rules) (image : Image) (handed : Handed) (events
 -- and a run up to there
 abbrev pub rules_behind : Rules → Handed → List LinkEvent → Path → Rules
 rules_behind rules handed events released =
-    record rules { bounds = record rules.bounds { before = record { events = events_in (heard_alone events); had = held handed.counts released.state.sends; plan = plan_of handed.episodes; stood = Some released } } }
+    record rules { bounds = record rules.bounds { before = record { events = events_in (heard_alone events); had = held handed.counts released.state.sends; plan = plan_of rules.limits.keep handed.episodes; stood = Some released } } }

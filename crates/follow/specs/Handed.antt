@@ -50,7 +50,7 @@ IsStuck items (AtFailure cause fails) = Unit {0}
 
 -- A run that stands there has reached all that was told: it is past the last episode, had each answer of the record, stands at or behind its last line, and
 -- sent what clients have.
-pub record HasReached (limits : Limits) (handed : Handed) (path : Path) (stand : Stand limits (plan_of handed.episodes) path) : Type 0 where
+pub record HasReached (limits : Limits) (handed : Handed) (path : Path) (stand : Stand limits (plan_of limits.keep handed.episodes) path) : Type 0 where
   pub past : IfSome (last_or None handed.episodes) (IsPastFailure stand)
   pub chose : Prefix handed.choices path.choices
   pub finished : IfSome handed.finish (λ finish. finish.steps ≤ path.steps)

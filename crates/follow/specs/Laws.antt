@@ -9,26 +9,26 @@ use Rattle.follow.specs.Runs.{AreWider, IsLonger}
 abbrev pub PlanIsTold : Type 0
 PlanIsTold =
     (rules : Rules) (image : Image) (before : List Entry) (first : Survivor) (chapters : List Chapter) (recoveries : List Recovery) (now : Survivor) →
-    AreRecovered rules image before first chapters recoveries now → now.plan ≡ plan_from first.plan (map episode_of recoveries)
+    AreRecovered rules image before first chapters recoveries now → now.plan ≡ plan_from rules.limits.keep first.plan (map episode_of recoveries)
 
 -- So the plan of a session's survivor is that of its report: of the episodes before it, which tell the plan with which it began, and of its own.
 abbrev pub PlanOfReport : Type 0
 PlanOfReport =
-    (rules : Rules) (image : Image) (before : List Episode) (chapters : List Chapter) (recoveries : List Recovery) (now : Survivor) → rules.bounds.before.plan ≡ plan_of before →
-    AreRecovered rules image [] (first_survivor rules image) chapters recoveries now → now.plan ≡ plan_of (before ++ map episode_of recoveries)
+    (rules : Rules) (image : Image) (before : List Episode) (chapters : List Chapter) (recoveries : List Recovery) (now : Survivor) → rules.bounds.before.plan ≡ plan_of rules.limits.keep before →
+    AreRecovered rules image [] (first_survivor rules image) chapters recoveries now → now.plan ≡ plan_of rules.limits.keep (before ++ map episode_of recoveries)
 
 -- An episode that no trial survived adds nothing to the plan.
 abbrev pub GivenUpAddsNothing : Type 0
 GivenUpAddsNothing =
-    (episodes : List Episode) (recovery : Recovery) → survivor_in recovery.trials ≡ None →
-    plan_of (episodes ++ episode_of recovery ∷ []) ≡ plan_of episodes
+    (keep : ℕ) (episodes : List Episode) (recovery : Recovery) → survivor_in recovery.trials ≡ None →
+    plan_of keep (episodes ++ episode_of recovery ∷ []) ≡ plan_of keep episodes
 
 -- As ranges the plan of a report says the same at each count of items, and each range begins before those in front of it.
 abbrev pub RangesAreExact : Type 0
-RangesAreExact = (episodes : List Episode) (count : ℕ) → env_at (ranges_of episodes) count ≡ env_at (plan_of episodes) count
+RangesAreExact = (keep : ℕ) (episodes : List Episode) (count : ℕ) → env_at (ranges_of keep episodes) count ≡ env_at (plan_of keep episodes) count
 
 abbrev pub RangesFall : Type 0
-RangesFall = (episodes : List Episode) → AreFalling (ranges_of episodes)
+RangesFall = (keep : ℕ) (episodes : List Episode) → AreFalling (ranges_of keep episodes)
 
 -- A run is there under wider limits too, and asks for the same items.
 abbrev pub ServedWider : Type 0

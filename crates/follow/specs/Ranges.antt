@@ -10,15 +10,15 @@ unmasked [] = []
 unmasked (latest ∷ plan) = latest ∷ filter (λ (earlier : Override). nat_lt earlier.low latest.low) plan
 
 -- the ranges behind one more episode, and behind some, the oldest first
-abbrev pub ranges_behind : List Override → Episode → List Override
-ranges_behind ranges episode = option_map_or (λ (attempt : Try). unmasked (plan_of_trial ranges attempt.checkpoint attempt.env episode.point)) (adopted_try episode.tries) ranges
+abbrev pub ranges_behind : ℕ → List Override → Episode → List Override
+ranges_behind keep ranges episode = option_map_or (λ (attempt : Try). unmasked (plan_of_trial keep ranges attempt.checkpoint attempt.env episode.point)) (adopted_try episode.tries) ranges
 
-abbrev pub ranges_from : List Override → List Episode → List Override
-ranges_from ranges [] = ranges
-ranges_from ranges (episode ∷ episodes) = ranges_from (ranges_behind ranges episode) episodes
+abbrev pub ranges_from : ℕ → List Override → List Episode → List Override
+ranges_from keep ranges [] = ranges
+ranges_from keep ranges (episode ∷ episodes) = ranges_from keep (ranges_behind keep ranges episode) episodes
 
-abbrev pub ranges_of : List Episode → List Override
-ranges_of episodes = ranges_from [] episodes
+abbrev pub ranges_of : ℕ → List Episode → List Override
+ranges_of keep episodes = ranges_from keep [] episodes
 
 -- all begin before a count of items
 abbrev pub BeginBefore : ℕ → List Override → Type 0

@@ -30,7 +30,7 @@ passed_first over = passed_in over.rules.bounds (journal_of over.session)
 
 -- the plan of the report
 abbrev pub plan_in : Takeover → List Override
-plan_in over = plan_of over.handed.episodes
+plan_in over = plan_of over.limits.keep over.handed.episodes
 
 -- There is an account of the first host's session, behind these recoveries, and it handed that over; the second host's limits are as wide,
 -- and the first host heard the first items. The episodes that it was handed itself tell the plan with which it began, past the last of them, and of each
@@ -38,7 +38,7 @@ plan_in over = plan_of over.handed.episodes
 pub record IsTakeover (over : Takeover) : Type 0 where
   pub account : IsAccount over.rules over.image over.session
   pub recovered : AreRecovered over.rules over.image [] (first_survivor over.rules over.image) over.session.earlier over.recoveries over.session.survivor
-  pub told : over.rules.bounds.before.plan ≡ plan_of over.before
+  pub told : over.rules.bounds.before.plan ≡ plan_of over.rules.limits.keep over.before
   pub placed : AreWellPlaced over.before
   pub past : IfSome (last_or None over.before) (StandsPast over.rules.limits over.rules.bounds.before.plan (starting_path over.rules over.image))
   pub handed_by : IsHandedBy over.rules over.session over.before over.recoveries over.handed

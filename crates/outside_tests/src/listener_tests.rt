@@ -1,5 +1,6 @@
 // Listeners in memory, a link over one, and the system's TCP.
-ghost use Rattle.std.specs.Prelude.{◌≡◌, ◌≤◌, false};
+ghost use Rattle.std.specs.Prelude.{◌≡◌, ◌≤◌, false, IfOk};
+ghost use Rattle.rx_io.specs.MemoryListeners.{memory_present};
 ghost use Rattle.port_link.specs.Standing.{IsJustBound};
 
 use crate::answering::answered;
@@ -26,7 +27,9 @@ fn listener_of(
     alloc: Global,
     inputs: &[&str],
     fails: &[(ListenCall, u64)],
-) -> Result<MemoryListener, Fail> {
+) -> Result<MemoryListener, Fail>
+    ensures { IfOk result (λ listener. memory_present listener ≡ false) }
+{
     let inputs = bytes_of(alloc, inputs)?;
     Ok(MemoryListener::make(alloc, inputs, fails.to_vec(alloc)?, 2))
 }

@@ -41,7 +41,7 @@ module _ (rules : Rules) (image : Image) (handed : Handed) (coming : Option Comi
   behind_comes (inl none) = absurd (no_end last none one)
   behind_comes (inr ended) = ended.comes
 
-  there_comes : {path : Path} (stand : Stand rules.limits (plan_of handed.episodes) path) → HasEndedThere rules image handed coming events last stand → IfSome coming (λ next. IsNext next EndOfLink)
+  there_comes : {path : Path} (stand : Stand rules.limits (plan_of rules.limits.keep handed.episodes) path) → HasEndedThere rules image handed coming events last stand → IfSome coming (λ next. IsNext next EndOfLink)
   there_comes (AtRequest asks) ended = ended.comes
   there_comes (AtExit ended) none = absurd (no_end last none one)
   there_comes (AtFailure cause fails) none = absurd (no_end last none one)

@@ -62,7 +62,7 @@ each_begin rules image before first (chapter ∷ chapters) [] now tables recover
 each_begin rules image before first (chapter ∷ chapters) (recovery ∷ recoveries) now [] recovered are = absurd are
 each_begin rules image before first (chapter ∷ chapters) (recovery ∷ recoveries) now (tries ∷ tables) recovered are =
     let next = there (survivor_in recovery.trials) recovered.3 in
-    (table_begins rules image (before ++ chapter.entries) recovery tries recovered.2 are.0, each_begin rules image (before ++ chapter.entries) (adopted_by recovery next.0) chapters recoveries now tables next.1 are.1)
+    (table_begins rules image (before ++ chapter.entries) recovery tries recovered.2 are.0, each_begin rules image (before ++ chapter.entries) (adopted_by rules recovery next.0) chapters recoveries now tables next.1 are.1)
 
 begin_then : (episodes : List Episode) (tables : List (List Try)) (later : List Episode) (behind : List (List Try)) → BeginWith episodes tables → BeginWith later behind → BeginWith (episodes ++ later) (tables ++ behind)
 begin_then [] [] later behind one other = other

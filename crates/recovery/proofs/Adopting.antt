@@ -57,12 +57,12 @@ module _ {R : Type 0} where
 module _ {R : Type 0} {failure : Failure} {point : ℕ} {checkpoint : Path} {old : CpuState R} {log : Log} {before_ledger : Ledger} (index : ℕ) (failed : FailedAt point failure old log before_ledger) (found : slice_get failure.ring index ≡ Some checkpoint) where
   -- the instructions of a trial from the restored state
   counted_by : (env : Env) {live : Standing} (path : Path) (before : ℕ) {after : ℕ} → IsSomeAnd (slice_get old.slots.saved index) (λ one. after + one.state.steps ≡ before + live.steps) → live ≡ standing_of path
-      → Served failure.rules.limits (items_of failure) (plan_of_trial failure.plan checkpoint.state.machine.taken env point) checkpoint path → after ≡ before + (path.steps - checkpoint.steps)
+      → Served failure.rules.limits (items_of failure) (plan_of_trial failure.rules.limits.keep failure.plan checkpoint.state.machine.taken env point) checkpoint path → after ≡ before + (path.steps - checkpoint.steps)
   counted_by env path before counted stands from =
       let there = saved_at old.slots.saved failure.ring index failed.has.saved found in
       let one = some_of (slice_get old.slots.saved index) counted in
       let begins : one.0.state.steps ≡ checkpoint.steps = ap (λ (s : Checkpoint Standing). s.state.steps) (same_Some one.0 there.0 (sym one.1 ∙ there.1)) ∙ ap (λ (s : Standing). s.steps) there.2 in
-      let later = steps_later failure.rules.limits (items_of failure) (plan_of_trial failure.plan checkpoint.state.machine.taken env point) checkpoint path from in
+      let later = steps_later failure.rules.limits (items_of failure) (plan_of_trial failure.rules.limits.keep failure.plan checkpoint.state.machine.taken env point) checkpoint path from in
       omega (arith, begins, ap (λ (s : Standing). s.steps) stands, one.2, later)
 
   -- it was made and noted
@@ -82,7 +82,7 @@ module _ {R : Type 0} {failure : Failure} {point : ℕ} {checkpoint : Path} {old
 
   -- it was begun, and had come here
   pub begun_one : {env : Env} {live : Standing} (path : Path) {before after : ℕ} → IsSomeAnd (slice_get old.slots.saved index) (λ one. after + one.state.steps ≡ before + live.steps)
-      → Served failure.rules.limits (items_of failure) (plan_of_trial failure.plan checkpoint.state.machine.taken env point) checkpoint path → live ≡ standing_of path → HasBegun failure point (record { checkpoint = checkpoint; env = env } ∷ []) before after
+      → Served failure.rules.limits (items_of failure) (plan_of_trial failure.rules.limits.keep failure.plan checkpoint.state.machine.taken env point) checkpoint path → live ≡ standing_of path → HasBegun failure point (record { checkpoint = checkpoint; env = env } ∷ []) before after
   begun_one {env = env} path {before = before} counted from stands = record {
     unfinished = record { trials = []; last = Some (record { chance = record { checkpoint = checkpoint; env = env }; path = path }) };
     begins = record { others = []; first = refl; from = from };
@@ -95,7 +95,7 @@ module _ {R : Type 0} {failure : Failure} {point : ℕ} {checkpoint : Path} {old
     beside_tried =
         let now = failed_still saved same failed in
         let f = from_at now index found in
-        let grows = served_grows failure.rules.limits (items_of failure) (plan_of_trial failure.plan checkpoint.state.machine.taken env point) checkpoint h.path h.trial.from in
+        let grows = served_grows failure.rules.limits (items_of failure) (plan_of_trial failure.rules.limits.keep failure.plan checkpoint.state.machine.taken env point) checkpoint h.path h.trial.from in
         record {
           shows = now.has.replies.shows;
           whole = now.has.covers;
@@ -108,7 +108,7 @@ module _ {R : Type 0} {failure : Failure} {point : ℕ} {checkpoint : Path} {old
     -- what the ledger asks before it adopts the trial
     pub adopt_asks : IsSome ledger.trial × ledgers.Agrees ledger × ledgers.Covers ledger
     adopt_asks =
-        let good = survives_so failure.rules.limits (items_of failure) (plan_of_trial failure.plan checkpoint.state.machine.taken env point) checkpoint _ _ h.path result is h.trial.comes in (
+        let good = survives_so failure.rules.limits (items_of failure) (plan_of_trial failure.rules.limits.keep failure.plan checkpoint.state.machine.taken env point) checkpoint _ _ h.path result is h.trial.comes in (
           ap is_some beside_tried.sent,
           now_agrees beside_tried good.0.agrees,
           now_covers (received failure.rules.bounds failure.entries) ledger failure.failed.state.sends h.path.state.sends (pieces_of failure) beside_tried good.1,

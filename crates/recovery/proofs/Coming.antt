@@ -1,17 +1,17 @@
 -- A trial comes to its result.
 use Rattle.reply_ledger.specs.Trials as ledgers
 use Rattle.session_notes.specs.declared.episode.Tried.TheVariants as tried
-use Rattle.recovery.proofs.Terms.{List, Some, ap, arith, drop, false, inl, inr, subst, sym, true, ℕ, ◌++◌, ◌∙◌, ◌≡◌, is_some, replicate, Send, Choice, Env, Log, Ledger, AsksFor, Path, Served, CpuState, GoesOn, IsSilent, standing_of, Writes, served_on, received, Tried, survives, trial_comes, IsCheckpoint, everywhere, ComesTo, IsUnharmed, CanGoOn, Failure, items_of, pieces_of, HasCome, IsAsking, IsJudged, IsTrying, KeepsSaved}
+use Rattle.recovery.proofs.Terms.{List, Some, ap, arith, drop, false, inl, inr, subst, sym, true, ℕ, ◌++◌, ◌∙◌, ◌≡◌, ◌≤◌, is_some, replicate, Send, Choice, Env, Log, Ledger, AsksFor, Path, Served, CpuState, GoesOn, IsSilent, standing_of, Writes, served_on, received, Tried, survives, trial_comes, IsCheckpoint, everywhere, ComesTo, IsUnharmed, CanGoOn, Failure, items_of, pieces_of, HasCome, IsAsking, IsJudged, IsTrying, KeepsSaved}
 use Rattle.recovery.proofs.Joining.{Beside, covers_now, now_covers, now_covers_before}
 use Rattle.recovery.proofs.Running.{unharmed_still, can_still, wrote_on}
 
 -- a result of a run in the trial's environment
-pub comes_at : {R : Type 0} (failure : Failure) {point : ℕ} {checkpoint : Path} (env : Env) {cpu : CpuState R} {choices : List Choice} {ledger : Ledger} (path : Path) (result : Tried) → IsCheckpoint failure.rules.limits failure.image checkpoint
-    → Served failure.rules.limits (items_of failure) (everywhere env point) checkpoint path → ComesTo failure.rules.limits (items_of failure) (everywhere env point) checkpoint (pieces_of failure) point path result
+pub comes_at : {R : Type 0} (failure : Failure) {point : ℕ} {checkpoint : Path} (env : Env) {cpu : CpuState R} {choices : List Choice} {ledger : Ledger} (path : Path) (result : Tried) → 1 ≤ failure.rules.limits.keep → IsCheckpoint failure.rules.limits failure.image checkpoint
+    → Served failure.rules.limits (items_of failure) (everywhere failure.rules.limits.keep env point) checkpoint path → ComesTo failure.rules.limits (items_of failure) (everywhere failure.rules.limits.keep env point) checkpoint (pieces_of failure) point path result
     → cpu.slots.live ≡ standing_of path → Writes failure.rules.limits (items_of failure) cpu.base checkpoint (replicate cpu.slots.pages false) path cpu.written → path.choices ≡ checkpoint.choices ++ choices → CanGoOn failure.rules failure.entries path
     → (survives result ≡ true → ledger.trial ≡ Some (drop ledger.first path.state.sends)) → HasCome failure point checkpoint env cpu choices ledger result
-comes_at failure {point = point} {checkpoint = checkpoint} env path result from served comes stands wrote chose goes sent =
-    let trial = trial_comes failure.rules.limits (items_of failure) failure.image failure.plan env point checkpoint path (pieces_of failure) result from (record { from = served; comes = comes }) in
+comes_at failure {point = point} {checkpoint = checkpoint} env path result some from served comes stands wrote chose goes sent =
+    let trial = trial_comes failure.rules.limits (items_of failure) failure.image failure.plan env point checkpoint path (pieces_of failure) result some from (record { from = served; comes = comes }) in
     record { path = path; trial = trial; stands = stands; wrote = wrote; chose = chose; goes = goes; sent = sent }
 
 module _ {R : Type 0} {failure : Failure} {point : ℕ} {checkpoint : Path} {env : Env} {old : CpuState R} {choices : List Choice} {log : Log} {ledger : Ledger} (t : IsTrying failure point checkpoint env old choices log ledger) where
@@ -20,11 +20,11 @@ module _ {R : Type 0} {failure : Failure} {point : ℕ} {checkpoint : Path} {env
   beside = record { shows = t.failed.has.replies.shows; whole = t.failed.has.covers; ordered = t.failed.has.ordered; front = t.front; sent = t.sent }
 
   -- a result that the trial comes to where it stands
-  pub comes_here : (result : Tried) → ComesTo failure.rules.limits (items_of failure) (everywhere env point) checkpoint (pieces_of failure) point t.path result → HasCome failure point checkpoint env old choices ledger result
-  comes_here result comes = comes_at failure env t.path result t.from t.served comes t.stands t.wrote t.chose t.goes (λ survived. t.sent)
+  pub comes_here : (result : Tried) → ComesTo failure.rules.limits (items_of failure) (everywhere failure.rules.limits.keep env point) checkpoint (pieces_of failure) point t.path result → HasCome failure point checkpoint env old choices ledger result
+  comes_here result comes = comes_at failure env t.path result t.failed.some_keep t.from t.served comes t.stands t.wrote t.chose t.goes (λ survived. t.sent)
 
   -- it ended itself
-  pub exits_past : {new : CpuState R} (code : ℕ) (result : Tried) (now : Path) → KeepsSaved old new → GoesOn failure.rules.limits (items_of failure) (everywhere env point) t.path now → IsSilent t.path now → now.state.ended ≡ Some code → standing_of now ≡ new.slots.live
+  pub exits_past : {new : CpuState R} (code : ℕ) (result : Tried) (now : Path) → KeepsSaved old new → GoesOn failure.rules.limits (items_of failure) (everywhere failure.rules.limits.keep env point) t.path now → IsSilent t.path now → now.state.ended ≡ Some code → standing_of now ≡ new.slots.live
       → Writes failure.rules.limits (items_of failure) old.base t.path old.written now new.written → IsJudged (ledgers.Covers ledger) (tried.Exits code) result → HasCome failure point checkpoint env new choices ledger result
   exits_past {new = new} code result now saved goes silent ended stands wrote judged = of judged
     where
@@ -34,10 +34,10 @@ module _ {R : Type 0} {failure : Failure} {point : ℕ} {checkpoint : Path} {env
       unharmed : IsUnharmed (pieces_of failure) point now.state
       unharmed = unharmed_still (pieces_of failure) point t.path.state now.state silent.sends goes.taken t.unharmed
 
-      comes : (result : Tried) → ComesTo failure.rules.limits (items_of failure) (everywhere env point) checkpoint (pieces_of failure) point now result → HasCome failure point checkpoint env new choices ledger result
+      comes : (result : Tried) → ComesTo failure.rules.limits (items_of failure) (everywhere failure.rules.limits.keep env point) checkpoint (pieces_of failure) point now result → HasCome failure point checkpoint env new choices ledger result
       comes result so =
-          comes_at failure env now result t.from (served_on failure.rules.limits (items_of failure) (everywhere env point) checkpoint t.path now t.served goes.served) so (sym stands) (wrote_on failure checkpoint t.path now saved t.wrote wrote) (silent.choices ∙ t.chose)
-          (can_still failure.rules (items_of failure) (everywhere env point) failure.entries t.path now t.lives goes silent.sends t.goes) (λ survived. t.sent ∙ ap (λ (all : List Send). Some (drop ledger.first all)) (sym silent.sends))
+          comes_at failure env now result t.failed.some_keep t.from (served_on failure.rules.limits (items_of failure) (everywhere failure.rules.limits.keep env point) checkpoint t.path now t.served goes.served) so (sym stands) (wrote_on failure checkpoint t.path now saved t.wrote wrote) (silent.choices ∙ t.chose)
+          (can_still failure.rules (items_of failure) (everywhere failure.rules.limits.keep env point) failure.entries t.path now t.lives goes silent.sends t.goes) (λ survived. t.sent ∙ ap (λ (all : List Send). Some (drop ledger.first all)) (sym silent.sends))
 
       of : IsJudged (ledgers.Covers ledger) (tried.Exits code) result → HasCome failure point checkpoint env new choices ledger result
       of (inl all) =
@@ -52,8 +52,8 @@ module _ {R : Type 0} {failure : Failure} {point : ℕ} {checkpoint : Path} {env
   pub asks_past : {result : Tried} → taken ≡ point → IsJudged (ledgers.Covers ledger) tried.Asks result → HasCome failure point checkpoint env old choices ledger result
   asks_past {result = result} same judged = of judged
     where
-      asks : AsksFor failure.rules.limits (everywhere env point) a.trying.path point
-      asks = subst (AsksFor failure.rules.limits (everywhere env point) a.trying.path) (sym is ∙ same) a.asks
+      asks : AsksFor failure.rules.limits (everywhere failure.rules.limits.keep env point) a.trying.path point
+      asks = subst (AsksFor failure.rules.limits (everywhere failure.rules.limits.keep env point) a.trying.path) (sym is ∙ same) a.asks
 
       of : IsJudged (ledgers.Covers ledger) tried.Asks result → HasCome failure point checkpoint env old choices ledger result
       of (inl all) =
@@ -73,7 +73,7 @@ module _ {R : Type 0} {failure : Failure} {point : ℕ} {checkpoint : Path} {env
           taken,
           record {
             early = omega (arith, is, other, a.trying.unharmed.early);
-            asks = subst (AsksFor failure.rules.limits (everywhere env point) a.trying.path) (sym is) a.asks;
+            asks = subst (AsksFor failure.rules.limits (everywhere failure.rules.limits.keep env point) a.trying.path) (sym is) a.asks;
             behind = λ covers. short (now_covers_before (received failure.rules.bounds failure.entries) taken ledger failure.failed.state.sends a.trying.path.state.sends (pieces_of failure) (beside a.trying) covers);
           },
         ),

@@ -18,10 +18,10 @@ behind checkpoint point count from later = cond_both (eqb checkpoint 0) 0 (check
     of_past (inr past) some = omega (arith, past, later)
 
 -- From the point of an adopted trial on it is that of the trial.
-pub in_force_adopted : (plan : List Override) (checkpoint : ℕ) (env : Env) (point : ℕ) → (checkpoint ≡ 0) ⊎ (checkpoint < point) → IsInForce (plan_of_trial plan checkpoint env point) point env (point + 4)
-in_force_adopted plan checkpoint env point from = record {
+pub in_force_adopted : (keep : ℕ) (plan : List Override) (checkpoint : ℕ) (env : Env) (point : ℕ) → (checkpoint ≡ 0) ⊎ (checkpoint < point) → IsInForce (plan_of_trial keep plan checkpoint env point) point env (point + keep)
+in_force_adopted keep plan checkpoint env point from = record {
   in_force = λ count later.
-      ap (λ (b : Bool). cond b (env_at plan count) (cond (ltb count (point + 4)) env Plain)) (le-ltb count (cond (eqb checkpoint 0) 0 (checkpoint + 1)) (behind checkpoint point count from later));
+      ap (λ (b : Bool). cond b (env_at plan count) (cond (ltb count (point + keep)) env Plain)) (le-ltb count (cond (eqb checkpoint 0) 0 (checkpoint + 1)) (behind checkpoint point count from later));
 }
 
 -- A checkpoint from which a run fails is the start, or has taken fewer items.
@@ -39,8 +39,8 @@ before_point limits items image plan checkpoint failed cause (inr asks) served f
 -- So is each checkpoint of the ring of a survivor that fails, and the environment of a trial from there is in force once it is adopted.
 pub in_force_from : {R : Type 0} {rules : Rules} {image : Image} {entries : List Entry} {plan : List Override} {failed : Path} {ring : List Path} {cpu : CpuState R} {log : Log} {ledger : Ledger} {cause : Cause} {checkpoint : Path} (env : Env) (index : ℕ)
     → KeepsRing rules image entries plan failed ring cpu log ledger → FailsBy rules.limits plan failed cause → slice_get ring index ≡ Some checkpoint
-    → IsInForce (plan_of_trial plan checkpoint.state.machine.taken env failed.state.machine.taken) failed.state.machine.taken env (failed.state.machine.taken + 4)
+    → IsInForce (plan_of_trial rules.limits.keep plan checkpoint.state.machine.taken env failed.state.machine.taken) failed.state.machine.taken env (failed.state.machine.taken + rules.limits.keep)
 in_force_from {rules = rules} {image = image} {entries = entries} {plan = plan} {failed = failed} {ring = ring} {cause = cause} {checkpoint = checkpoint} env index k fails found =
-    in_force_adopted plan checkpoint.state.machine.taken env failed.state.machine.taken
+    in_force_adopted rules.limits.keep plan checkpoint.state.machine.taken env failed.state.machine.taken
     (before_point rules.limits (items_in rules.bounds entries) image plan checkpoint failed cause (checkpoint_at rules.limits image ring index checkpoint k.are found)
     (chained_at rules.limits (items_in rules.bounds entries) plan image failed ring index checkpoint k.chained found).0 fails)

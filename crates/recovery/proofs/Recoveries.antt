@@ -59,7 +59,7 @@ module _ {R : Type 0} {site : FailureSite} {failure : Failure} {old : Held R} (h
         let trial : Trial = s.trial in
         let checkpoint : Path = trial.chance.checkpoint in
         let what =
-        adopted_asks (items_of failure) (plan_of_trial failure.plan checkpoint.state.machine.taken trial.chance.env site.point) checkpoint (pieces_of failure) adopted.index adopted.env trial.result s.adopts.adopted_is
+        adopted_asks (items_of failure) (plan_of_trial failure.rules.limits.keep failure.plan checkpoint.state.machine.taken trial.chance.env site.point) checkpoint (pieces_of failure) adopted.index adopted.env trial.result s.adopts.adopted_is
         s.right.comes in
         let answers = own_of in
         let there : walked.cpu.slots.live ≡ standing_of trial.path = s.adopts.stands in
@@ -78,10 +78,10 @@ module _ {R : Type 0} {site : FailureSite} {failure : Failure} {old : Held R} (h
           ring =
               ring_beside
               (ring_adopts has.ring trial.chance.env failure.failed.state.machine.taken adopted.index s.from
-              (subst (λ n. Served failure.rules.limits (items_of failure) (plan_of_trial failure.plan checkpoint.state.machine.taken trial.chance.env n) checkpoint trial.path) (sym has.failed.point_is) s.right.from) keeps s.adopts.stands_on adopts s.adopts.wrote)
+              (subst (λ n. Served failure.rules.limits (items_of failure) (plan_of_trial failure.rules.limits.keep failure.plan checkpoint.state.machine.taken trial.chance.env n) checkpoint trial.path) (sym has.failed.point_is) s.right.from) keeps s.adopts.stands_on adopts s.adopts.wrote)
               refl same.first;
           in_force =
-              subst (λ e. IsInForce (plan_of_trial failure.plan checkpoint.state.machine.taken trial.chance.env failure.failed.state.machine.taken) failure.failed.state.machine.taken e (failure.failed.state.machine.taken + 4)) (sym s.env_is)
+              subst (λ e. IsInForce (plan_of_trial failure.rules.limits.keep failure.plan checkpoint.state.machine.taken trial.chance.env failure.failed.state.machine.taken) failure.failed.state.machine.taken e (failure.failed.state.machine.taken + failure.rules.limits.keep)) (sym s.env_is)
               (in_force_from trial.chance.env adopted.index has.ring has.fails s.from);
           replies = s.adopts.replies;
           goes = s.adopts.goes;

@@ -127,9 +127,9 @@ module _ {R : Type 0} {rules : Rules} {image : Image} {entries : List Entry} {pl
 
   -- A trial from a checkpoint of the ring is adopted, and the newer ones are dropped: the ring is that of the adopted run.
   pub ring_adopts : {tried new : Held R} {own : List Choice} {checkpoint path : Path} (env : Env) (point index : ℕ) → slice_get ring index ≡ Some checkpoint
-      → Served rules.limits (items_in rules.bounds entries) (plan_of_trial plan checkpoint.state.machine.taken env point) checkpoint path → KeepsSaved cpu tried.cpu → StandsOn tried.cpu index → Adopts index own tried new
+      → Served rules.limits (items_in rules.bounds entries) (plan_of_trial rules.limits.keep plan checkpoint.state.machine.taken env point) checkpoint path → KeepsSaved cpu tried.cpu → StandsOn tried.cpu index → Adopts index own tried new
       → Writes rules.limits (items_in rules.bounds entries) tried.cpu.base checkpoint (replicate tried.cpu.slots.pages false) path tried.cpu.written
-      → KeepsRing rules image entries (plan_of_trial plan checkpoint.state.machine.taken env point) path (drop index ring) new.cpu log ledger
+      → KeepsRing rules image entries (plan_of_trial rules.limits.keep plan checkpoint.state.machine.taken env point) path (drop index ring) new.cpu log ledger
   ring_adopts {tried = tried} {new = new} {checkpoint = checkpoint} {path = path} env point index found served keeps stands adopts wrote =
       let items : List Item = items_in rules.bounds entries in
       let chain = chained_adopt rules.limits items plan image env point now path ring index checkpoint k.chained k.are found served in

@@ -13,8 +13,8 @@ use Rattle.recovery.proofs.Few.{few_items}
 use Rattle.recovery.proofs.Starting.{failed_still}
 
 -- the plan of a trial on its way has its environment
-pub force_is : (env : Env) (point taken : ℕ) → taken ≤ point → env_at (everywhere env point) taken ≡ env
-force_is env point taken early = env_within [] 0 (point + 4) env taken (omega arith) (omega (arith, early))
+pub force_is : (keep : ℕ) (env : Env) (point taken : ℕ) → 1 ≤ keep → taken ≤ point → env_at (everywhere keep env point) taken ≡ env
+force_is keep env point taken some early = env_within [] 0 (point + keep) env taken (omega arith) (omega (arith, some, early))
 
 room : (steps at taken since budget : ℕ) → at ≡ steps → steps ≤ taken * (budget + 1) + since → since ≤ budget → taken ≤ MAX_ITEMS → budget ≤ 2 ^ 24 → at + budget < 2 ^ 64 - 1
 room steps at taken since budget same bounded last few budgeted =
@@ -146,19 +146,19 @@ module _ {R : Type 0} {failure : Failure} {point : ℕ} {checkpoint : Path} {env
       (omega (arith, t.unharmed.early, t.failed.point_is, f.taken, few_items failure.rules.bounds failure.entries, f.few_items)) t.failed.few_steps
 
   -- a trial that went on, and sent nothing
-  unfoldable pub goes_silently : {new : CpuState R} {after : List Choice} (now : Path) → KeepsSaved old new → GoesOn failure.rules.limits (items_of failure) (everywhere env point) t.path now → now.state.ended ≡ None → now.state.sends ≡ t.path.state.sends
+  unfoldable pub goes_silently : {new : CpuState R} {after : List Choice} (now : Path) → KeepsSaved old new → GoesOn failure.rules.limits (items_of failure) (everywhere failure.rules.limits.keep env point) t.path now → now.state.ended ≡ None → now.state.sends ≡ t.path.state.sends
       → now.choices ≡ checkpoint.choices ++ after → standing_of now ≡ new.slots.live → Writes failure.rules.limits (items_of failure) old.base t.path old.written now new.written → IsTrying failure point checkpoint env new after log ledger
   goes_silently now saved goes lives sends chose stands wrote = record {
     failed = failed_still saved refl t.failed;
     from = t.from;
     path = now;
-    served = served_on failure.rules.limits (items_of failure) (everywhere env point) checkpoint t.path now t.served goes.served;
+    served = served_on failure.rules.limits (items_of failure) (everywhere failure.rules.limits.keep env point) checkpoint t.path now t.served goes.served;
     unharmed = unharmed_still (pieces_of failure) point t.path.state now.state sends goes.taken t.unharmed;
     lives = lives;
     stands = sym stands;
     wrote = wrote_on failure checkpoint t.path now saved t.wrote wrote;
     chose = chose;
-    goes = can_still failure.rules (items_of failure) (everywhere env point) failure.entries t.path now t.lives goes sends t.goes;
+    goes = can_still failure.rules (items_of failure) (everywhere failure.rules.limits.keep env point) failure.entries t.path now t.lives goes sends t.goes;
     items = subst (λ n. log.first ≤ n) (sym goes.taken) t.items;
     many = subst (λ (all : List Send). ledger.first ≤ length all) (sym sends) t.many;
     front = ap (take ledger.first) sends ∙ t.front;
@@ -171,14 +171,14 @@ module _ {R : Type 0} {failure : Failure} {point : ℕ} {checkpoint : Path} {env
     ran_under result ran = subst (λ (limits : Limits). RunsBy event.Emits (turn limits env) old.base (live_of old) result (live_of new)) (sym under) ran
 
     -- its run goes on so, and writes the pages that the guest marks
-    pub ran_on : (result : Result Event AllocError) → Ran budget permits env old new result → RunsWriting failure.rules.limits (items_of failure) (everywhere env point) old.base t.path old.written result (live_of new)
+    pub ran_on : (result : Result Event AllocError) → Ran budget permits env old new result → RunsWriting failure.rules.limits (items_of failure) (everywhere failure.rules.limits.keep env point) old.base t.path old.written result (live_of new)
     ran_on result ran =
-        runs_write failure.rules.limits (items_of failure) (everywhere env point) env old.base t.path (live_of old) (live_of new) result t.lives (force_is env point t.path.state.machine.taken t.unharmed.early) t.stands (ran_under result ran)
+        runs_write failure.rules.limits (items_of failure) (everywhere failure.rules.limits.keep env point) env old.base t.path (live_of old) (live_of new) result t.lives (force_is failure.rules.limits.keep env point t.path.state.machine.taken t.failed.some_keep t.unharmed.early) t.stands (ran_under result ran)
 
     pub ran_sends : (conn : ℕ) (bytes : List ℕ) → Ran budget permits env old new (Ok (event.Emits conn bytes))
-        → SendsOn failure.rules.limits (items_of failure) (everywhere env point) old.base t.path old.written conn bytes (live_of new)
+        → SendsOn failure.rules.limits (items_of failure) (everywhere failure.rules.limits.keep env point) old.base t.path old.written conn bytes (live_of new)
     ran_sends conn bytes ran =
         let runs = ran_under (Ok (event.Emits conn bytes)) ran in
-        let force = force_is env point t.path.state.machine.taken t.unharmed.early in
-        let came = comes_writing failure.rules.limits (items_of failure) (everywhere env point) env old.base t.path (live_of old) runs.before runs.count t.lives force t.stands runs.quiet in
-        sends_last failure.rules.limits (items_of failure) (everywhere env point) env old.base t.path old.written conn bytes runs.before (live_of new) runs.last force came runs.turns runs.is_event runs.left
+        let force = force_is failure.rules.limits.keep env point t.path.state.machine.taken t.failed.some_keep t.unharmed.early in
+        let came = comes_writing failure.rules.limits (items_of failure) (everywhere failure.rules.limits.keep env point) env old.base t.path (live_of old) runs.before runs.count t.lives force t.stands runs.quiet in
+        sends_last failure.rules.limits (items_of failure) (everywhere failure.rules.limits.keep env point) env old.base t.path old.written conn bytes runs.before (live_of new) runs.last force came runs.turns runs.is_event runs.left

@@ -63,7 +63,7 @@ module _ {R : Type 0} {failure : Failure} {point : ℕ} {checkpoint : Path} {env
       (subst (λ n. NotBefore n (times_of (drop ledger.first t.path.state.sends))) (sym is)
       (times_low 0 t.path.state.machine.taken (drop ledger.first t.path.state.sends) (between_behind ledger.first 0 t.path.state.machine.taken t.path.state.sends t.goes.timed)))
 
-  module _ {conn : ℕ} {bytes : List ℕ} {live : Live} (s : SendsOn failure.rules.limits (items_of failure) (everywhere env point) old.base t.path old.written conn bytes live) where
+  module _ {conn : ℕ} {bytes : List ℕ} {live : Live} (s : SendsOn failure.rules.limits (items_of failure) (everywhere failure.rules.limits.keep env point) old.base t.path old.written conn bytes live) where
     -- its run can go on behind the send
     can_send : CanGoOn failure.rules failure.entries s.now
     can_send =
@@ -89,7 +89,7 @@ module _ {R : Type 0} {failure : Failure} {point : ℕ} {checkpoint : Path} {env
         sym (next_agrees (received failure.rules.bounds failure.entries) ledger failure.failed.state.sends t.path.state.sends (pieces_of failure) (record { conn = conn; bytes = bytes; taken = taken }) (beside t)) ∙ same
 
   -- what it sent is as it was passed: it goes on
-  pub sends_same : {new : CpuState R} {after : Ledger} {conn : ℕ} {bytes : List ℕ} {taken : ℕ} (s : SendsOn failure.rules.limits (items_of failure) (everywhere env point) old.base t.path old.written conn bytes (live_of new)) → KeepsSaved old new
+  pub sends_same : {new : CpuState R} {after : Ledger} {conn : ℕ} {bytes : List ℕ} {taken : ℕ} (s : SendsOn failure.rules.limits (items_of failure) (everywhere failure.rules.limits.keep env point) old.base t.path old.written conn bytes (live_of new)) → KeepsSaved old new
       → taken ≡ t.path.state.machine.taken → after ≡ with_trial_send ledger (record { conn = conn; bytes = bytes; taken = taken }) → agrees_next ledger (record { conn = conn; bytes = bytes; taken = taken }) ≡ true → ledgers.Agrees after
       → IsTrying failure point checkpoint env new choices log after
   sends_same {after = after} {conn = conn} {bytes = bytes} {taken = taken} s saved is noted same agrees =
@@ -99,7 +99,7 @@ module _ {R : Type 0} {failure : Failure} {point : ℕ} {checkpoint : Path} {env
         failed = failed_still saved (ap discarded noted) t.failed;
         from = t.from;
         path = s.now;
-        served = served_on failure.rules.limits (items_of failure) (everywhere env point) checkpoint t.path s.now t.served s.goes.served;
+        served = served_on failure.rules.limits (items_of failure) (everywhere failure.rules.limits.keep env point) checkpoint t.path s.now t.served s.goes.served;
         unharmed = record {
           agrees = λ q. subst (λ (all : List Send). agree (sent_to q all) (sent_to q (pieces_of failure)) ≡ true) (sym s.sends) (agree_more t.path.state.sends (pieces_of failure) send (agrees_so s taken same) t.unharmed.agrees q);
           feasible = feasible_still (pieces_of failure) t.path.state s.now.state (grows_send t.path.state s.now.state send s.sends s.goes.taken refl) s.goes.taken t.unharmed.feasible;
@@ -121,26 +121,26 @@ module _ {R : Type 0} {failure : Failure} {point : ℕ} {checkpoint : Path} {env
       }
 
   -- it differs: the trial is contradicted
-  pub sends_other : {new : CpuState R} {after : Ledger} {conn : ℕ} {bytes : List ℕ} (taken : ℕ) (s : SendsOn failure.rules.limits (items_of failure) (everywhere env point) old.base t.path old.written conn bytes (live_of new))
+  pub sends_other : {new : CpuState R} {after : Ledger} {conn : ℕ} {bytes : List ℕ} (taken : ℕ) (s : SendsOn failure.rules.limits (items_of failure) (everywhere failure.rules.limits.keep env point) old.base t.path old.written conn bytes (live_of new))
       → KeepsSaved old new → agrees_next ledger (record { conn = conn; bytes = bytes; taken = taken }) ≡ false → HasCome failure point checkpoint env new choices after tried.Contradicts
   sends_other {conn = conn} {bytes = bytes} taken s saved other =
       let send : Send = record { conn = conn; bytes = bytes; taken = t.path.state.machine.taken } in
-      let contradicted : IsContradicted failure.rules.limits (items_of failure) (everywhere env point) checkpoint (pieces_of failure) point s.now = record {
+      let contradicted : IsContradicted failure.rules.limits (items_of failure) (everywhere failure.rules.limits.keep env point) checkpoint (pieces_of failure) point s.now = record {
         before = s.before;
-        from = served_on failure.rules.limits (items_of failure) (everywhere env point) checkpoint t.path s.before t.served s.quiet.served;
+        from = served_on failure.rules.limits (items_of failure) (everywhere failure.rules.limits.keep env point) checkpoint t.path s.before t.served s.quiet.served;
         unharmed = unharmed_still (pieces_of failure) point t.path.state s.before.state s.silent.sends s.quiet.taken t.unharmed;
         next = s.next;
         no_item = s.goes.taken ∙ sym s.quiet.taken;
         conn = conn;
         differs = subst (λ (all : List Send). agree (sent_to conn all) (sent_to conn (pieces_of failure)) ≡ false) (sym s.sends) (differs_more t.path.state.sends (pieces_of failure) send (agrees_so s taken other) t.unharmed.agrees);
       } in
-      comes_at failure env s.now tried.Contradicts t.from (served_on failure.rules.limits (items_of failure) (everywhere env point) checkpoint t.path s.now t.served s.goes.served) contradicted (sym s.stands) (wrote_on failure checkpoint t.path s.now saved t.wrote s.wrote)
+      comes_at failure env s.now tried.Contradicts t.failed.some_keep t.from (served_on failure.rules.limits (items_of failure) (everywhere failure.rules.limits.keep env point) checkpoint t.path s.now t.served s.goes.served) contradicted (sym s.stands) (wrote_on failure checkpoint t.path s.now saved t.wrote s.wrote)
       (s.choices ∙ t.chose) (can_send s) (λ survived. absurd (let no : ⊥ = cc in no))
 
 module _ {R : Type 0} {failure : Failure} {point : ℕ} {checkpoint : Path} {env : Env} {old : CpuState R} {choices : List Choice} {log : Log} {ledger : Ledger} (a : IsAsking failure point checkpoint env old choices log ledger) where
   -- its instruction is a recv whose buffer may be written
   pub takes_wants : does None None old.slots.live.guest.machine ≡ Wants
-  takes_wants = subst (λ (s : Standing). does None None s.guest.machine ≡ Wants) (sym a.trying.stands) (asks_wants failure.rules.limits (everywhere env point) a.trying.path a.trying.path.state.machine.taken a.asks)
+  takes_wants = subst (λ (s : Standing). does None None s.guest.machine ≡ Wants) (sym a.trying.stands) (asks_wants failure.rules.limits (everywhere failure.rules.limits.keep env point) a.trying.path a.trying.path.state.machine.taken a.asks)
 
   -- there is room for one instruction more
   pub takes_room : old.slots.live.steps < 2 ^ 64 - 1
@@ -163,9 +163,9 @@ module _ {R : Type 0} {failure : Failure} {point : ℕ} {checkpoint : Path} {env
       let t = a.trying in
       let first : Path = t.path in
       let found : slice_get (items_of failure) taken ≡ Some item = item_is failure.rules.bounds failure.entries log taken item t.failed.has.items of_events in
-      let both : TakesWriting failure.rules.limits (items_of failure) (everywhere env point) old.base first old.written item (with_range old.base (received_range item first.state.machine) old.written) =
-      takes_write failure.rules.limits (items_of failure) (everywhere env point) old.base first old.written item a.asks (ap (slice_get (items_of failure)) (sym is) ∙ found) in
-      let takes : TakesOn failure.rules.limits (items_of failure) (everywhere env point) first item = both.took in
+      let both : TakesWriting failure.rules.limits (items_of failure) (everywhere failure.rules.limits.keep env point) old.base first old.written item (with_range old.base (received_range item first.state.machine) old.written) =
+      takes_write failure.rules.limits (items_of failure) (everywhere failure.rules.limits.keep env point) old.base first old.written item a.asks (ap (slice_get (items_of failure)) (sym is) ∙ found) in
+      let takes : TakesOn failure.rules.limits (items_of failure) (everywhere failure.rules.limits.keep env point) first item = both.took in
       let flags : new.written ≡ with_range old.base (received_range item first.state.machine) old.written =
       ap (λ (l : Live). l.written) live ∙ ap (λ (s : Standing). with_range old.base (received_range item s.guest.machine) old.written) t.stands in
       let now : Path = takes.now in
@@ -179,7 +179,7 @@ module _ {R : Type 0} {failure : Failure} {point : ℕ} {checkpoint : Path} {env
         failed = failed_still saved refl t.failed;
         from = t.from;
         path = now;
-        served = served_on failure.rules.limits (items_of failure) (everywhere env point) checkpoint first now t.served takes.served;
+        served = served_on failure.rules.limits (items_of failure) (everywhere failure.rules.limits.keep env point) checkpoint first now t.served takes.served;
         unharmed = record {
           agrees = λ conn. subst (λ (all : List Send). agree (sent_to conn all) (sent_to conn (pieces_of failure)) ≡ true) (sym takes.silent.sends) (t.unharmed.agrees conn);
           feasible = feasible_taken (pieces_of failure) first.state now.state takes.silent.sends takes.taken t.goes.timed covered t.unharmed.feasible;

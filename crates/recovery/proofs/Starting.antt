@@ -48,6 +48,7 @@ failed_still {failure = failure} {log = log} {before = before} {after = after} s
   };
   point_is = h.point_is;
   few_steps = h.few_steps;
+  some_keep = h.some_keep;
 }
 
 -- the sends of a run from a checkpoint on begin with those of the run that failed, as far as a ledger has given them up
@@ -91,7 +92,7 @@ module _ {R : Type 0} {point : ℕ} {failure : Failure} {old : CpuState R} {log 
         failed = failed_still saved (ap discarded is) h;
         from = f.is_checkpoint;
         path = checkpoint;
-        served = served_same failure.rules.limits (items_of failure) (everywhere env point) checkpoint;
+        served = served_same failure.rules.limits (items_of failure) (everywhere failure.rules.limits.keep env point) checkpoint;
         unharmed = f.unharmed;
         lives = f.kept.lives;
         stands = stands;

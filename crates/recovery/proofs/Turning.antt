@@ -19,11 +19,11 @@ later_sent (Err fault) before now less = tt
 
 module _ {R : Type 0} {failure : Failure} {point : ℕ} {checkpoint : Path} {env : Env} {old : CpuState R} {choices : List Choice} {log : Log} {ledger : Ledger} (t : IsTrying failure point checkpoint env old choices log ledger) (new : CpuState R) where
   -- it goes on no more from where it has come
-  stops_there : (now : Path) → GoesOn failure.rules.limits (items_of failure) (everywhere env point) t.path now → standing_of now ≡ new.slots.live → HasStopped failure point checkpoint env new
+  stops_there : (now : Path) → GoesOn failure.rules.limits (items_of failure) (everywhere failure.rules.limits.keep env point) t.path now → standing_of now ≡ new.slots.live → HasStopped failure point checkpoint env new
   stops_there now goes stands = record {
     path = now;
-    from = trial_serves failure.rules.limits (items_of failure) failure.image failure.plan env point checkpoint now t.from (omega (arith, goes.taken, t.unharmed.early))
-        (served_on failure.rules.limits (items_of failure) (everywhere env point) checkpoint t.path now t.served goes.served);
+    from = trial_serves failure.rules.limits (items_of failure) failure.image failure.plan env point checkpoint now t.from (omega (arith, goes.taken, t.failed.some_keep, t.unharmed.early))
+        (served_on failure.rules.limits (items_of failure) (everywhere failure.rules.limits.keep env point) checkpoint t.path now t.served goes.served);
     stands = sym stands;
   }
 
@@ -50,10 +50,10 @@ module _ {R : Type 0} {failure : Failure} {point : ℕ} {checkpoint : Path} {env
           let both = ran_on t new permits under (Ok event.Asks) (subst Ranto is ran) in
           let runs = both.ran in
           let silent : IsSilent t.path runs.now = runs.comes.0 in
-          let asks : AsksFor failure.rules.limits (everywhere env point) runs.now t.path.state.machine.taken = runs.comes.1 in
+          let asks : AsksFor failure.rules.limits (everywhere failure.rules.limits.keep env point) runs.now t.path.state.machine.taken = runs.comes.1 in
           record {
             trying = goes_silently t runs.now saved runs.goes asks.lives silent.sends (silent.choices ∙ t.chose) runs.stands both.wrote;
-            asks = subst (AsksFor failure.rules.limits (everywhere env point) runs.now) (sym runs.goes.taken) asks;
+            asks = subst (AsksFor failure.rules.limits (everywhere failure.rules.limits.keep env point) runs.now) (sym runs.goes.taken) asks;
           }
 
       -- an ask was answered
@@ -83,7 +83,7 @@ module _ {R : Type 0} {failure : Failure} {point : ℕ} {checkpoint : Path} {env
           let both = ran_on t new permits under (Ok (event.Failed cause)) (subst Ranto is ran) in
           let runs = both.ran in
           let silent : IsSilent t.path runs.now = runs.comes.0 in
-          let fails : FailsBy failure.rules.limits (everywhere env point) runs.now cause = runs.comes.1 in
+          let fails : FailsBy failure.rules.limits (everywhere failure.rules.limits.keep env point) runs.now cause = runs.comes.1 in
           let here = goes_silently t runs.now saved runs.goes fails.lives silent.sends (silent.choices ∙ t.chose) runs.stands both.wrote in
           comes_here here (tried.Failed cause) (here.unharmed, fails)
 
@@ -99,7 +99,7 @@ module _ {R : Type 0} {failure : Failure} {point : ℕ} {checkpoint : Path} {env
           → SendsBy ledger (record { conn = conn; bytes = bytes; taken = taken }) after result → TurnsBy failure point checkpoint env new choices log after result
       emits_now conn bytes {taken = taken} after result is ran at saved sent = of result sent
         where
-          s : SendsOn failure.rules.limits (items_of failure) (everywhere env point) old.base t.path old.written conn bytes (live_of new)
+          s : SendsOn failure.rules.limits (items_of failure) (everywhere failure.rules.limits.keep env point) old.base t.path old.written conn bytes (live_of new)
           s = ran_sends t new permits under conn bytes (subst Ranto is ran)
 
           now : taken ≡ t.path.state.machine.taken

@@ -35,7 +35,7 @@ module _ {R : Type 0} where
     pub failed : FailedAt point failure cpu log ledger
     pub from : IsCheckpoint failure.rules.limits failure.image checkpoint
     pub path : Path
-    pub served : Served failure.rules.limits (items_of failure) (everywhere env point) checkpoint path
+    pub served : Served failure.rules.limits (items_of failure) (everywhere failure.rules.limits.keep env point) checkpoint path
     pub unharmed : IsUnharmed (pieces_of failure) point path.state
     pub lives : path.state.ended ≡ None
     pub stands : cpu.slots.live ≡ standing_of path
@@ -57,7 +57,7 @@ module _ {R : Type 0} where
   -- it stands at its request for the next item
   pub record IsAsking (failure : Failure) (point : ℕ) (checkpoint : Path) (env : Env) (cpu : CpuState R) (choices : List Choice) (log : Log) (ledger : Ledger) : Type 0 where
     pub trying : IsTrying failure point checkpoint env cpu choices log ledger
-    pub asks : AsksFor failure.rules.limits (everywhere env point) trying.path trying.path.state.machine.taken
+    pub asks : AsksFor failure.rules.limits (everywhere failure.rules.limits.keep env point) trying.path trying.path.state.machine.taken
 
   pub record AsksSomewhere (point : ℕ) (cpu : CpuState R) (log : Log) (ledger : Ledger) : Type 0 where
     pub failure : Failure
@@ -69,7 +69,7 @@ module _ {R : Type 0} where
   -- It has come to a result. Where it survives, the ledger has its sends.
   pub record HasCome (failure : Failure) (point : ℕ) (checkpoint : Path) (env : Env) (cpu : CpuState R) (choices : List Choice) (ledger : Ledger) (result : Tried) : Type 0 where
     pub path : Path
-    pub trial : IsTrial failure.rules.limits (items_of failure) (plan_of_trial failure.plan checkpoint.state.machine.taken env point) checkpoint (pieces_of failure) point path result
+    pub trial : IsTrial failure.rules.limits (items_of failure) (plan_of_trial failure.rules.limits.keep failure.plan checkpoint.state.machine.taken env point) checkpoint (pieces_of failure) point path result
     pub stands : cpu.slots.live ≡ standing_of path
     pub wrote : Writes failure.rules.limits (items_of failure) cpu.base checkpoint (replicate cpu.slots.pages false) path cpu.written
     pub chose : path.choices ≡ checkpoint.choices ++ choices
@@ -79,7 +79,7 @@ module _ {R : Type 0} where
   -- Memory broke it off: its guest stands where it had come, by the plan that is in force if it is adopted.
   pub record HasStopped (failure : Failure) (point : ℕ) (checkpoint : Path) (env : Env) (cpu : CpuState R) : Type 0 where
     pub path : Path
-    pub from : Served failure.rules.limits (items_of failure) (plan_of_trial failure.plan checkpoint.state.machine.taken env point) checkpoint path
+    pub from : Served failure.rules.limits (items_of failure) (plan_of_trial failure.rules.limits.keep failure.plan checkpoint.state.machine.taken env point) checkpoint path
     pub stands : cpu.slots.live ≡ standing_of path
 
   -- it goes on, or has come to a result

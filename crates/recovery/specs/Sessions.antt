@@ -66,6 +66,7 @@ pub record FailedAt {R : Type 0} (point : ℕ) (failure : Failure) (cpu : CpuSta
   pub has : HasFailed failure.rules failure.image failure.entries failure.plan failure.failed failure.ring cpu log ledger
   pub point_is : failure.failed.state.machine.taken ≡ point
   pub few_steps : failure.rules.limits.budget ≤ 2 ^ 24
+  pub some_keep : 1 ≤ failure.rules.limits.keep
 
 -- from there trials can be made
 pub record CanTry {R : Type 0} (budget : ℕ) (permits : Heap → ℕ → ℕ → Bool) (point : ℕ) (cpu : CpuState R) (log : Log) (ledger : Ledger) : Type 0 where

@@ -43,7 +43,7 @@ module _ {R : Type 0} where
   -- and these are its answers of the allocator since then. Where it survives, the ledger has its sends, and else it has no trial.
   pub record HasTried (failure : Failure) (point : ℕ) (checkpoint : Path) (env : Env) (cpu : CpuState R) (choices : List Choice) (ledger : Ledger) (result : Tried) : Type 0 where
     pub path : Path
-    pub trial : IsTrial failure.rules.limits (items_of failure) (plan_of_trial failure.plan checkpoint.state.machine.taken env point) checkpoint (pieces_of failure) point path result
+    pub trial : IsTrial failure.rules.limits (items_of failure) (plan_of_trial failure.rules.limits.keep failure.plan checkpoint.state.machine.taken env point) checkpoint (pieces_of failure) point path result
     pub stands : cpu.slots.live ≡ standing_of path
     pub wrote : Writes failure.rules.limits (items_of failure) cpu.base checkpoint (replicate cpu.slots.pages false) path cpu.written
     pub chose : path.choices ≡ checkpoint.choices ++ choices

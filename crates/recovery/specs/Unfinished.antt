@@ -26,7 +26,7 @@ steps_unfinished unfinished = steps_of unfinished.trials + steps_of_last unfinis
 pub record IsAttempt (limits : Limits) (items : List Item) (plan : List Override) (point : ℕ) (chances : List Chance) (attempt : Attempt) : Type 0 where
   pub others : List Chance
   pub first : chances ≡ attempt.chance ∷ others
-  pub from : Served limits items (plan_of_trial plan attempt.chance.checkpoint.state.machine.taken attempt.chance.env point) attempt.chance.checkpoint attempt.path
+  pub from : Served limits items (plan_of_trial limits.keep plan attempt.chance.checkpoint.state.machine.taken attempt.chance.env point) attempt.chance.checkpoint attempt.path
 
 -- What a walk over a table had tried: its first chances in order, each with its result, of which none survived; and the next one, if a trial of it was begun.
 abbrev pub BeginsOver : Limits → List Item → List Override → List Send → ℕ → List Chance → List Trial → Option Attempt → Type 0

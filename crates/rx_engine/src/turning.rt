@@ -53,7 +53,7 @@ impl<R: AccessRule> Session<R> {
     ) -> Judged
         requires { self.now.recorded + length self.now.choices < 2 ^ 64 }
         ensures same { missing.new ≡ missing.old }
-        ensures judged { (limits : Limits) (items : List Item) (path : Path) (stand : Stand limits (plan_of handed.now.episodes.now) path)
+        ensures judged { (limits : Limits) (items : List Item) (path : Path) (stand : Stand limits (plan_of limits.keep handed.now.episodes.now) path)
             → IsJudgedAt limits items (handed_of handed.now) path stand missing.old kind self.now.taken self.now.steps (self.now.recorded + length self.now.choices) stuck
             → IsJudged limits items (handed_of handed.now) path stand stuck result }
     {

@@ -71,7 +71,7 @@ pub record IsUnreleased (rules : Rules) (image : Image) (handed : Handed) (sourc
   pub last : List LinkEvent
   pub coming : Option Coming
   pub now : Path
-  pub ran : Served rules.limits (items_in rules.bounds (heard_alone events)) (plan_of handed.episodes) (origin image) now
+  pub ran : Served rules.limits (items_in rules.bounds (heard_alone events)) (plan_of rules.limits.keep handed.episodes) (origin image) now
   pub not_before : HasNotReached rules.limits (items_in rules.bounds (heard_alone events)) image handed now
   pub asked : HasAskedBefore rules image handed events
   pub cause : IsUnfollowedBy rules image handed coming events last now why

@@ -57,13 +57,13 @@ with_env t = record {
 module _ (rules : Rules) (image : Image) (handed : Handed) (events : List LinkEvent) (now : Path) (alone : rules.bounds.before ≡ nothing_before) where
   -- it heard these items
   pub items_following : items_in (rules_following rules handed events now).bounds [] ≡ items_in rules.bounds (heard_alone events)
-  items_following = same_items rules (heard_alone events) (followed_before handed events now) (sym (events_alone rules.bounds (heard_alone events) alone))
+  items_following = same_items rules (heard_alone events) (followed_before rules.limits.keep handed events now) (sym (events_alone rules.bounds (heard_alone events) alone))
 
   -- a run up to there is one under the plan of the report
-  pub whole_following : (to : Path) → Served rules.limits (items_in (rules_following rules handed events now).bounds []) (plan_up_to (plan_of handed.episodes) to.state.machine.taken) (origin image) to
-      → Served rules.limits (items_in rules.bounds (heard_alone events)) (plan_of handed.episodes) (origin image) to
+  pub whole_following : (to : Path) → Served rules.limits (items_in (rules_following rules handed events now).bounds []) (plan_up_to (plan_of rules.limits.keep handed.episodes) to.state.machine.taken) (origin image) to
+      → Served rules.limits (items_in rules.bounds (heard_alone events)) (plan_of rules.limits.keep handed.episodes) (origin image) to
   whole_following to served =
-      let plan : List Override = plan_of handed.episodes in
+      let plan : List Override = plan_of rules.limits.keep handed.episodes in
       let items : List Item = items_in (rules_following rules handed events now).bounds [] in
       subst (λ (its : List Item). Served rules.limits its plan (origin image) to) items_following
       (says_now rules image items (plan_up_to plan to.state.machine.taken) plan to
@@ -75,17 +75,17 @@ module _ (rules : Rules) (image : Image) (handed : Handed) (events : List LinkEv
   same_replies to old new sends ledger keeps =
       subst (KeepsReplies (rules_following rules handed events to).bounds [] None to.state.sends) (sym ledger)
       (subst (λ (all : List Send). KeepsReplies (rules_following rules handed events to).bounds [] None all old) (sym sends)
-      (replies_after (rules_following rules handed events now) [] (followed_before handed events to) (sym (append-nil (events_in (heard_alone events)))) (ap (held handed.counts) sends ∙ sym (append-nil (held handed.counts now.state.sends))) (λ conn. refl) keeps))
+      (replies_after (rules_following rules handed events now) [] (followed_before rules.limits.keep handed events to) (sym (append-nil (events_in (heard_alone events)))) (ap (held handed.counts) sends ∙ sym (append-nil (held handed.counts now.state.sends))) (λ conn. refl) keeps))
 
 module _ {R : Type 0} where
   -- its guest ran on to there without taking an item, and used these answers of the allocator
   pub ran_following : {rules : Rules} {image : Image} {handed : Handed} {events : List LinkEvent} {now to : Path} {began : Since} {phases : Phases} {old new : SessionState R} (more : List Choice) → rules.bounds.before ≡ nothing_before → IsFollowing rules image handed events now began phases old
       → HasSameSide old new → new.replies.first ≡ old.replies.first → to.choices ≡ now.choices ++ more → new.choices ≡ old.choices ++ more → IsCounted new
-      → GoesOn rules.limits (items_in (rules_following rules handed events now).bounds []) (plan_up_to (plan_of handed.episodes) now.state.machine.taken) now to
+      → GoesOn rules.limits (items_in (rules_following rules handed events now).bounds []) (plan_up_to (plan_of rules.limits.keep handed.episodes) now.state.machine.taken) now to
       → Writes rules.limits (items_in (rules_following rules handed events now).bounds []) old.cpu.base now old.cpu.written to new.cpu.written → to.state.ended ≡ None → new.cpu.slots.live ≡ standing_of to
       → KeepsReplies (rules_following rules handed events to).bounds [] None to.state.sends new.replies → new.replies.trial ≡ None → IsFollowing rules image handed events to began phases new
   ran_following {rules = rules} {image = image} {handed = handed} {events = events} {now = now} {to = to} {new = new} more alone f side first used chosen counted goes wrote lives stands replies no_trial =
-      let plan : List Override = plan_of handed.episodes in
+      let plan : List Override = plan_of rules.limits.keep handed.episodes in
       let here : Rules = rules_following rules handed events now in
       let items : List Item = items_in here.bounds [] in
       let there = ran_there {rules = here} {image = image} {to = to} more f.stands side first used chosen counted goes wrote lives stands in
@@ -100,9 +100,10 @@ module _ {R : Type 0} where
       record {
         stands =
             rebased {rules = here} {events = events_in (heard_alone events)} {had = held handed.counts to.state.sends} handed.counts (plan_up_to plan to.state.machine.taken) there (sym (append-nil (events_in (heard_alone events)))) refl says replies no_trial
-            (in_force_here plan to.state.machine.taken new env until) (inl (omega (arith, until)));
+            (in_force_here plan to.state.machine.taken new env until) (inl (omega (arith, until, f.some_keep)));
         env = env;
         until = until;
+        some_keep = f.some_keep;
         before =
             not_on rules.limits (items_in rules.bounds (heard_alone events)) image handed now to f.before to_now
             (goes_to rules.limits (items_in rules.bounds (heard_alone events)) plan (origin image) now to to_now to_there goes.later) still;
@@ -112,7 +113,7 @@ module _ {R : Type 0} where
   -- an ask was answered, or it came to a request, an exit or a failure: nothing was sent
   pub went_following : {rules : Rules} {image : Image} {handed : Handed} {events : List LinkEvent} {now to : Path} {began : Since} {phases : Phases} {old new : SessionState R} (more : List Choice) → rules.bounds.before ≡ nothing_before → IsFollowing rules image handed events now began phases old
       → HasSameSide old new → new.replies ≡ old.replies → to.choices ≡ now.choices ++ more → new.choices ≡ old.choices ++ more → to.state.sends ≡ now.state.sends → IsCounted new
-      → GoesOn rules.limits (items_in (rules_following rules handed events now).bounds []) (plan_up_to (plan_of handed.episodes) now.state.machine.taken) now to
+      → GoesOn rules.limits (items_in (rules_following rules handed events now).bounds []) (plan_up_to (plan_of rules.limits.keep handed.episodes) now.state.machine.taken) now to
       → Writes rules.limits (items_in (rules_following rules handed events now).bounds []) old.cpu.base now old.cpu.written to new.cpu.written → to.state.ended ≡ None → new.cpu.slots.live ≡ standing_of to
       → IsFollowing rules image handed events to began phases new
   went_following {rules = rules} {image = image} {handed = handed} {events = events} {now = now} {to = to} {old = old} {new = new} more alone f side replies used chosen sent counted goes wrote lives stands =
@@ -122,12 +123,12 @@ module _ {R : Type 0} where
   -- it sent: its ledger has the send, and as much of it as clients have is passed
   pub sent_following : {rules : Rules} {image : Image} {handed : Handed} {events : List LinkEvent} {now to : Path} {began : Since} {phases : Phases} {old new : SessionState R} (send : Send) → rules.bounds.before ≡ nothing_before → IsFollowing rules image handed events now began phases old
       → HasSameSide old new → to.choices ≡ now.choices → new.choices ≡ old.choices → to.state.sends ≡ now.state.sends ++ send ∷ [] → IsCounted new → IsOpened old.replies send.conn → IsSendable send → new.replies ≡ with_held old.replies send (held_count handed.counts now.state.sends send)
-      → GoesOn rules.limits (items_in (rules_following rules handed events now).bounds []) (plan_up_to (plan_of handed.episodes) now.state.machine.taken) now to
+      → GoesOn rules.limits (items_in (rules_following rules handed events now).bounds []) (plan_up_to (plan_of rules.limits.keep handed.episodes) now.state.machine.taken) now to
       → Writes rules.limits (items_in (rules_following rules handed events now).bounds []) old.cpu.base now old.cpu.written to new.cpu.written → to.state.ended ≡ None → new.cpu.slots.live ≡ standing_of to
       → IsFollowing rules image handed events to began phases new
   sent_following {rules = rules} {image = image} {handed = handed} {events = events} {now = now} {to = to} {old = old} {new = new} send alone f side used chosen sent counted known sendable how goes wrote lives stands =
       let here : Rules = rules_following rules handed events now in
-      let what : Before = followed_before handed events to in
+      let what : Before = followed_before rules.limits.keep handed events to in
       let keeps : KeepsReplies (rules_after here what).bounds [] None (now.state.sends ++ send ∷ []) new.replies =
       subst (KeepsReplies (rules_after here what).bounds [] None (now.state.sends ++ send ∷ [])) (sym how)
       (sent_is_held here what handed.counts now.state.sends old.replies send (sym (append-nil (events_in (heard_alone events)))) refl (ap (held handed.counts) sent) known sendable f.stands.replies) in
@@ -144,19 +145,19 @@ module _ (rules : Rules) (handed : Handed) (events : List LinkEvent) (now : Path
       → items_in rules.bounds (heard_alone (events ++ event ∷ [])) ≡ items_in rules.bounds (heard_alone events) ++ more
   items_then more alone brings =
       let events_are = events_then ∙ refl in
-      let same = items_in-alike rules.bounds (followed_before handed events now) (heard_alone (events ++ event ∷ [])) (entry.Took event ∷ []) (sym events_are ∙ sym (events_alone rules.bounds (heard_alone (events ++ event ∷ [])) alone)) in
-      sym same ∙ (brings ∙ ap (λ (its : List Item). its ++ more) (same_items rules (heard_alone events) (followed_before handed events now) (sym (events_alone rules.bounds (heard_alone events) alone))))
+      let same = items_in-alike rules.bounds (followed_before rules.limits.keep handed events now) (heard_alone (events ++ event ∷ [])) (entry.Took event ∷ []) (sym events_are ∙ sym (events_alone rules.bounds (heard_alone (events ++ event ∷ [])) alone)) in
+      sym same ∙ (brings ∙ ap (λ (its : List Item). its ++ more) (same_items rules (heard_alone events) (followed_before rules.limits.keep handed events now) (sym (events_alone rules.bounds (heard_alone events) alone))))
 
 module _ {R : Type 0} where
   -- An event was heard, where its run asks for more and hasn't reached what was handed over. Nothing is passed.
   pub heard_following : {rules : Rules} {image : Image} {handed : Handed} {events : List LinkEvent} {now : Path} {began : Since} {phases later : Phases} {old new : SessionState R} (event : LinkEvent) (more : List Item) → rules.bounds.before ≡ nothing_before
-      → IsFollowing rules image handed events now began phases old → IsNotReached rules.limits handed now → AsksFor rules.limits (plan_up_to (plan_of handed.episodes) now.state.machine.taken) now now.state.machine.taken
+      → IsFollowing rules image handed events now began phases old → IsNotReached rules.limits handed now → AsksFor rules.limits (plan_up_to (plan_of rules.limits.keep handed.episodes) now.state.machine.taken) now now.state.machine.taken
       → received (rules_following rules handed events now).bounds [] ≤ now.state.machine.taken → HasSameRun old new → new.replies.first ≡ old.replies.first
       → items_in (rules_following rules handed events now).bounds (entry.Took event ∷ []) ≡ items_in (rules_following rules handed events now).bounds [] ++ more → KeepsItems (rules_following rules handed events now).bounds (entry.Took event ∷ []) new.log
       → KeepsPhases (rules_following rules handed events now).bounds (entry.Took event ∷ []) later → new.events ≡ length (events_of (rules_following rules handed events now).bounds (entry.Took event ∷ []))
       → KeepsReplies (rules_following rules handed events now).bounds (entry.Took event ∷ []) None now.state.sends new.replies → new.replies.trial ≡ None → IsFollowing rules image handed (events ++ event ∷ []) now began later new
   heard_following {rules = rules} {image = image} {handed = handed} {events = events} {now = now} {new = new} event more alone f not_yet asks all same first brings items phases count replies no_trial =
-      let plan : List Override = plan_of handed.episodes in
+      let plan : List Override = plan_of rules.limits.keep handed.episodes in
       let here : Rules = rules_following rules handed events now in
       let there = heard_there {rules = here} {image = image} {event = event} more f.stands same first brings items phases count in
       let until : new.until ≡ now.state.machine.taken + 1 = same.until ∙ f.until in
@@ -170,10 +171,11 @@ module _ {R : Type 0} where
         stands =
             rebased {rules = here} {events = events_in (heard_alone (events ++ event ∷ []))} {had = held handed.counts now.state.sends} handed.counts (plan_up_to plan now.state.machine.taken) there events_are refl
             (says_itself here image (items_in here.bounds (entry.Took event ∷ [])) (plan_up_to plan now.state.machine.taken) now)
-            (replies_after here (entry.Took event ∷ []) (followed_before handed (events ++ event ∷ []) now) events_are (sym (append-nil (held handed.counts now.state.sends))) (λ conn. refl) replies) no_trial
-            (in_force_here plan now.state.machine.taken new env until) (inl (omega (arith, until)));
+            (replies_after here (entry.Took event ∷ []) (followed_before rules.limits.keep handed (events ++ event ∷ []) now) events_are (sym (append-nil (held handed.counts now.state.sends))) (λ conn. refl) replies) no_trial
+            (in_force_here plan now.state.machine.taken new env until) (inl (omega (arith, until, f.some_keep)));
         env = env;
         until = until;
+        some_keep = f.some_keep;
         before = not_more rules.limits (items_in rules.bounds (heard_alone events)) more (items_in rules.bounds (heard_alone (events ++ event ∷ []))) image handed now (items_then rules handed events now event more alone brings) served f.before;
         asked =
             asked_then rules image handed events event f.asked
@@ -191,7 +193,7 @@ module _ {R : Type 0} where
   kept_following {rules = rules} {image = image} {handed = handed} {events = events} {now = now} {since = since} {seen = seen} {old = old} {new = new} alone f h mark steps env_is until_is = of same_now
     where
       plan : List Override
-      plan = plan_of handed.episodes
+      plan = plan_of rules.limits.keep handed.episodes
 
       here : Rules
       here = rules_following rules handed events now
@@ -222,21 +224,22 @@ module _ {R : Type 0} where
           (record {
             stands =
                 rebased {rules = here} {events = events_in (heard_alone events)} {had = held handed.counts to.state.sends} handed.counts (plan_up_to plan to.state.machine.taken) there (sym (append-nil (events_in (heard_alone events)))) refl says
-                (replies_after here [] (followed_before handed events to) (sym (append-nil (events_in (heard_alone events)))) (ap (λ (p : Path). held handed.counts p.state.sends) (sym same) ∙ sym (append-nil (held handed.counts now.state.sends))) (λ conn. refl) replies)
-                h.passed.no_trial (in_force_here plan to.state.machine.taken new env until) (inl (omega (arith, until)));
+                (replies_after here [] (followed_before rules.limits.keep handed events to) (sym (append-nil (events_in (heard_alone events)))) (ap (λ (p : Path). held handed.counts p.state.sends) (sym same) ∙ sym (append-nil (held handed.counts now.state.sends))) (λ conn. refl) replies)
+                h.passed.no_trial (in_force_here plan to.state.machine.taken new env until) (inl (omega (arith, until, f.some_keep)));
             env = env;
             until = until;
+            some_keep = f.some_keep;
             before = subst (λ (p : Path). HasNotReached rules.limits (items_in rules.bounds (heard_alone events)) image handed p) same f.before;
             asked = f.asked;
           })
 
   -- Its guest took the item that it waited for, and the environment is that of the report from there on.
   pub took_following : {rules : Rules} {image : Image} {handed : Handed} {events : List LinkEvent} {now : Path} {began since : Since} {phases : Phases} {seen : Seen} {old mid : SessionState R} → rules.bounds.before ≡ nothing_before → IsFollowing rules image handed events now began phases old
-      → IsNotReached rules.limits handed now → AsksFor rules.limits (plan_up_to (plan_of handed.episodes) now.state.machine.taken) now now.state.machine.taken
+      → IsNotReached rules.limits handed now → AsksFor rules.limits (plan_up_to (plan_of rules.limits.keep handed.episodes) now.state.machine.taken) now now.state.machine.taken
       → (g : IsGoing (rules_following rules handed events now) image since seen mid) → IsMarked since seen.told → mid.steps ≡ old.steps + 1
-      → IsFollowing rules image handed events g.story.survivor.now since seen.phases (record mid { env = env_at (plan_of handed.episodes) (old.taken + 1); until = old.taken + 2 })
+      → IsFollowing rules image handed events g.story.survivor.now since seen.phases (record mid { env = env_at (plan_of rules.limits.keep handed.episodes) (old.taken + 1); until = old.taken + 2 })
   took_following {rules = rules} {image = image} {handed = handed} {events = events} {now = now} {since = since} {seen = seen} {old = old} {mid = mid} alone f not_yet asks g mark steps =
-      let plan : List Override = plan_of handed.episodes in
+      let plan : List Override = plan_of rules.limits.keep handed.episodes in
       let here : Rules = rules_following rules handed events now in
       let items : List Item = items_in here.bounds [] in
       let to : Path = g.story.survivor.now in
@@ -261,21 +264,22 @@ module _ {R : Type 0} where
       record {
         stands =
             rebased {rules = here} {session = after} {events = events_in (heard_alone events)} {had = held handed.counts to.state.sends} handed.counts (plan_up_to plan to.state.machine.taken) (with_env there) (sym (append-nil (events_in (heard_alone events)))) refl says
-            (replies_after here [] (followed_before handed events to) (sym (append-nil (events_in (heard_alone events)))) (ap (held handed.counts) took.sends ∙ sym (append-nil (held handed.counts now.state.sends))) (λ conn. refl) replies)
-            g.passed.no_trial (in_force_here plan to.state.machine.taken after env until) (inl (omega (arith, until)));
+            (replies_after here [] (followed_before rules.limits.keep handed events to) (sym (append-nil (events_in (heard_alone events)))) (ap (held handed.counts) took.sends ∙ sym (append-nil (held handed.counts now.state.sends))) (λ conn. refl) replies)
+            g.passed.no_trial (in_force_here plan to.state.machine.taken after env until) (inl (omega (arith, until, f.some_keep)));
         env = env;
         until = until;
+        some_keep = f.some_keep;
         before = not_next rules.limits (items_in rules.bounds (heard_alone events)) image handed now to f.before not_yet (whole_following rules image handed events now alone now begins) one;
         asked = f.asked;
       }
 
   -- It is released where its run has reached what was handed over: what it followed is a part before an ordinary session, which has just begun there, once its environment is that of the report from there on.
   pub released_following : {rules : Rules} {image : Image} {handed : Handed} {events : List LinkEvent} {now : Path} {began : Since} {phases : Phases} {old : SessionState R} {env : Env} {until : ℕ} → rules.bounds.before ≡ nothing_before → IsFollowing rules image handed events now began phases old
-      → (stand : Stand rules.limits (plan_of handed.episodes) now) → HasReached rules.limits handed now stand → IsInForce (plan_of handed.episodes) now.state.machine.taken env until
-      → (until < now.state.machine.taken + 4) ⊎ ((until ≡ now.state.machine.taken + 4) × AsksFor rules.limits [] now now.state.machine.taken)
+      → (stand : Stand rules.limits (plan_of rules.limits.keep handed.episodes) now) → HasReached rules.limits handed now stand → IsInForce (plan_of rules.limits.keep handed.episodes) now.state.machine.taken env until
+      → (until < now.state.machine.taken + rules.limits.keep) ⊎ ((until ≡ now.state.machine.taken + rules.limits.keep) × AsksFor rules.limits [] now now.state.machine.taken)
       → HasFollowed rules image handed events now × HasJustBegun (rules_behind rules handed events now) image began phases (record old { env = env; until = until })
   released_following {rules = rules} {image = image} {handed = handed} {events = events} {now = now} {began = began} {phases = phases} {old = old} {env = env} {until = until} alone f stand reached in_force past =
-      let plan : List Override = plan_of handed.episodes in
+      let plan : List Override = plan_of rules.limits.keep handed.episodes in
       let here : Rules = rules_following rules handed events now in
       let items : List Item = items_in here.bounds [] in
       let under : List Override = plan_up_to plan now.state.machine.taken in
@@ -300,10 +304,10 @@ start_sends image = refl
 
 module _ {R : Type 0} where
   -- A session that was begun, with the start as its checkpoint, follows once its environment is that of the report.
-  pub started_following : {rules : Rules} {image : Image} (handed : Handed) {began : Since} {seen : Seen} {session : SessionState R} → rules.bounds.before ≡ nothing_before → (g : IsGoing rules image began seen session) → IsMarked began seen.told → session.steps ≡ 0
-      → IsFollowing rules image handed [] (origin image) began seen.phases (record session { env = env_at (plan_of handed.episodes) 0; until = 1 })
-  started_following {rules = rules} {image = image} handed {began = began} {seen = seen} {session = session} alone g mark none =
-      let plan : List Override = plan_of handed.episodes in
+  pub started_following : {rules : Rules} {image : Image} (handed : Handed) {began : Since} {seen : Seen} {session : SessionState R} → rules.bounds.before ≡ nothing_before → 2 ≤ rules.limits.keep → (g : IsGoing rules image began seen session) → IsMarked began seen.told → session.steps ≡ 0
+      → IsFollowing rules image handed [] (origin image) began seen.phases (record session { env = env_at (plan_of rules.limits.keep handed.episodes) 0; until = 1 })
+  started_following {rules = rules} {image = image} handed {began = began} {seen = seen} {session = session} alone some g mark none =
+      let plan : List Override = plan_of rules.limits.keep handed.episodes in
       let items : List Item = items_in rules.bounds [] in
       let to : Path = g.story.survivor.now in
       let there : StandsThere rules image began seen.phases g.story.survivor [] session = going_there g mark in
@@ -325,9 +329,10 @@ module _ {R : Type 0} where
         stands =
             rebased {rules = rules} {session = after} {events = []} {had = held handed.counts to.state.sends} handed.counts (plan_up_to plan to.state.machine.taken) (with_env there) no_events refl
             (says_start rules image items g.story.survivor.plan (plan_up_to plan to.state.machine.taken) to (ap (λ (p : Path). p.steps) (sym here) ∙ no_steps))
-            (replies_after rules [] (followed_before handed [] to) no_events had (λ conn. refl) replies) g.passed.no_trial (in_force_here plan to.state.machine.taken after env until) (inl (omega (arith, until)));
+            (replies_after rules [] (followed_before rules.limits.keep handed [] to) no_events had (λ conn. refl) replies) g.passed.no_trial (in_force_here plan to.state.machine.taken after env until) (inl (omega (arith, until, some)));
         env = env;
         until = until;
+        some_keep = some;
         before = λ path stand served less. absurd (let at = ap (λ (p : Path). p.steps) here in omega (arith, less, at, no_steps));
         asked = λ front back event split. absurd (let no : length {A = LinkEvent} [] ≡ length (front ++ event ∷ back) = ap length split in omega (arith, no, length-append front (event ∷ back)));
       })

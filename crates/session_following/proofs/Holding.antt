@@ -103,6 +103,7 @@ module _ {R : Type 0} where
     stands = begun_holding _ hold f.stands;
     env = f.env;
     until = f.until;
+    some_keep = f.some_keep;
     before = f.before;
     asked = λ front back event split. asks_holding rules hold image handed front (f.asked front back event split);
   }

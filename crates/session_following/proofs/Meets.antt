@@ -18,7 +18,7 @@ module _ {R : Type 0} where
   -- or it waits for an item
   pub waiting_following : {rules : Rules} {image : Image} {handed : Handed} {events : List LinkEvent} {now : Path} {began : Since} {seen : Seen} {session : SessionState R} → IsFollowing rules image handed events now began seen.phases session → began.told ≡ seen.told → began.lost ≡ 0
       → Grew began.noted_before.episodes began.noted.episodes [] → TellsMore began.tables_before began.tables (AreTables (rules_following rules handed events now) [] [] []) → rules.bounds.max_items < rules.hold
-      → AsksFor rules.limits (plan_up_to (plan_of handed.episodes) now.state.machine.taken) now now.state.machine.taken → IsWaitingFor (rules_following rules handed events now) image began seen session
+      → AsksFor rules.limits (plan_up_to (plan_of rules.limits.keep handed.episodes) now.state.machine.taken) now now.state.machine.taken → IsWaitingFor (rules_following rules handed events now) image began seen session
   waiting_following {rules = rules} {handed = handed} {events = events} {now = now} f told lost episodes tables most asks =
       just_hearing f.stands told lost episodes tables asks (let few = f.stands.goes.few in omega (arith, few, most))
 
@@ -37,7 +37,7 @@ module _ {R : Type 0} where
       → AreStampedBy now.state.machine.taken session.replies
   stamped_following {rules = rules} {image = image} {handed = handed} {events = events} {now = now} {session = session} f =
       stamped_by now.state.machine.taken (subst (Shows session.replies now.state.sends) (append-nil (held handed.counts now.state.sends)) f.stands.replies.shows)
-      (held_is_in_order rules.limits (items_in (rules_following rules handed events now).bounds []) (plan_up_to (plan_of handed.episodes) now.state.machine.taken) image now handed.counts f.stands.sound.carries.served)
+      (held_is_in_order rules.limits (items_in (rules_following rules handed events now).bounds []) (plan_up_to (plan_of rules.limits.keep handed.episodes) now.state.machine.taken) image now handed.counts f.stands.sound.carries.served)
 
 pub is_marked : (before now : Noted) → IsMarked (marked before now) nothing_told
 is_marked before now = record { told = refl; still = refl; tables_before = refl; tables = refl }
@@ -68,12 +68,13 @@ module _ {R : Type 0} where
         };
         env = f.env;
         until = f.until;
+        some_keep = f.some_keep;
         before = f.before;
         asked = f.asked;
       }
 
   -- where it waits for an item, it does as an ordinary session, told so
   pub marked_following : {rules : Rules} {image : Image} {handed : Handed} {events : List LinkEvent} {now : Path} {before noted : Noted} (seen : Seen) {session : SessionState R} → IsFollowing rules image handed events now (marked before noted) seen.phases session → Grew before.episodes noted.episodes []
-      → rules.bounds.max_items < rules.hold → AsksFor rules.limits (plan_up_to (plan_of handed.episodes) now.state.machine.taken) now now.state.machine.taken
+      → rules.bounds.max_items < rules.hold → AsksFor rules.limits (plan_up_to (plan_of rules.limits.keep handed.episodes) now.state.machine.taken) now now.state.machine.taken
       → IsWaitingFor (rules_following rules handed events now) image (marked before noted) (record seen { told = nothing_told }) session
   marked_following seen f episodes most asks = waiting_following {seen = record seen { told = nothing_told }} f refl refl episodes ([], refl, tt) most asks

@@ -4,24 +4,24 @@ use Rattle.session_following.proofs.PlanLemmas.{goes_to, same_steps}
 
 module _ (limits : Limits) (items : List Item) (image : Image) (handed : Handed) (now : Path) where
   -- a run that stands at a place goes on from there to no other one without taking an item
-  no_stand : (path to : Path) → Stand limits (plan_of handed.episodes) path → Served limits items (plan_of handed.episodes) path to → to.state.machine.taken ≤ path.state.machine.taken → path.steps < to.steps → ⊥
+  no_stand : (path to : Path) → Stand limits (plan_of limits.keep handed.episodes) path → Served limits items (plan_of limits.keep handed.episodes) path to → to.state.machine.taken ≤ path.state.machine.taken → path.steps < to.steps → ⊥
   no_stand path to there on few less =
-      elim (later_of limits items (plan_of handed.episodes) path to on) [
+      elim (later_of limits items (plan_of limits.keep handed.episodes) path to on) [
         | inl same ↦ let is : path.steps ≡ to.steps = ap (λ (p : Path). p.steps) same in omega (arith, is, less)
         | inr later ↦ elim there [
-          | AtRequest asks ↦ let took = asks_on limits items (plan_of handed.episodes) path to path.state.machine.taken asks later in omega (arith, took, few)
-          | AtExit ended ↦ ended_on limits items (plan_of handed.episodes) path to ended later
-          | AtFailure cause fails ↦ fails_on limits items (plan_of handed.episodes) path to cause fails later
+          | AtRequest asks ↦ let took = asks_on limits items (plan_of limits.keep handed.episodes) path to path.state.machine.taken asks later in omega (arith, took, few)
+          | AtExit ended ↦ ended_on limits items (plan_of limits.keep handed.episodes) path to ended later
+          | AtFailure cause fails ↦ fails_on limits items (plan_of limits.keep handed.episodes) path to cause fails later
         ]
       ]
 
   -- it goes on without taking an item
-  pub not_on : (to : Path) → HasNotReached limits items image handed now → Served limits items (plan_of handed.episodes) (origin image) now → Served limits items (plan_of handed.episodes) now to → to.state.machine.taken ≡ now.state.machine.taken
+  pub not_on : (to : Path) → HasNotReached limits items image handed now → Served limits items (plan_of limits.keep handed.episodes) (origin image) now → Served limits items (plan_of limits.keep handed.episodes) now to → to.state.machine.taken ≡ now.state.machine.taken
       → HasNotReached limits items image handed to
   not_on to before begins on still path there served less = of (cases_lt path.steps now.steps)
     where
       plan : List Override
-      plan = plan_of handed.episodes
+      plan = plan_of limits.keep handed.episodes
 
       of : (path.steps < now.steps) ⊎ (now.steps ≤ path.steps) → ¬ HasReached limits handed path there
       of (inl earlier) = before path there served earlier
@@ -32,11 +32,11 @@ module _ (limits : Limits) (items : List Item) (image : Image) (handed : Handed)
           absurd (no_stand path to there ahead (let low = taken_later limits items plan now path from in omega (arith, low, still)) less)
 
   -- and it goes on by one instruction
-  pub not_next : (to : Path) → HasNotReached limits items image handed now → IsNotReached limits handed now → Served limits items (plan_of handed.episodes) (origin image) now → to.steps ≡ now.steps + 1 → HasNotReached limits items image handed to
+  pub not_next : (to : Path) → HasNotReached limits items image handed now → IsNotReached limits handed now → Served limits items (plan_of limits.keep handed.episodes) (origin image) now → to.steps ≡ now.steps + 1 → HasNotReached limits items image handed to
   not_next to before here begins one path there served less = of (cases_lt path.steps now.steps)
     where
       plan : List Override
-      plan = plan_of handed.episodes
+      plan = plan_of limits.keep handed.episodes
 
       of : (path.steps < now.steps) ⊎ (now.steps ≤ path.steps) → ¬ HasReached limits handed path there
       of (inl earlier) = before path there served earlier
@@ -67,9 +67,9 @@ front_of limits items plan first second n (suc m) few ran =
     ]
 
 -- more items come
-pub not_more : (limits : Limits) (items more all : List Item) (image : Image) (handed : Handed) (now : Path) → all ≡ items ++ more → Served limits items (plan_of handed.episodes) (origin image) now → HasNotReached limits items image handed now → HasNotReached limits all image handed now
+pub not_more : (limits : Limits) (items more all : List Item) (image : Image) (handed : Handed) (now : Path) → all ≡ items ++ more → Served limits items (plan_of limits.keep handed.episodes) (origin image) now → HasNotReached limits items image handed now → HasNotReached limits all image handed now
 not_more limits items more all image handed now grown begins before path there served less =
-    let plan : List Override = plan_of handed.episodes in
+    let plan : List Override = plan_of limits.keep handed.episodes in
     let whole = steps_are limits items plan (origin image) now begins.more begins.ran in
     let parts = steps_are limits all plan (origin image) path served.more served.ran in
     let front = front_of limits items plan (origin image) now served.more begins.more (omega (arith, whole, parts, less)) begins.ran in
@@ -109,7 +109,7 @@ asked_then rules image handed events event before now front back one split =
     ]
 
 -- where it stands at its request it stands nowhere else, so what isn't reached there isn't reached
-pub not_at_request : (limits : Limits) (handed : Handed) (path : Path) (asks : AsksFor limits (plan_of handed.episodes) path path.state.machine.taken) → ¬ HasReached limits handed path (AtRequest asks) → IsNotReached limits handed path
+pub not_at_request : (limits : Limits) (handed : Handed) (path : Path) (asks : AsksFor limits (plan_of limits.keep handed.episodes) path path.state.machine.taken) → ¬ HasReached limits handed path (AtRequest asks) → IsNotReached limits handed path
 not_at_request limits handed path asks none (AtRequest other) reached = none (record { past = reached.past; chose = reached.chose; finished = reached.finished; covers = reached.covers })
 not_at_request limits handed path asks none (AtExit ended) reached = apart_ended path asks.lives ended
-not_at_request limits handed path asks none (AtFailure cause fails) reached = apart_asks_fails limits (plan_of handed.episodes) path path.state.machine.taken cause asks fails
+not_at_request limits handed path asks none (AtFailure cause fails) reached = apart_asks_fails limits (plan_of limits.keep handed.episodes) path path.state.machine.taken cause asks fails

@@ -43,7 +43,7 @@ module _ {R : Type 0} where
   pub rebased : {rules : Rules} {image : Image} {began : Since} {phases : Phases} {survivor : Survivor} {since : List Entry} {session : SessionState R} {events : List LinkEvent} {had : List Send} (counts : List (ℕ × ℕ)) (other : List Override) → StandsThere rules image began phases survivor since session
       → events ≡ events_of rules.bounds since → had ≡ held counts survivor.now.state.sends → SaysAs rules image (items_in rules.bounds since) survivor.plan other survivor.now
       → KeepsReplies (rules_after rules (came_before events had other survivor.now)).bounds [] None survivor.now.state.sends session.replies → session.replies.trial ≡ None → IsInForce other survivor.now.state.machine.taken session.env session.until
-      → (session.until < survivor.now.state.machine.taken + 4) ⊎ ((session.until ≡ survivor.now.state.machine.taken + 4) × AsksFor rules.limits [] survivor.now survivor.now.state.machine.taken)
+      → (session.until < survivor.now.state.machine.taken + rules.limits.keep) ⊎ ((session.until ≡ survivor.now.state.machine.taken + rules.limits.keep) × AsksFor rules.limits [] survivor.now survivor.now.state.machine.taken)
       → HasJustBegun (rules_after rules (came_before events had other survivor.now)) image began phases session
   rebased {rules = rules} {image = image} {began = began} {survivor = survivor} {since = since} {session = session} {events = events} {had = had} counts other there same had_is says replies no_trial in_force past =
       let now : Path = survivor.now in

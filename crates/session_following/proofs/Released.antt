@@ -17,11 +17,11 @@ newest_in_force override plan taken begun = record {
   in_force = λ count from. ap (λ (b : Bool). cond b (env_at plan count) (cond (ltb count override.until) override.env Plain)) (le-ltb count override.low (omega (arith, begun, from)));
 }
 
--- It ends within four items where its failure was at this point, and the run asks for an item no earlier.
-pub newest_past : (rules : Rules) (until point : ℕ) (now : Path) → until ≡ point + 4 → point ≤ now.state.machine.taken → AsksFor rules.limits [] now now.state.machine.taken
-    → (until < now.state.machine.taken + 4) ⊎ ((until ≡ now.state.machine.taken + 4) × AsksFor rules.limits [] now now.state.machine.taken)
+-- It ends within so many items where its failure was at this point, and the run asks for an item no earlier.
+pub newest_past : (rules : Rules) (until point : ℕ) (now : Path) → until ≡ point + rules.limits.keep → point ≤ now.state.machine.taken → AsksFor rules.limits [] now now.state.machine.taken
+    → (until < now.state.machine.taken + rules.limits.keep) ⊎ ((until ≡ now.state.machine.taken + rules.limits.keep) × AsksFor rules.limits [] now now.state.machine.taken)
 newest_past rules until point now is reached asks =
-    elim (cases_lt until (now.state.machine.taken + 4)) [
+    elim (cases_lt until (now.state.machine.taken + rules.limits.keep)) [
       | inl less ↦ inl less
       | inr most ↦ inr (omega (arith, is, reached, most), asks)
     ]
@@ -30,11 +30,11 @@ module _ {R : Type 0} where
   -- Its guest ends itself where its run has reached what was handed over: an ordinary session that has just begun there has come to its end.
   pub exited_following : {rules : Rules} {image : Image} {handed : Handed} {events : List LinkEvent} {now to : Path} {began : Since} {seen : Seen} {old new : SessionState R} {code : ℕ} → rules.bounds.before ≡ nothing_before → IsFollowing rules image handed events now began seen.phases old
       → began.told ≡ seen.told → began.lost ≡ 0 → Grew began.noted_before.episodes began.noted.episodes [] → TellsMore began.tables_before began.tables (AreTables (rules_behind rules handed events to) [] [] [])
-      → HasSameSide old new → new.replies ≡ old.replies → new.choices ≡ old.choices → IsCounted new → GoesOn rules.limits (items_in (rules_following rules handed events now).bounds []) (plan_up_to (plan_of handed.episodes) now.state.machine.taken) now to → IsSilent now to
+      → HasSameSide old new → new.replies ≡ old.replies → new.choices ≡ old.choices → IsCounted new → GoesOn rules.limits (items_in (rules_following rules handed events now).bounds []) (plan_up_to (plan_of rules.limits.keep handed.episodes) now.state.machine.taken) now to → IsSilent now to
       → Writes rules.limits (items_in (rules_following rules handed events now).bounds []) old.cpu.base now old.cpu.written to new.cpu.written → to.state.ended ≡ Some code → new.cpu.slots.live ≡ standing_of to
       → (there : IsSome to.state.ended) → HasReached rules.limits handed to (AtExit there) → HasFollowed rules image handed events to × IsEnding (rules_behind rules handed events to) image began seen new (session_end.Exited code)
   exited_following {rules = rules} {image = image} {handed = handed} {events = events} {now = now} {to = to} {began = began} {seen = seen} {old = old} {new = new} {code = code} alone f told lost episodes tables side replies chosen counted goes silent wrote ended stands there reached =
-      let plan : List Override = plan_of handed.episodes in
+      let plan : List Override = plan_of rules.limits.keep handed.episodes in
       let here : Rules = rules_following rules handed events now in
       let next : Rules = rules_behind rules handed events to in
       let items : List Item = items_in here.bounds [] in

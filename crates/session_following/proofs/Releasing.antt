@@ -6,7 +6,7 @@ use Rattle.session_history.specs.declared.ends.SessionBreak.TheVariants as sessi
 use Rattle.session_history.specs.declared.ends.Stop.TheVariants as stop
 use Rattle.session_state.proofs.ending.EndLemmas.{served_off}
 use Rattle.session_state.proofs.ending.LeavingLemmas.{left_by}
-use Rattle.session_following.proofs.Terms.{Bool, List, None, Option, Some, [], ap, append-nil, arith, drop, inl, inr, length, refl, subst, sym, take, true, ℕ, ◌+◌, ◌<◌, ◌∙◌, ◌∷◌, ◌≡◌, ◌≤◌, ◌⊎◌, last_or, All, Err, IfSome, IsSome, ◌≢◌, Item, Send, LinkEvent, Grew, Phases, Tells, Told, Seen, Choice, Heap, Env, Image, AsksFor, Override, Path, Served, origin, CpuState, standing_of, Standing, Writes, Stop, served_on, Before, items_in, nothing_before, Rules, Episode, Try, Noted, asks_under_all, heard_alone, rules_behind, AtExit, AtFailure, AtRequest, Handed, HasReached, IsPastFailure, Stand, adopted_try, plan_of, IsInForce, TellsMore, taken_all, IsTrimmed, LeavesBy, keeping_of, rules_in, AreTables, Telling, BreaksPassing, IsCounted, StopsBy, TrimsAt, rules_by, SessionState, IsGoing, Since, told_since, Unfollowed, plan_up_to, rules_after, HasJustBegun, before_moved, before_released, rules_following, EndsAfter, IsFollowedBy, IsMissing, Agree, IsJudgedAt, kind_of, IsUnfollowed, IsUnfollowedBy, TookOver, Follows, HasReachedOn, HasRunOn, IsReleased, IsReleasedAtExit, held_back, holding, marked}
+use Rattle.session_following.proofs.Terms.{Bool, List, None, Option, Some, [], ap, append-nil, arith, drop, inl, inr, length, refl, subst, sym, take, true, ℕ, ◌+◌, ◌<◌, ◌∙◌, ◌∷◌, ◌≡◌, ◌≤◌, ◌⊎◌, last_or, All, Err, IfSome, IsSome, ◌≢◌, Item, KEEP, Send, LinkEvent, Grew, Phases, Tells, Told, Seen, Choice, Heap, Env, Image, AsksFor, Override, Path, Served, origin, CpuState, standing_of, Standing, Writes, Stop, served_on, Before, items_in, nothing_before, Rules, Episode, Try, Noted, asks_under_all, heard_alone, rules_behind, AtExit, AtFailure, AtRequest, Handed, HasReached, IsPastFailure, Stand, adopted_try, plan_of, IsInForce, TellsMore, taken_all, IsTrimmed, LeavesBy, keeping_of, rules_in, AreTables, Telling, BreaksPassing, IsCounted, StopsBy, TrimsAt, rules_by, SessionState, IsGoing, Since, told_since, Unfollowed, plan_up_to, rules_after, HasJustBegun, before_moved, before_released, rules_following, EndsAfter, IsFollowedBy, IsMissing, Agree, IsJudgedAt, kind_of, IsUnfollowed, IsUnfollowedBy, TookOver, Follows, HasReachedOn, HasRunOn, IsReleased, IsReleasedAtExit, held_back, holding, marked}
 use Rattle.session_following.proofs.Following.{released_following, whole_following}
 use Rattle.session_following.proofs.Holding.{following_holding}
 use Rattle.session_following.proofs.Moving.{moved_before}
@@ -32,13 +32,15 @@ module _ {R : Type 0} (permits : R → Heap → ℕ → ℕ → Bool) (rules : R
 
 module _ {R : Type 0} (permits : R → Heap → ℕ → ℕ → Bool) {rules : Rules} {image : Image} {handed : Handed} {told : Told} {seen : Seen} {before noted : Noted} where
   -- It is released where its run has reached what was handed over.
-  pub released_on : {missing : List ℕ} {old new : SessionState R} {env : Env} {until : ℕ} → rules.bounds.before ≡ nothing_before → (s : Follows rules (rules_by permits old) image handed told seen before noted missing old) → (stand : Stand rules.limits (plan_of handed.episodes) s.now)
-      → HasReached rules.limits handed s.now stand → IsInForce (plan_of handed.episodes) s.now.state.machine.taken env until
-      → (until < s.now.state.machine.taken + 4) ⊎ ((until ≡ s.now.state.machine.taken + 4) × AsksFor rules.limits [] s.now s.now.state.machine.taken) → new ≡ record old { env = env; until = until; before = new.before; hold = rules.hold } → new.before ≡ before_released old.before (plan_of handed.episodes)
+  pub released_on : {missing : List ℕ} {old new : SessionState R} {env : Env} {until : ℕ} → rules.bounds.before ≡ nothing_before → (s : Follows rules (rules_by permits old) image handed told seen before noted missing old) → (stand : Stand rules.limits (plan_of rules.limits.keep handed.episodes) s.now)
+      → HasReached rules.limits handed s.now stand → IsInForce (plan_of KEEP handed.episodes) s.now.state.machine.taken env until
+      → (until < s.now.state.machine.taken + rules.limits.keep) ⊎ ((until ≡ s.now.state.machine.taken + rules.limits.keep) × AsksFor rules.limits [] s.now s.now.state.machine.taken) → new ≡ record old { env = env; until = until; before = new.before; hold = rules.hold } → new.before ≡ before_released old.before (plan_of KEEP handed.episodes)
       → IsReleased rules (rules_by permits new) image handed told seen before noted new
   released_on {old = old} {new = new} {env = env} {until = until} alone s stand reached in_force past same came =
       let f = following_holding rules.hold s.follows in
-      let r = released_following alone f stand reached in_force past in
+      let keeps : KEEP ≡ rules.limits.keep = ap (λ (x : Rules). x.limits.keep) s.here_is in
+      let forced = subst (λ (keep : ℕ). IsInForce (plan_of keep handed.episodes) s.now.state.machine.taken env until) keeps in_force in
+      let r = released_following alone f stand reached forced past in
       record {
         events = s.events;
         released = s.now;
@@ -47,7 +49,7 @@ module _ {R : Type 0} (permits : R → Heap → ℕ → ℕ → Bool) {rules : R
         episodes = s.episodes;
         here_is =
             here_released permits rules handed s.events s.now s.now old new s.here_is (ap (λ (t : SessionState R). t.options) same) (ap (λ (t : SessionState R). t.cpu.rule) same) (ap (λ (t : SessionState R). t.hold) same)
-            (came ∙ ap (λ (b : Before). before_released b (plan_of handed.episodes)) (ap (λ (x : Rules). x.bounds.before) s.here_is));
+            (came ∙ ap (λ (keep : ℕ). before_released old.before (plan_of keep handed.episodes)) keeps ∙ ap (λ (b : Before). before_released b (plan_of rules.limits.keep handed.episodes)) (ap (λ (x : Rules). x.bounds.before) s.here_is));
         begun = subst (λ (t : SessionState R). HasJustBegun (rules_behind rules handed s.events s.now) image (marked before noted) seen.phases t) (sym same) (past_begun new.before rules.hold r.1);
       }
 
@@ -86,7 +88,7 @@ module _ {R : Type 0} (permits : R → Heap → ℕ → ℕ → Bool) {rules : R
       let f = following_holding rules.hold h.stood.follows in
       let s = h.stood in
       let a = f.stands.answers in
-      let plan : List Override = plan_of handed.episodes in
+      let plan : List Override = plan_of rules.limits.keep handed.episodes in
       let under : List Override = plan_up_to plan s.now.state.machine.taken in
       let items : List Item = items_in (rules_following rules handed s.events s.now).bounds [] in
       let heard : List Item = items_in rules.bounds (heard_alone s.events) in
@@ -118,10 +120,11 @@ module _ {R : Type 0} (permits : R → Heap → ℕ → ℕ → Bool) {rules : R
       }
 
   -- It is released there.
-  pub exit_on : new.hold ≡ rules.hold → new.before ≡ before_released (before_moved old.before old.cpu.slots.live []) (plan_of handed.episodes) → HasReached rules.limits handed to (AtExit exit_stands) → IsReleasedAtExit rules (rules_by permits new) image handed told seen before noted code new
+  pub exit_on : new.hold ≡ rules.hold → new.before ≡ before_released (before_moved old.before old.cpu.slots.live []) (plan_of KEEP handed.episodes) → HasReached rules.limits handed to (AtExit exit_stands) → IsReleasedAtExit rules (rules_by permits new) image handed told seen before noted code new
   exit_on hold came reached =
       let s = h.stood in
       let cpu : new.cpu ≡ old.cpu = ap (λ (t : SessionState R). t.cpu) same in
+      let keeps : KEEP ≡ rules.limits.keep = ap (λ (r : Rules). r.limits.keep) s.here_is in
       let ends = λ (tables : Option (List (List Try))). exited_following {began = told_since seen.told before noted tables tables 0} {seen = seen} {new = new} {code = code} s.alone (since_following refl refl (following_holding rules.hold s.follows)) refl refl s.episodes
       (tables_none (rules_behind rules handed s.events to) tables) (side_of h.same h.cpu same) (replies ∙ ap (λ (t : SessionState R). t.replies) h.same) (chosen ∙ ap (λ (t : SessionState R). t.choices) h.same) counted h.runs.ran.goes h.runs.ran.comes.0
       (subst (λ (c : CpuState R). Writes rules.limits (items_in (rules_following rules handed s.events s.now).bounds []) h.was.cpu.base s.now h.was.cpu.written to c.written) (sym cpu) h.runs.wrote) h.runs.ran.comes.1
@@ -134,9 +137,10 @@ module _ {R : Type 0} (permits : R → Heap → ℕ → ℕ → Bool) {rules : R
         here_is =
             here_released permits rules handed s.events s.now to old new s.here_is (ap (λ (t : SessionState R). t.options) same) (ap (λ (t : SessionState R). t.cpu.rule) same) hold
             (came
-            ∙ ap (λ (b : Before). before_released b (plan_of handed.episodes))
+            ∙ ap (λ (keep : ℕ). before_released (before_moved old.before old.cpu.slots.live []) (plan_of keep handed.episodes)) keeps
+            ∙ ap (λ (b : Before). before_released b (plan_of rules.limits.keep handed.episodes))
             (ap (λ (b : Before). before_moved b old.cpu.slots.live []) (ap (λ (r : Rules). r.bounds.before) s.here_is)
-            ∙ moved_before handed s.events s.now to old.cpu.slots.live (sym h.runs.ran.stands) [] h.runs.ran.comes.0.sends (h.runs.ran.comes.0.choices ∙ sym (append-nil s.now.choices)) h.runs.ran.goes.taken));
+            ∙ moved_before rules.limits.keep handed s.events s.now to old.cpu.slots.live (sym h.runs.ran.stands) [] h.runs.ran.comes.0.sends (h.runs.ran.comes.0.choices ∙ sym (append-nil s.now.choices)) h.runs.ran.goes.taken));
         ends = λ tables. (ends tables).1;
       }
 
@@ -188,10 +192,10 @@ followed_last taken None adopted past = tt
 followed_last taken (Some episode) adopted past = (adopted, past)
 
 -- where the environment ends that is in force then
-ends_past : (rules : Rules) (now : Path) (until : ℕ) (o : Option Episode) → EndsAfter o until → IfSome o (λ (e : Episode). (e.point < now.state.machine.taken) ⊎ ((e.point ≤ now.state.machine.taken) × AsksFor rules.limits [] now now.state.machine.taken))
-    → (until < now.state.machine.taken + 4) ⊎ ((until ≡ now.state.machine.taken + 4) × AsksFor rules.limits [] now now.state.machine.taken)
-ends_past rules now until None is past = inl (omega (arith, is))
-ends_past rules now until (Some episode) is past =
+ends_past : (rules : Rules) (now : Path) (until : ℕ) (o : Option Episode) → 1 ≤ rules.limits.keep → EndsAfter rules.limits.keep o until → IfSome o (λ (e : Episode). (e.point < now.state.machine.taken) ⊎ ((e.point ≤ now.state.machine.taken) × AsksFor rules.limits [] now now.state.machine.taken))
+    → (until < now.state.machine.taken + rules.limits.keep) ⊎ ((until ≡ now.state.machine.taken + rules.limits.keep) × AsksFor rules.limits [] now now.state.machine.taken)
+ends_past rules now until None some is past = inl (omega (arith, some, is))
+ends_past rules now until (Some episode) some is past =
     elim past [
       | inl before ↦ inl (omega (arith, is, before))
       | inr at_request ↦ newest_past rules until episode.point now is at_request.0 at_request.1
@@ -203,9 +207,9 @@ if_last P Q (Some e) so holds = so e holds
 
 module _ {R : Type 0} where
   -- It is past the last failure, where it has reached what was handed over, by its stand.
-  past_stand : {rules here : Rules} {image : Image} {handed : Handed} {told : Told} {seen : Seen} {before noted : Noted} {missing : List ℕ} {session : SessionState R} (s : Follows rules here image handed told seen before noted missing session) (stand : Stand rules.limits (plan_of handed.episodes) s.now) → kind_of stand ≢ kind.Exit → (e : Episode)
+  past_stand : {rules here : Rules} {image : Image} {handed : Handed} {told : Told} {seen : Seen} {before noted : Noted} {missing : List ℕ} {session : SessionState R} (s : Follows rules here image handed told seen before noted missing session) (stand : Stand rules.limits (plan_of rules.limits.keep handed.episodes) s.now) → kind_of stand ≢ kind.Exit → (e : Episode)
       → IsPastFailure stand e → (e.point < s.now.state.machine.taken) ⊎ ((e.point ≤ s.now.state.machine.taken) × AsksFor rules.limits [] s.now s.now.state.machine.taken)
-  past_stand {rules = rules} {handed = handed} s (AtRequest asks) lives e past = inr (past, asks_under_all rules.limits (plan_of handed.episodes) [] s.now s.now.state.machine.taken asks)
+  past_stand {rules = rules} {handed = handed} s (AtRequest asks) lives e past = inr (past, asks_under_all rules.limits (plan_of rules.limits.keep handed.episodes) [] s.now s.now.state.machine.taken asks)
   past_stand s (AtExit ended) lives e past = absurd (lives refl)
   past_stand s (AtFailure cause fails) lives e past = inl past
 
@@ -219,8 +223,11 @@ module _ {R : Type 0} where
       low e (inl before) = omega (arith, before, r.stands.follows.stands.answers.taken)
       low e (inr at_request) = omega (arith, at_request.0, r.stands.follows.stands.answers.taken)
 
-  pub released_past : {rules here : Rules} {image : Image} {handed : Handed} {told : Told} {seen : Seen} {before noted : Noted} {missing : List ℕ} {session : SessionState R} {until : ℕ} → (r : HasReachedOn rules here image handed told seen before noted missing session) → EndsAfter (last_or None handed.episodes) until
-      → (until < r.stands.now.state.machine.taken + 4) ⊎ ((until ≡ r.stands.now.state.machine.taken + 4) × AsksFor rules.limits [] r.stands.now r.stands.now.state.machine.taken)
-  released_past {rules = rules} {handed = handed} {until = until} r ends = ends_past rules r.stands.now until (last_or None handed.episodes) ends
+  pub released_past : (permits : R → Heap → ℕ → ℕ → Bool) {rules : Rules} {image : Image} {handed : Handed} {told : Told} {seen : Seen} {before noted : Noted} {missing : List ℕ} {session : SessionState R} {until : ℕ} → (r : HasReachedOn rules (rules_by permits session) image handed told seen before noted missing session) → EndsAfter KEEP (last_or None handed.episodes) until
+      → (until < r.stands.now.state.machine.taken + rules.limits.keep) ⊎ ((until ≡ r.stands.now.state.machine.taken + rules.limits.keep) × AsksFor rules.limits [] r.stands.now r.stands.now.state.machine.taken)
+  released_past permits {rules = rules} {handed = handed} {until = until} r ends =
+      let keeps : KEEP ≡ rules.limits.keep = ap (λ (x : Rules). x.limits.keep) r.stands.here_is in
+      let two = r.stands.follows.some_keep in
+      ends_past rules r.stands.now until (last_or None handed.episodes) (omega (arith, two)) (subst (λ (keep : ℕ). EndsAfter keep (last_or None handed.episodes) until) keeps ends)
       (if_last (IsPastFailure r.stand) (λ (e : Episode). (e.point < r.stands.now.state.machine.taken) ⊎ ((e.point ≤ r.stands.now.state.machine.taken) × AsksFor rules.limits [] r.stands.now r.stands.now.state.machine.taken)) (last_or None handed.episodes)
       (λ e past. past_stand r.stands r.stand r.lives e past) r.reached.past)

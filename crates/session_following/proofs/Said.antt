@@ -31,7 +31,7 @@ past_other item asks (AtExit ended) episode past = absurd (false≢true (sym (ap
 past_other item asks (AtFailure cause fails) episode past = omega (arith, past)
 
 -- what the code tests is what the files tell
-files_to : {limits : Limits} {items : List Item} (handed : HandedOver) {path : Path} {stand : Stand limits (plan_of handed.episodes.now) path} {missing : List ℕ} {kind : StandKind} {taken steps chosen : ℕ} {stuck : Bool}
+files_to : {limits : Limits} {items : List Item} (handed : HandedOver) {path : Path} {stand : Stand limits (plan_of limits.keep handed.episodes.now) path} {missing : List ℕ} {kind : StandKind} {taken steps chosen : ℕ} {stuck : Bool}
     → IsJudgedAt limits items (handed_of handed) path stand missing kind taken steps chosen stuck → HasReachedFiles limits (handed_of handed) path stand → HasFiles handed kind taken steps chosen
 files_to handed {path = path} {stand = stand} {kind = kind} {taken = taken} at files = record {
   past =
@@ -41,7 +41,7 @@ files_to handed {path = path} {stand = stand} {kind = kind} {taken = taken} at f
   finished = subst (λ (n : ℕ). IsBehind handed.finish n) at.steps_are (behind_to handed.finish path.steps files.finished);
 }
 
-files_from : {limits : Limits} {items : List Item} (handed : HandedOver) {path : Path} {stand : Stand limits (plan_of handed.episodes.now) path} {missing : List ℕ} {kind : StandKind} {taken steps chosen : ℕ} {stuck : Bool}
+files_from : {limits : Limits} {items : List Item} (handed : HandedOver) {path : Path} {stand : Stand limits (plan_of limits.keep handed.episodes.now) path} {missing : List ℕ} {kind : StandKind} {taken steps chosen : ℕ} {stuck : Bool}
     → IsJudgedAt limits items (handed_of handed) path stand missing kind taken steps chosen stuck → HasFiles handed kind taken steps chosen → HasReachedFiles limits (handed_of handed) path stand
 files_from handed {path = path} {stand = stand} {kind = kind} {taken = taken} at files = record {
   past =
@@ -101,7 +101,7 @@ asks_of (AtRequest asks) is = asks
 asks_of (AtExit ended) is = absurd (cc is)
 asks_of (AtFailure cause fails) is = absurd (cc is)
 
-module _ {limits : Limits} {items : List Item} (handed : HandedOver) {path : Path} {stand : Stand limits (plan_of handed.episodes.now) path} {missing : List ℕ} {kind : StandKind} {taken steps chosen : ℕ} {stuck : Bool} where
+module _ {limits : Limits} {items : List Item} (handed : HandedOver) {path : Path} {stand : Stand limits (plan_of limits.keep handed.episodes.now) path} {missing : List ℕ} {kind : StandKind} {taken steps chosen : ℕ} {stuck : Bool} where
   -- where it stands elsewhere than the last line says
   pub said_place : IsJudgedAt limits items (handed_of handed) path stand missing kind taken steps chosen stuck → IsElsewhere handed.finish taken steps → ¬ HasReached limits (handed_of handed) path stand → IsUnlike limits items (handed_of handed) path
   said_place at elsewhere never =
@@ -150,7 +150,7 @@ module _ {limits : Limits} {items : List Item} (handed : HandedOver) {path : Pat
 
   -- where it may go on
   may_reach : IsJudgedAt limits items (handed_of handed) path stand missing kind taken steps chosen stuck → stuck ≡ false → ¬ IsElsewhere handed.finish taken steps
-      → ((other : Stand limits (plan_of handed.episodes.now) path) → ¬ HasReached limits (handed_of handed) path other) → MayReach limits (handed_of handed) path stuck
+      → ((other : Stand limits (plan_of limits.keep handed.episodes.now) path) → ¬ HasReached limits (handed_of handed) path other) → MayReach limits (handed_of handed) path stuck
   may_reach at is never not_yet = record {
     not_yet = not_yet;
     goes_on = is;

@@ -1,10 +1,9 @@
 -- Why a session that follows stops before it is released: it is judged where it stands, or its link is heard in vain.
 use Rattle.item_log.specs.Log as logs
-use Rattle.rx_base.specs.declared.item.TheConstants.{MAX_ITEMS}
 use Rattle.link_gate.specs.declared.heard.HearFault.TheVariants as fault
 use Rattle.session_history.specs.Heeding as unheeded
 use Rattle.session_state.proofs.guest.ChoiceLemmas.{few_choices}
-use Rattle.session_following.proofs.Terms.{Bool, List, Option, [], ap, append-nil, arith, inl, inr, length, refl, subst, sym, true, ℕ, ◌++◌, ◌+◌, ◌<◌, ◌∙◌, ◌∷◌, ◌≡◌, ◌≤◌, ◌⊎◌, length-replicate, Err, IsSome, replicate, ◌^◌, ◌≢◌, Item, LinkEvent, Coming, Tells, Told, events_in, Seen, Log, Ledger, Image, Cause, AsksFor, FailsBy, Path, Stop, events_alone, events_of, items_in, refusal, Rules, HearFault, ComesLast, HearsBy, Noted, apart_asks_fails, apart_ended, heard_alone, AtExit, AtFailure, AtRequest, Handed, IsStuck, Stand, AreWellPlaced, plan_of, between_counted, between_fits, taken_all, IsStopAt, SessionState, StandKind, rules_following, EndsEarly, IsInPlace, IsShort, IsUnlike, NoPlan, OtherAnswer, OtherPlace, Agree, IsJudgedAt, kind_of, HasEndedBehind, HasEndedThere, IsUnfollowedBy, Follows, WaitsOn, held_back, nothing_told}
+use Rattle.session_following.proofs.Terms.{Bool, List, Option, [], ap, append-nil, arith, inl, inr, length, refl, subst, sym, true, ℕ, ◌++◌, ◌+◌, ◌<◌, ◌∙◌, ◌∷◌, ◌≡◌, ◌≤◌, ◌⊎◌, length-replicate, Err, IsSome, replicate, ◌^◌, ◌≢◌, Item, MAX_ITEMS, LinkEvent, Coming, Tells, Told, events_in, Seen, Log, Ledger, Image, Cause, AsksFor, FailsBy, Path, Stop, events_alone, events_of, items_in, refusal, Rules, HearFault, ComesLast, HearsBy, Noted, apart_asks_fails, apart_ended, heard_alone, AtExit, AtFailure, AtRequest, Handed, IsStuck, Stand, AreWellPlaced, plan_of, between_counted, between_fits, taken_all, IsStopAt, SessionState, StandKind, rules_following, EndsEarly, IsInPlace, IsShort, IsUnlike, NoPlan, OtherAnswer, OtherPlace, Agree, IsJudgedAt, kind_of, HasEndedBehind, HasEndedThere, IsUnfollowedBy, Follows, WaitsOn, held_back, nothing_told}
 use Rattle.session_following.specs.declared.judging.StandKind.TheVariants as stands
 use Rattle.session_following.specs.declared.unfollowed.Unfollowed.TheVariants as unfollowed
 use Rattle.session_following.proofs.Meets.{between_following}
@@ -55,7 +54,7 @@ module _ {R : Type 0} where
 module _ {R : Type 0} where
   -- where a run that follows stands is judged by the counts of its session
   pub judged_at : {rules here : Rules} {image : Image} {handed : Handed} {told : Told} {seen : Seen} {before noted : Noted} {missing : List ℕ} {session : SessionState R} {kind : StandKind} {stuck : Bool} (items : List Item) (s : Follows rules here image handed told seen before noted missing session)
-      (stand : Stand rules.limits (plan_of handed.episodes) s.now) → kind_of stand ≡ kind → (stuck ≡ true → IsStuck items stand) → (kind ≢ stands.Request → stuck ≡ true) → IsJudgedAt rules.limits items handed s.now stand missing kind session.taken session.steps (session.recorded + length session.choices) stuck
+      (stand : Stand rules.limits (plan_of rules.limits.keep handed.episodes) s.now) → kind_of stand ≡ kind → (stuck ≡ true → IsStuck items stand) → (kind ≢ stands.Request → stuck ≡ true) → IsJudgedAt rules.limits items handed s.now stand missing kind session.taken session.steps (session.recorded + length session.choices) stuck
   judged_at {session = session} items s stand kind_is stuck at_end =
       let a = s.follows.stands.answers in
       record {
@@ -105,20 +104,20 @@ enough n = replicate (n + 1) (record { conn = 0; kind = 0; bytes = [] })
 module _ (rules : Rules) (image : Image) (handed : Handed) (coming : Option Coming) (events last : List LinkEvent) (now : Path) where
   -- how the link stands wherever the run stands
   abbrev pub EndsWell : Type 0
-  EndsWell = (stand : Stand rules.limits (plan_of handed.episodes) now) → HasEndedThere rules image handed coming events last stand
+  EndsWell = (stand : Stand rules.limits (plan_of rules.limits.keep handed.episodes) now) → HasEndedThere rules image handed coming events last stand
 
-  pub ends_behind : AsksFor rules.limits (plan_of handed.episodes) now now.state.machine.taken → HasEndedBehind rules image handed coming events last → EndsWell
+  pub ends_behind : AsksFor rules.limits (plan_of rules.limits.keep handed.episodes) now now.state.machine.taken → HasEndedBehind rules image handed coming events last → EndsWell
   ends_behind asks ended (AtRequest other) = ended
   ends_behind asks ended (AtExit exits) = absurd (apart_ended now asks.lives exits)
-  ends_behind asks ended (AtFailure cause fails) = absurd (apart_asks_fails rules.limits (plan_of handed.episodes) now now.state.machine.taken cause asks fails)
+  ends_behind asks ended (AtFailure cause fails) = absurd (apart_asks_fails rules.limits (plan_of rules.limits.keep handed.episodes) now now.state.machine.taken cause asks fails)
 
   pub ends_at_exit : IsSome now.state.ended → last ≡ [] → EndsWell
   ends_at_exit exits none (AtRequest asks) = absurd (apart_ended now asks.lives exits)
   ends_at_exit exits none (AtExit other) = none
   ends_at_exit exits none (AtFailure cause fails) = none
 
-  pub ends_at_failure : (cause : Cause) → FailsBy rules.limits (plan_of handed.episodes) now cause → last ≡ [] → EndsWell
-  ends_at_failure cause fails none (AtRequest asks) = absurd (apart_asks_fails rules.limits (plan_of handed.episodes) now now.state.machine.taken cause asks fails)
+  pub ends_at_failure : (cause : Cause) → FailsBy rules.limits (plan_of rules.limits.keep handed.episodes) now cause → last ≡ [] → EndsWell
+  ends_at_failure cause fails none (AtRequest asks) = absurd (apart_asks_fails rules.limits (plan_of rules.limits.keep handed.episodes) now now.state.machine.taken cause asks fails)
   ends_at_failure cause fails none (AtExit other) = none
   ends_at_failure cause fails none (AtFailure another others) = none
 
@@ -137,11 +136,11 @@ module _ (rules : Rules) (image : Image) (handed : Handed) (coming : Option Comi
   short_there came ends (short, place) = (short, (came, inl (ends short.stand), place))
 
 -- a run that stands at its request, and isn't stuck there
-module _ (rules : Rules) (image : Image) (handed : Handed) (coming : Option Coming) (events : List LinkEvent) (now : Path) (asks : AsksFor rules.limits (plan_of handed.episodes) now now.state.machine.taken) where
-  not_stuck : (stand : Stand rules.limits (plan_of handed.episodes) now) → IsStuck (enough now.state.machine.taken) stand → ⊥
+module _ (rules : Rules) (image : Image) (handed : Handed) (coming : Option Coming) (events : List LinkEvent) (now : Path) (asks : AsksFor rules.limits (plan_of rules.limits.keep handed.episodes) now now.state.machine.taken) where
+  not_stuck : (stand : Stand rules.limits (plan_of rules.limits.keep handed.episodes) now) → IsStuck (enough now.state.machine.taken) stand → ⊥
   not_stuck (AtRequest other) stuck = let many : length (enough now.state.machine.taken) ≡ now.state.machine.taken + 1 = length-replicate (now.state.machine.taken + 1) (record { conn = 0; kind = 0; bytes = [] }) in omega (arith, stuck, many)
   not_stuck (AtExit exits) stuck = apart_ended now asks.lives exits
-  not_stuck (AtFailure cause fails) stuck = apart_asks_fails rules.limits (plan_of handed.episodes) now now.state.machine.taken cause asks fails
+  not_stuck (AtFailure cause fails) stuck = apart_asks_fails rules.limits (plan_of rules.limits.keep handed.episodes) now now.state.machine.taken cause asks fails
 
   pub unlike_here : {step : ℕ} → AreWellPlaced handed.episodes → Agree handed.choices now.choices → now.steps ≡ step → IsUnlike rules.limits (enough now.state.machine.taken) handed now → IsUnfollowedBy rules image handed coming events [] now (unfollowed.Mismatch step)
   unlike_here placed agree steps (NoPlan unplaced) = absurd (unplaced placed)

@@ -35,10 +35,10 @@ module _ {R : Type 0} where
 
   pub past_following : {rules : Rules} {image : Image} {handed : Handed} {events : List LinkEvent} {now : Path} {began : Since} {phases : Phases} {session : SessionState R} (came : Before) (hold : ℕ) → IsFollowing rules image handed events now began phases session
       → IsFollowing rules image handed events now began phases (record session { before = came; hold = hold })
-  past_following came hold f = record { stands = past_begun came hold f.stands; env = f.env; until = f.until; before = f.before; asked = f.asked }
+  past_following came hold f = record { stands = past_begun came hold f.stands; env = f.env; until = f.until; some_keep = f.some_keep; before = f.before; asked = f.asked }
 
   -- so what it allows is told by what came before it
-  pub here_then : (permits : R → Heap → ℕ → ℕ → Bool) (rules : Rules) (handed : Handed) (events later : List LinkEvent) (now to : Path) {old new : SessionState R} → HasSameBase old new → rules_by permits old ≡ rules_following rules handed events now → new.before ≡ followed_before handed later to
+  pub here_then : (permits : R → Heap → ℕ → ℕ → Bool) (rules : Rules) (handed : Handed) (events later : List LinkEvent) (now to : Path) {old new : SessionState R} → HasSameBase old new → rules_by permits old ≡ rules_following rules handed events now → new.before ≡ followed_before rules.limits.keep handed later to
       → rules_by permits new ≡ rules_following rules handed later to
   here_then permits rules handed events later now to {old = old} {new = new} same is before =
       (λ i. rules_in (same.options i) new.before (same.hold i) (permits (same.rule i)))
@@ -47,9 +47,9 @@ module _ {R : Type 0} where
   -- how its guest runs in the environment in force, by its plan
   pub ran_to : (permits : R → Heap → ℕ → ℕ → Bool) {env : Env} {rules : Rules} {image : Image} {handed : Handed} {events : List LinkEvent} {now : Path} {began : Since} {phases : Phases} {old inside : SessionState R} (cpu : CpuState R) (result : Result Event AllocError)
       → limits_of old.options.budget (permits old.cpu.rule) ≡ rules.limits → env ≡ env_of old → inside ≡ old → IsFollowing rules image handed events now began phases old → Ran permits env inside cpu result
-      → RunsWriting rules.limits (items_in (rules_following rules handed events now).bounds []) (plan_up_to (plan_of handed.episodes) now.state.machine.taken) old.cpu.base now old.cpu.written result (live_of cpu)
+      → RunsWriting rules.limits (items_in (rules_following rules handed events now).bounds []) (plan_up_to (plan_of rules.limits.keep handed.episodes) now.state.machine.taken) old.cpu.base now old.cpu.written result (live_of cpu)
   ran_to permits {env = env} {rules = rules} {handed = handed} {events = events} {now = now} {old = old} cpu result limits force same f ran =
-      let plan : List Override = plan_up_to (plan_of handed.episodes) now.state.machine.taken in
+      let plan : List Override = plan_up_to (plan_of rules.limits.keep handed.episodes) now.state.machine.taken in
       let in_force : env_at plan now.state.machine.taken ≡ env =
       f.stands.saved.in_force.in_force now.state.machine.taken (omega arith) ∙ (ap (λ (n : ℕ). cond (ltb n old.until) old.env Plain) (sym f.stands.answers.taken) ∙ sym force) in
       subst (λ (l : Limits). RunsWriting l (items_in (rules_following rules handed events now).bounds []) plan old.cpu.base now old.cpu.written result (live_of cpu)) limits
@@ -125,7 +125,7 @@ module _ {R : Type 0} {rules here : Rules} {image : Image} {handed : Handed} {to
 
 -- what came before it, where it stood
 before_is : {R : Type 0} (permits : R → Heap → ℕ → ℕ → Bool) {rules : Rules} {image : Image} {handed : Handed} {told : Told} {seen : Seen} {before noted : Noted} {missing : List ℕ} {happened : Event} {old : SessionState R} (h : HasRunOn rules (rules_by permits old) image handed told seen before noted missing happened old)
-    → old.before ≡ followed_before handed h.stood.events h.stood.now
+    → old.before ≡ followed_before rules.limits.keep handed h.stood.events h.stood.now
 before_is permits h = ap (λ (r : Rules). r.bounds.before) h.stood.here_is
 
 module _ {R : Type 0} (permits : R → Heap → ℕ → ℕ → Bool) {rules : Rules} {image : Image} {handed : Handed} {told : Told} {seen : Seen} {before noted : Noted} {missing : List ℕ} {happened : Event} {old new : SessionState R} (alone : rules.bounds.before ≡ nothing_before)
@@ -138,7 +138,7 @@ module _ {R : Type 0} (permits : R → Heap → ℕ → ℕ → Bool) {rules : R
       let cpu : new.cpu ≡ old.cpu = ap (λ (s : SessionState R). s.cpu) same in (
         went_following more alone h.stood.follows (side_of h.same h.cpu same) (replies ∙ ap (λ (s : SessionState R). s.replies) h.same) used (chosen ∙ ap (λ (s : SessionState R). s.choices ++ more) h.same) sent counted h.runs.ran.goes (wrote_to h new cpu) lives (stands_to h new cpu),
         here_then permits (held_back rules) handed h.stood.events h.stood.events h.stood.now h.runs.ran.now {old = old} {new = new} (base_of same hold) h.stood.here_is
-            (came ∙ (ap (λ (b : Before). before_moved b old.cpu.slots.live more) (before_is permits h) ∙ moved_before handed h.stood.events h.stood.now h.runs.ran.now old.cpu.slots.live (sym h.runs.ran.stands) more sent used h.runs.ran.goes.taken)),
+            (came ∙ (ap (λ (b : Before). before_moved b old.cpu.slots.live more) (before_is permits h) ∙ moved_before rules.limits.keep handed h.stood.events h.stood.now h.runs.ran.now old.cpu.slots.live (sym h.runs.ran.stands) more sent used h.runs.ran.goes.taken)),
       )
 
   -- It follows still, where what it used agrees with the record.
@@ -196,7 +196,7 @@ module _ {R : Type 0} (permits : R → Heap → ℕ → ℕ → Bool) {rules : R
             (how ∙ ap (λ (l : Ledger). with_held l send (held_count handed.counts h.stood.now.state.sends send)) replies) h.runs.ran.goes (wrote_to h new cpu) lives (stands_to h new cpu);
         here_is =
             here_then permits (held_back rules) handed h.stood.events h.stood.events h.stood.now h.runs.ran.now {old = old} {new = new} (base_of same hold) h.stood.here_is
-            (came ∙ (ap (λ (b : Before). before_sent b old.cpu.slots.live send (held_count handed.counts h.stood.now.state.sends send)) (before_is permits h) ∙ sent_before handed h.stood.events h.stood.now h.runs.ran.now old.cpu.slots.live (sym h.runs.ran.stands) send sent used h.runs.ran.goes.taken));
+            (came ∙ (ap (λ (b : Before). before_sent b old.cpu.slots.live send (held_count handed.counts h.stood.now.state.sends send)) (before_is permits h) ∙ sent_before rules.limits.keep handed h.stood.events h.stood.now h.runs.ran.now old.cpu.slots.live (sym h.runs.ran.stands) send sent used h.runs.ran.goes.taken));
         heard = h.stood.heard;
         episodes = h.stood.episodes;
         agree = subst (λ (all : List Choice). Agree handed.choices all) (sym used) h.stood.agree;

@@ -5,7 +5,7 @@ use Rattle.session_following.specs.Terms.{last_or, Item, Prefix, Limits, Path, F
 
 -- A run that stands there has reached all that record and report tell: it is past the last episode, had each answer of the record, and stands at or behind its
 -- last line.
-pub record HasReachedFiles (limits : Limits) (handed : Handed) (path : Path) (stand : Stand limits (plan_of handed.episodes) path) : Type 0 where
+pub record HasReachedFiles (limits : Limits) (handed : Handed) (path : Path) (stand : Stand limits (plan_of limits.keep handed.episodes) path) : Type 0 where
   pub past : IfSome (last_or None handed.episodes) (IsPastFailure stand)
   pub chose : Prefix handed.choices path.choices
   pub finished : IfSome handed.finish (λ finish. finish.steps ≤ path.steps)
@@ -24,15 +24,15 @@ IsInPlace handed path = (finish : Finish) → handed.finish ≡ Some finish → 
 pub data IsUnlike (limits : Limits) (items : List Item) (handed : Handed) (path : Path) : Type 0 where
   OtherAnswer : ¬ Prefix handed.choices path.choices → ¬ Prefix path.choices handed.choices → IsUnlike limits items handed path
   OtherPlace :
-      (finish : Finish) (stand : Stand limits (plan_of handed.episodes) path) → handed.finish ≡ Some finish → finish.steps ≤ path.steps → ¬ IsAtFinish handed path finish → ¬ HasReached limits handed path stand
+      (finish : Finish) (stand : Stand limits (plan_of limits.keep handed.episodes) path) → handed.finish ≡ Some finish → finish.steps ≤ path.steps → ¬ IsAtFinish handed path finish → ¬ HasReached limits handed path stand
       → IsUnlike limits items handed path
   NoPlan : ¬ AreWellPlaced handed.episodes → IsUnlike limits items handed path
-  EndsEarly : (stand : Stand limits (plan_of handed.episodes) path) → IsStuck items stand → ¬ HasReachedFiles limits handed path stand → IsUnlike limits items handed path
+  EndsEarly : (stand : Stand limits (plan_of limits.keep handed.episodes) path) → IsStuck items stand → ¬ HasReachedFiles limits handed path stand → IsUnlike limits items handed path
 
 -- A client has more than was sent to it: the run can't go on, or stands where the record's last line says, and has reached what record and report tell. The
 -- connection is the first that has more.
 pub record IsShort (limits : Limits) (items : List Item) (handed : Handed) (path : Path) (conn : ℕ) : Type 0 where
-  pub stand : Stand limits (plan_of handed.episodes) path
+  pub stand : Stand limits (plan_of limits.keep handed.episodes) path
   pub last : IsStuck items stand ⊎ ((finish : Finish) × IsAtFinish handed path finish)
   pub files : HasReachedFiles limits handed path stand
   pub more : length (output path.state conn) < count_of handed.counts conn
@@ -47,5 +47,5 @@ NeitherIsSaid =
 -- And where it stands and says neither, having reached what the files tell, it has reached all that was handed over, once no client has more.
 abbrev pub FilesAndClients : Type 0
 FilesAndClients =
-    (limits : Limits) (handed : Handed) (path : Path) (stand : Stand limits (plan_of handed.episodes) path) → HasReachedFiles limits handed path stand → ((conn : ℕ) → count_of handed.counts conn ≤ length (output path.state conn)) →
+    (limits : Limits) (handed : Handed) (path : Path) (stand : Stand limits (plan_of limits.keep handed.episodes) path) → HasReachedFiles limits handed path stand → ((conn : ℕ) → count_of handed.counts conn ≤ length (output path.state conn)) →
     HasReached limits handed path stand

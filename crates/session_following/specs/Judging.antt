@@ -24,7 +24,7 @@ kind_of (AtFailure cause fails) = Failure
 
 -- What is known where a run is judged: how it stands there, how many items it took, how many instructions and answers of the allocator it has; what clients lack
 -- of what it sent; that its answers are the record's so far; and, where it is said to be stuck, as it is at an exit and at a failure, that it can't go on.
-pub record IsJudgedAt (limits : Limits) (items : List Item) (handed : Handed) (path : Path) (stand : Stand limits (plan_of handed.episodes) path) (missing : List ℕ) (kind : StandKind) (taken steps chosen : ℕ) (stuck : Bool) : Type 0 where
+pub record IsJudgedAt (limits : Limits) (items : List Item) (handed : Handed) (path : Path) (stand : Stand limits (plan_of limits.keep handed.episodes) path) (missing : List ℕ) (kind : StandKind) (taken steps chosen : ℕ) (stuck : Bool) : Type 0 where
   pub kind_is : kind_of stand ≡ kind
   pub taken_are : path.state.machine.taken ≡ taken
   pub steps_are : path.steps ≡ steps
@@ -36,12 +36,12 @@ pub record IsJudgedAt (limits : Limits) (items : List Item) (handed : Handed) (p
 
 -- It may yet reach it: it hasn't, however it stands there; it can go on; and where it is at or behind the record's last line, it is where that says.
 pub record MayReach (limits : Limits) (handed : Handed) (path : Path) (stuck : Bool) : Type 0 where
-  pub not_yet : (stand : Stand limits (plan_of handed.episodes) path) → ¬ HasReached limits handed path stand
+  pub not_yet : (stand : Stand limits (plan_of limits.keep handed.episodes) path) → ¬ HasReached limits handed path stand
   pub goes_on : stuck ≡ false
   pub place : IsInPlace handed path
 
 -- What each answer says. A client is said to have more only where the run isn't elsewhere than the record's last line says.
-abbrev pub IsJudged : (limits : Limits) (items : List Item) (handed : Handed) (path : Path) → Stand limits (plan_of handed.episodes) path → Bool → Judged → Type 0
+abbrev pub IsJudged : (limits : Limits) (items : List Item) (handed : Handed) (path : Path) → Stand limits (plan_of limits.keep handed.episodes) path → Bool → Judged → Type 0
 IsJudged limits items handed path stand stuck GoesOn = MayReach limits handed path stuck
 IsJudged limits items handed path stand stuck Reached = HasReached limits handed path stand
 IsJudged limits items handed path stand stuck Unlike = IsUnlike limits items handed path

@@ -25,5 +25,5 @@ SentIsHeld =
 -- A run that hasn't reached what was handed over hasn't with more items either.
 abbrev pub NotReachedStays : Type 0
 NotReachedStays =
-    (rules : Rules) (items more : List Item) (image : Image) (handed : Handed) (now : Path) → Served rules.limits items (plan_of handed.episodes) (origin image) now → HasNotReached rules.limits items image handed now →
+    (rules : Rules) (items more : List Item) (image : Image) (handed : Handed) (now : Path) → Served rules.limits items (plan_of rules.limits.keep handed.episodes) (origin image) now → HasNotReached rules.limits items image handed now →
     HasNotReached rules.limits (items ++ more) image handed now

@@ -1,7 +1,6 @@
 -- How many bytes clients lack: those that they have, and that weren't sent yet.
-use Rattle.std.specs.Prelude.{◌≡◌, ℕ, ◌-◌, ◌<◌, ◌≤◌, List, length, Option, Some, None, slice_index}
+use Rattle.std.specs.Prelude.{◌≡◌, ℕ, ◌-◌, ◌<◌, ◌≤◌, ◌^◌, List, length, Option, Some, None, slice_index}
 use Rattle.session_following.specs.Terms.{Send, sent_to, count_of}
-use Rattle.session_following.specs.declared.missing.TheConstants.{NUMBERS}
 
 -- the number at each connection is how many bytes its client has beyond those that were sent to it; so a connection without a number lacks none
 abbrev pub IsMissing : List (ℕ × ℕ) → List Send → List ℕ → Type 0
@@ -28,8 +27,8 @@ pub record IsFirst (numbers : List ℕ) (from place : ℕ) : Type 0 where
   pub none : (conn : ℕ) → from ≤ conn → conn < place → slice_index numbers conn ≡ 0
   pub some : place < length numbers → 0 < slice_index numbers place
 
--- there is a number for each connection, and none is more than 0 below the place where the search goes on
+-- each number is of a connection, and none is more than 0 below the place where the search goes on
 pub record KeepsCursor (numbers : List ℕ) (cursor : ℕ) : Type 0 where
-  pub as_many : length numbers ≡ NUMBERS
-  pub inside : cursor ≤ NUMBERS
+  pub few : length numbers ≤ 2 ^ 32
+  pub inside : cursor ≤ length numbers
   pub none : HasNoneBelow numbers cursor

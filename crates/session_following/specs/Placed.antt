@@ -7,7 +7,7 @@ abbrev pub IsFollowedBy : ℕ → Option Episode → Type 0
 IsFollowedBy taken None = Unit {0}
 IsFollowedBy taken (Some episode) = IsSome (adopted_try episode.tries) × (episode.point ≤ taken)
 
--- where its environment ends: four items behind the last failure, if there is one
-abbrev pub EndsAfter : Option Episode → ℕ → Type 0
-EndsAfter None until = until ≡ 0
-EndsAfter (Some episode) until = until ≡ episode.point + 4
+-- where its environment ends, which is kept for so many items behind the last failure, if there is one
+abbrev pub EndsAfter : ℕ → Option Episode → ℕ → Type 0
+EndsAfter keep None until = until ≡ 0
+EndsAfter keep (Some episode) until = until ≡ episode.point + keep

@@ -36,7 +36,7 @@ pub record HasEndedBehind (rules : Rules) (image : Image) (handed : Handed) (com
   pub comes : IfSome coming (λ next. IsNext next EndOfLink)
 
 -- Where a run can't go on: at its request the link has ended. At an exit and a failure no event was asked for.
-abbrev pub HasEndedThere : (rules : Rules) (image : Image) (handed : Handed) (coming : Option Coming) (events last : List LinkEvent) {path : Path} → Stand rules.limits (plan_of handed.episodes) path → Type 0
+abbrev pub HasEndedThere : (rules : Rules) (image : Image) (handed : Handed) (coming : Option Coming) (events last : List LinkEvent) {path : Path} → Stand rules.limits (plan_of rules.limits.keep handed.episodes) path → Type 0
 HasEndedThere rules image handed coming events last (AtRequest asks) = HasEndedBehind rules image handed coming events last
 HasEndedThere rules image handed coming events last (AtExit ended) = last ≡ []
 HasEndedThere rules image handed coming events last (AtFailure cause fails) = last ≡ []
@@ -110,7 +110,7 @@ pub record IsUnfollowed {R : Type 0} (rules : Rules) (image : Image) (handed : H
   pub events : List LinkEvent
   pub last : List LinkEvent
   pub now : Path
-  pub ran : Served rules.limits (items_in rules.bounds (heard_alone events)) (plan_of handed.episodes) (origin image) now
+  pub ran : Served rules.limits (items_in rules.bounds (heard_alone events)) (plan_of rules.limits.keep handed.episodes) (origin image) now
   pub not_before : HasNotReached rules.limits (items_in rules.bounds (heard_alone events)) image handed now
   pub asked : HasAskedBefore rules image handed events
   pub heard : Tells before seen.told (heard_alone (events ++ last))

@@ -1,6 +1,7 @@
 -- The words that this crate's definitions are written in: those of crates below, and types of its code.
 pub use Rattle.std.specs.List.{last_or}
 pub use Rattle.rx_base.specs.declared.item.Item.{Item}
+pub use Rattle.rx_base.specs.declared.item.TheConstants.{KEEP, MAX_ITEMS}
 pub use Rattle.rx_base.specs.Prefix.{Prefix}
 pub use Rattle.rx_base.specs.Sends.{Send, sent_to}
 pub use Rattle.links.specs.declared.journal.Entry.{Entry}

@@ -103,7 +103,7 @@ pub fn judge(
     stuck: bool,
 ) -> Judged
     ensures same { missing.new ≡ missing.old }
-    ensures judged { (limits : Limits) (items : List Item) (path : Path) (stand : Stand limits (plan_of handed.now.episodes.now) path) → IsJudgedAt limits items (handed_of handed.now) path stand missing.old kind taken steps chosen stuck → IsJudged limits items (handed_of handed.now) path stand stuck result }
+    ensures judged { (limits : Limits) (items : List Item) (path : Path) (stand : Stand limits (plan_of limits.keep handed.now.episodes.now) path) → IsJudgedAt limits items (handed_of handed.now) path stand missing.old kind taken steps chosen stuck → IsJudged limits items (handed_of handed.now) path stand stuck result }
 {
     if !has_files(handed, kind, taken, steps, chosen) {
         if stuck {

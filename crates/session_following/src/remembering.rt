@@ -1,5 +1,6 @@
 // What came before a session that follows, behind each of its steps, for proofs alone.
 ghost use Rattle.std.specs.Prelude.{◌≡◌, [], ◌∷◌};
+ghost use Rattle.rx_base.specs.declared.item.TheConstants.{KEEP};
 ghost use Rattle.follow.specs.Plans.{plan_of};
 ghost use Rattle.session_following.specs.Moving.{before_begun, before_heard, before_moved, before_released, before_sent, before_took};
 
@@ -92,7 +93,7 @@ pub struct Released<'a> {
 }
 
 impl<'a> Remembers for Released<'a> {
-    ghost before = { λ released. before_released released.past.now.before (plan_of released.episodes.now) };
+    ghost before = { λ released. before_released released.past.now.before (plan_of KEEP released.episodes.now) };
 }
 
 /// A session that is released where its guest ended itself, with the report that it followed.
@@ -104,5 +105,5 @@ pub struct Left<'a, R: AccessRule> {
 }
 
 impl<'a, R: AccessRule> Remembers for Left<'a, R> {
-    ghost before = { λ left. before_released (before_moved left.past.now.before left.cpu.now.slots.live []) (plan_of left.episodes.now) };
+    ghost before = { λ left. before_released (before_moved left.past.now.before left.cpu.now.slots.live []) (plan_of KEEP left.episodes.now) };
 }

@@ -47,8 +47,8 @@ recovered_many rules image before first [] [] now are = refl
 recovered_many rules image before first [] (recovery ∷ recoveries) now are = absurd are
 recovered_many rules image before first (chapter ∷ chapters) [] now are = absurd are
 recovered_many rules image before first (chapter ∷ chapters) (recovery ∷ recoveries) now are =
-    of_survivor (survivor_in recovery.trials) (λ trial. AreRecovered rules image (before ++ chapter.entries) (adopted_by recovery trial) chapters recoveries now) (length (chapter ∷ chapters) ≡ length (recovery ∷ recoveries))
-    (λ trial is rest. let more = recovered_many rules image (before ++ chapter.entries) (adopted_by recovery trial) chapters recoveries now rest in omega (arith, more)) are.3
+    of_survivor (survivor_in recovery.trials) (λ trial. AreRecovered rules image (before ++ chapter.entries) (adopted_by rules recovery trial) chapters recoveries now) (length (chapter ∷ chapters) ≡ length (recovery ∷ recoveries))
+    (λ trial is rest. let more = recovered_many rules image (before ++ chapter.entries) (adopted_by rules recovery trial) chapters recoveries now rest in omega (arith, more)) are.3
 
 -- their rings
 record FirstRings (rules : Rules) (image : Image) (before : List Entry) (keeping : Keeping) (from : List Stand) (chapters : List Chapter) (recoveries : List Recovery) : Type 0 where

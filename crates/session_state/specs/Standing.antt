@@ -93,7 +93,7 @@ module _ {R : Type 0} where
     pub early : AreBehind session.recorded paths
     pub requests : HandlesRequests rules image (keeping_of session) story.earlier (entries story) story.recoveries story.survivor (stands_of session.cpu.slots.saved)
     pub in_force : IsInForce story.survivor.plan story.survivor.now.state.machine.taken session.env session.until
-    pub past : (session.until < story.survivor.now.state.machine.taken + 4) ⊎ ((session.until ≡ story.survivor.now.state.machine.taken + 4) × AsksFor rules.limits [] story.survivor.now story.survivor.now.state.machine.taken)
+    pub past : (session.until < story.survivor.now.state.machine.taken + rules.limits.keep) ⊎ ((session.until ≡ story.survivor.now.state.machine.taken + rules.limits.keep) × AsksFor rules.limits [] story.survivor.now story.survivor.now.state.machine.taken)
 
 -- what the latest event makes owed was passed
 abbrev pub IsLatestDone : Rules → Moment → List Send → Type 0

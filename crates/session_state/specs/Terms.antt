@@ -2,7 +2,7 @@
 pub use Rattle.std.specs.declared.alloc.AllocError.{AllocError}
 pub use Rattle.rx_base.specs.declared.fault.IoFault.{IoFault}
 pub use Rattle.rx_base.specs.declared.item.Item.{Item}
-pub use Rattle.rx_base.specs.declared.item.TheConstants.{MAX_ITEMS}
+pub use Rattle.rx_base.specs.declared.item.TheConstants.{KEEP, MAX_ITEMS}
 pub use Rattle.rx_base.specs.Faults.{HasCause, Rose}
 pub use Rattle.rx_base.specs.Prefix.{Prefix}
 pub use Rattle.rx_base.specs.Sends.{Send, sent_to}

@@ -53,21 +53,21 @@ chained_start limits items plan other image later (newest ∷ older) is chain =
     (served_start limits items other image newest later first is, chained_start limits items plan other image newest older first chain.1)
 
 -- up to a checkpoint that isn't the start a trial's plan is the earlier one
-up_to : (plan : List Override) (checkpoint : ℕ) (env : Env) (point count : ℕ) → 0 < checkpoint → count ≤ checkpoint → env_at plan count ≡ env_at (plan_of_trial plan checkpoint env point) count
-up_to plan checkpoint env point count some low =
-    sym (ap (λ (b : Bool). env_at (record { low = cond b 0 (checkpoint + 1); until = point + 4; env = env } ∷ plan) count) (ne_eqb checkpoint 0 (λ none. omega (arith, none, some)))
-    ∙ env_before plan (checkpoint + 1) (point + 4) env count (omega (arith, low)))
+up_to : (keep : ℕ) (plan : List Override) (checkpoint : ℕ) (env : Env) (point count : ℕ) → 0 < checkpoint → count ≤ checkpoint → env_at plan count ≡ env_at (plan_of_trial keep plan checkpoint env point) count
+up_to keep plan checkpoint env point count some low =
+    sym (ap (λ (b : Bool). env_at (record { low = cond b 0 (checkpoint + 1); until = point + keep; env = env } ∷ plan) count) (ne_eqb checkpoint 0 (λ none. omega (arith, none, some)))
+    ∙ env_before plan (checkpoint + 1) (point + keep) env count (omega (arith, low)))
 
 chained_under : (limits : Limits) (items : List Item) (plan : List Override) (image : Image) (env : Env) (point : ℕ) (checkpoint : Path) (older : List Path) → IsCheckpoint limits image checkpoint → AreChained limits items plan image checkpoint older
-    → AreChained limits items (plan_of_trial plan checkpoint.state.machine.taken env point) image checkpoint older
-chained_under limits items plan image env point checkpoint older (inl is) chain = chained_start limits items plan (plan_of_trial plan checkpoint.state.machine.taken env point) image checkpoint older is chain
+    → AreChained limits items (plan_of_trial limits.keep plan checkpoint.state.machine.taken env point) image checkpoint older
+chained_under limits items plan image env point checkpoint older (inl is) chain = chained_start limits items plan (plan_of_trial limits.keep plan checkpoint.state.machine.taken env point) image checkpoint older is chain
 chained_under limits items plan image env point checkpoint older (inr asks) chain =
-    chained_alike limits items plan (plan_of_trial plan checkpoint.state.machine.taken env point) image checkpoint older checkpoint.state.machine.taken
-    (λ count low. up_to plan checkpoint.state.machine.taken env point count asks.0 low) (omega arith) chain
+    chained_alike limits items plan (plan_of_trial limits.keep plan checkpoint.state.machine.taken env point) image checkpoint older checkpoint.state.machine.taken
+    (λ count low. up_to limits.keep plan checkpoint.state.machine.taken env point count asks.0 low) (omega arith) chain
 
 pub chained_adopt : ChainedAdopt
 chained_adopt limits items plan image env point later path ring index checkpoint chain are here served =
-    let other : List Override = plan_of_trial plan checkpoint.state.machine.taken env point in
+    let other : List Override = plan_of_trial limits.keep plan checkpoint.state.machine.taken env point in
     let parts = chained_behind limits items plan image later ring index checkpoint chain are here in
     subst (λ (rest : List Path). AreChained limits items other image path rest × AreCheckpoints limits image rest) (sym parts.1)
     ((served, chained_under limits items plan image env point checkpoint parts.0 parts.3 parts.2), (parts.3, parts.4))

@@ -85,14 +85,14 @@ chapters_serve rules image items earlier first (one ∷ front) chapter back (rec
     let whole : entries_of earlier ++ (one.entries ++ entries_of rest) ≡ entries_of (earlier ++ one ∷ []) ++ entries_of rest
     = sym (append_assoc (entries_of earlier) one.entries (entries_of rest)) ∙ ap (λ es. es ++ entries_of rest) (sym same) in
     subst (λ (chapters : List Chapter). Serving rules image chapters chapter.survivor chapter.entries) (append_assoc earlier (one ∷ []) front)
-    (of_survivor (survivor_in recovery.trials) (λ trial. AreRecovered rules image (entries_of earlier ++ one.entries) (adopted_by recovery trial) rest recoveries now) (Serving rules image ((earlier ++ one ∷ []) ++ front) chapter.survivor chapter.entries)
+    (of_survivor (survivor_in recovery.trials) (λ trial. AreRecovered rules image (entries_of earlier ++ one.entries) (adopted_by rules recovery trial) rest recoveries now) (Serving rules image ((earlier ++ one ∷ []) ++ front) chapter.survivor chapter.entries)
     (λ trial is behind.
     let adopts = recovery_adopts rules image (entries_of earlier ++ one.entries) recovery trial are.2 is in
     let low : trial.path.state.machine.taken ≤ received rules.bounds (entries_of earlier ++ one.entries) = omega (arith, adopts.early, recovered_within rules image (entries_of earlier ++ one.entries) recovery are.2) in
-    chapters_serve rules image items (earlier ++ one ∷ []) (adopted_by recovery trial) front chapter back recoveries now
-    (serving_adopts rules image earlier one.survivor one.entries (adopted_by recovery trial).plan trial.path here lawful.1 adopts.ran low adopts.covers adopts.feasible)
+    chapters_serve rules image items (earlier ++ one ∷ []) (adopted_by rules recovery trial) front chapter back recoveries now
+    (serving_adopts rules image earlier one.survivor one.entries (adopted_by rules recovery trial).plan trial.path here lawful.1 adopts.ran low adopts.covers adopts.feasible)
     (subst (λ (es : List Entry). AreLawful rules items es rest) (sym same) lawful.2)
-    (subst (λ (es : List Entry). AreRecovered rules image es (adopted_by recovery trial) rest recoveries now) (sym same) behind)
+    (subst (λ (es : List Entry). AreRecovered rules image es (adopted_by rules recovery trial) rest recoveries now) (sym same) behind)
     (subst (λ (es : List Entry). Prefix (items_in rules.bounds es) items) whole some)) are.3)
 
 -- the recovery behind a chapter, and those before it
@@ -106,7 +106,7 @@ record Found (rules : Rules) (image : Image) (before : List Entry) (first : Surv
   recovered : AreRecovered rules image before first front earlier chapter.survivor
 
 found_one : (rules : Rules) (image : Image) (before : List Entry) (first : Survivor) (one : Chapter) (front : List Chapter) (chapter : Chapter) (recovery : Recovery) (recoveries : List Recovery) (trial : Trial) → BeginsAs first one.survivor
-    → recovery.survivor ≡ one.survivor → IsRecovery rules image (before ++ one.entries) recovery → survivor_in recovery.trials ≡ Some trial → Found rules image (before ++ one.entries) (adopted_by recovery trial) front chapter recoveries
+    → recovery.survivor ≡ one.survivor → IsRecovery rules image (before ++ one.entries) recovery → survivor_in recovery.trials ≡ Some trial → Found rules image (before ++ one.entries) (adopted_by rules recovery trial) front chapter recoveries
     → Found rules image before first (one ∷ front) chapter (recovery ∷ recoveries)
 found_one rules image before first one front chapter recovery recoveries trial begins same was is found = record {
   earlier = recovery ∷ found.earlier;
@@ -119,7 +119,7 @@ found_one rules image before first one front chapter recovery recoveries trial b
     begins,
     same,
     was,
-    subst (λ (o : Option Trial). MatchOption o ⊥ (λ (next : Trial). AreRecovered rules image (before ++ one.entries) (adopted_by recovery next) front found.earlier chapter.survivor)) (sym is) found.recovered,
+    subst (λ (o : Option Trial). MatchOption o ⊥ (λ (next : Trial). AreRecovered rules image (before ++ one.entries) (adopted_by rules recovery next) front found.earlier chapter.survivor)) (sym is) found.recovered,
   );
 }
 
@@ -137,10 +137,10 @@ find rules image before first [] chapter back (recovery ∷ recoveries) now are 
 }
 find rules image before first (one ∷ front) chapter back [] now are = absurd are
 find rules image before first (one ∷ front) chapter back (recovery ∷ recoveries) now are =
-    of_survivor (survivor_in recovery.trials) (λ trial. AreRecovered rules image (before ++ one.entries) (adopted_by recovery trial) (front ++ chapter ∷ back) recoveries now) (Found rules image before first (one ∷ front) chapter (recovery ∷ recoveries))
+    of_survivor (survivor_in recovery.trials) (λ trial. AreRecovered rules image (before ++ one.entries) (adopted_by rules recovery trial) (front ++ chapter ∷ back) recoveries now) (Found rules image before first (one ∷ front) chapter (recovery ∷ recoveries))
     (λ trial is behind.
     found_one rules image before first one front chapter recovery recoveries trial are.0 are.1 are.2 is
-    (find rules image (before ++ one.entries) (adopted_by recovery trial) front chapter back recoveries now behind)) are.3
+    (find rules image (before ++ one.entries) (adopted_by rules recovery trial) front chapter back recoveries now behind)) are.3
 
 pub failures_have_accounts : FailuresHaveAccounts
 failures_have_accounts rules image session recoveries front chapter back sound account are split =

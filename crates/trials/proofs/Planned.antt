@@ -12,10 +12,10 @@ env_within plan low until env count from to =
 pub env_before : (plan : List Override) (low until : ℕ) (env : Env) (count : ℕ) → count < low → env_at (record { low = low; until = until; env = env } ∷ plan) count ≡ env_at plan count
 env_before plan low until env count before = ap (λ (b : Bool). cond b (env_at plan count) (cond (ltb count until) env Plain)) (lt-ltb count low before)
 
--- from there on, until four items more than the point were taken, it is in force
-pub in_force : (plan : List Override) (checkpoint : ℕ) (env : Env) (point count : ℕ) → (checkpoint ≡ 0) ⊎ (checkpoint < count) → count < point + 4 → env_at (everywhere env point) count ≡ env_at (plan_of_trial plan checkpoint env point) count
-in_force plan checkpoint env point count from to =
-    env_within [] 0 (point + 4) env count (omega arith) to ∙ sym (env_within plan (cond (eqb checkpoint 0) 0 (checkpoint + 1)) (point + 4) env count (low from) to)
+-- from there on, until so many items more than the point were taken, it is in force
+pub in_force : (keep : ℕ) (plan : List Override) (checkpoint : ℕ) (env : Env) (point count : ℕ) → (checkpoint ≡ 0) ⊎ (checkpoint < count) → count < point + keep → env_at (everywhere keep env point) count ≡ env_at (plan_of_trial keep plan checkpoint env point) count
+in_force keep plan checkpoint env point count from to =
+    env_within [] 0 (point + keep) env count (omega arith) to ∙ sym (env_within plan (cond (eqb checkpoint 0) 0 (checkpoint + 1)) (point + keep) env count (low from) to)
   where
     of_past : (checkpoint ≡ 0) ⊎ (checkpoint < count) → (checkpoint ≡ 0 → ⊥) → checkpoint + 1 ≤ count
     of_past (inl none) some = absurd (some none)
@@ -41,50 +41,50 @@ unfolding start start_machine
 start_taken image checkpoint is = ap (λ (p : Path). p.state.machine.taken) is
 
 -- on a trial's way its environment is in force, or the run asks for an item, at the checkpoint itself
-pub on_way : (limits : Limits) (items : List Item) (image : Image) (plan : List Override) (env : Env) (point : ℕ) (checkpoint path : Path) → IsCheckpoint limits image checkpoint → path.state.machine.taken < point + 4
-    → Served limits items (everywhere env point) checkpoint path
-    → (env_at (everywhere env point) path.state.machine.taken ≡ env_at (plan_of_trial plan checkpoint.state.machine.taken env point) path.state.machine.taken) ⊎ AsksFor limits [] path path.state.machine.taken
+pub on_way : (limits : Limits) (items : List Item) (image : Image) (plan : List Override) (env : Env) (point : ℕ) (checkpoint path : Path) → IsCheckpoint limits image checkpoint → path.state.machine.taken < point + limits.keep
+    → Served limits items (everywhere limits.keep env point) checkpoint path
+    → (env_at (everywhere limits.keep env point) path.state.machine.taken ≡ env_at (plan_of_trial limits.keep plan checkpoint.state.machine.taken env point) path.state.machine.taken) ⊎ AsksFor limits [] path path.state.machine.taken
 on_way limits items image plan env point checkpoint path (inl is) low served =
-    inl (in_force plan checkpoint.state.machine.taken env point path.state.machine.taken (inl (start_taken image checkpoint is)) low)
+    inl (in_force limits.keep plan checkpoint.state.machine.taken env point path.state.machine.taken (inl (start_taken image checkpoint is)) low)
 on_way limits items image plan env point checkpoint path (inr asks) low served =
-    elim (past_request limits items (everywhere env point) checkpoint path asks.1 served) [
+    elim (past_request limits items (everywhere limits.keep env point) checkpoint path asks.1 served) [
       | inl same ↦ inr (subst (λ (p : Path). AsksFor limits [] p p.state.machine.taken) same asks.1)
-      | inr past ↦ inl (in_force plan checkpoint.state.machine.taken env point path.state.machine.taken (inr past) low)
+      | inr past ↦ inl (in_force limits.keep plan checkpoint.state.machine.taken env point path.state.machine.taken (inr past) low)
     ]
 
 -- so each instruction is the same
-pub way_next : (limits : Limits) (items : List Item) (image : Image) (plan : List Override) (env : Env) (point : ℕ) (checkpoint path : Path) → IsCheckpoint limits image checkpoint → path.state.machine.taken < point + 4
-    → Served limits items (everywhere env point) checkpoint path
-    → planned_next limits items (everywhere env point) path ≡ planned_next limits items (plan_of_trial plan checkpoint.state.machine.taken env point) path
+pub way_next : (limits : Limits) (items : List Item) (image : Image) (plan : List Override) (env : Env) (point : ℕ) (checkpoint path : Path) → IsCheckpoint limits image checkpoint → path.state.machine.taken < point + limits.keep
+    → Served limits items (everywhere limits.keep env point) checkpoint path
+    → planned_next limits items (everywhere limits.keep env point) path ≡ planned_next limits items (plan_of_trial limits.keep plan checkpoint.state.machine.taken env point) path
 way_next limits items image plan env point checkpoint path at_start low served =
     elim (on_way limits items image plan env point checkpoint path at_start low served) [
       | inl same ↦ ap (λ (e : Env). served_next limits items e path) same
       | inr asks ↦
-          asks_next limits items (everywhere env point) (plan_of_trial plan checkpoint.state.machine.taken env point) path path.state.machine.taken
-          (asks_under_all limits [] (everywhere env point) path path.state.machine.taken asks)
+          asks_next limits items (everywhere limits.keep env point) (plan_of_trial limits.keep plan checkpoint.state.machine.taken env point) path path.state.machine.taken
+          (asks_under_all limits [] (everywhere limits.keep env point) path path.state.machine.taken asks)
     ]
 
 pub trial_serves : TrialServes
 trial_serves limits items image plan env point checkpoint path at_start low served =
-    served_as limits items (everywhere env point) (plan_of_trial plan checkpoint.state.machine.taken env point) checkpoint path path.state.machine.taken
+    served_as limits items (everywhere limits.keep env point) (plan_of_trial limits.keep plan checkpoint.state.machine.taken env point) checkpoint path path.state.machine.taken
     (λ now to before early goes. sym (way_next limits items image plan env point checkpoint now at_start (omega (arith, early, low)) before) ∙ goes) (omega arith) served
 
 -- so is a failure
-way_fails : (limits : Limits) (items : List Item) (image : Image) (plan : List Override) (env : Env) (point : ℕ) (checkpoint path : Path) (cause : Cause) → IsCheckpoint limits image checkpoint → path.state.machine.taken < point + 4
-    → Served limits items (everywhere env point) checkpoint path → FailsBy limits (everywhere env point) path cause → FailsBy limits (plan_of_trial plan checkpoint.state.machine.taken env point) path cause
+way_fails : (limits : Limits) (items : List Item) (image : Image) (plan : List Override) (env : Env) (point : ℕ) (checkpoint path : Path) (cause : Cause) → IsCheckpoint limits image checkpoint → path.state.machine.taken < point + limits.keep
+    → Served limits items (everywhere limits.keep env point) checkpoint path → FailsBy limits (everywhere limits.keep env point) path cause → FailsBy limits (plan_of_trial limits.keep plan checkpoint.state.machine.taken env point) path cause
 way_fails limits items image plan env point checkpoint path cause at_start low served fails =
     elim (on_way limits items image plan env point checkpoint path at_start low served) [
       | inl same ↦ record { lives = fails.lives; fails = ap (λ (e : Env). serves limits e None (guest_of path)) (sym same) ∙ fails.fails }
       | inr asks ↦
-          let never : Wants ≡ Fails cause = sym (asks_under_all limits [] (everywhere env point) path path.state.machine.taken asks).asks ∙ fails.fails in
+          let never : Wants ≡ Fails cause = sym (asks_under_all limits [] (everywhere limits.keep env point) path path.state.machine.taken asks).asks ∙ fails.fails in
           absurd (cc)
     ]
 
 -- what was sent under one plan was so under the other
-way_contradicts : (limits : Limits) (items : List Item) (image : Image) (plan : List Override) (env : Env) (point : ℕ) (checkpoint path : Path) (pieces : List Send) → IsCheckpoint limits image checkpoint
-    → IsContradicted limits items (everywhere env point) checkpoint pieces point path → IsContradicted limits items (plan_of_trial plan checkpoint.state.machine.taken env point) checkpoint pieces point path
-way_contradicts limits items image plan env point checkpoint path pieces at_start was =
-    let low : was.before.state.machine.taken < point + 4 = omega (arith, was.unharmed.early) in
+way_contradicts : (limits : Limits) (items : List Item) (image : Image) (plan : List Override) (env : Env) (point : ℕ) (checkpoint path : Path) (pieces : List Send) → 1 ≤ limits.keep → IsCheckpoint limits image checkpoint
+    → IsContradicted limits items (everywhere limits.keep env point) checkpoint pieces point path → IsContradicted limits items (plan_of_trial limits.keep plan checkpoint.state.machine.taken env point) checkpoint pieces point path
+way_contradicts limits items image plan env point checkpoint path pieces some at_start was =
+    let low : was.before.state.machine.taken < point + limits.keep = omega (arith, some, was.unharmed.early) in
     record {
       before = was.before;
       from = trial_serves limits items image plan env point checkpoint was.before at_start low was.from;
@@ -107,27 +107,27 @@ in_time limits items plan checkpoint pieces point path (tried.Failed cause) come
 in_time limits items plan checkpoint pieces point path tried.Contradicts comes = omega (arith, comes.unharmed.early, comes.no_item)
 in_time limits items plan checkpoint pieces point path tried.Behind comes = comes.0.early
 
-comes_so : (limits : Limits) (items : List Item) (image : Image) (plan : List Override) (env : Env) (point : ℕ) (checkpoint path : Path) (pieces : List Send) (result : Tried) → IsCheckpoint limits image checkpoint → path.state.machine.taken < point + 4
-    → Served limits items (everywhere env point) checkpoint path → ComesTo limits items (everywhere env point) checkpoint pieces point path result
-    → ComesTo limits items (plan_of_trial plan checkpoint.state.machine.taken env point) checkpoint pieces point path result
-comes_so limits items image plan env point checkpoint path pieces tried.Asks at_start low served comes =
-    (comes.0, asks_under_all limits (everywhere env point) (plan_of_trial plan checkpoint.state.machine.taken env point) path point comes.1, comes.2)
-comes_so limits items image plan env point checkpoint path pieces (tried.Exits code) at_start low served comes = comes
-comes_so limits items image plan env point checkpoint path pieces (tried.Failed cause) at_start low served comes =
+comes_so : (limits : Limits) (items : List Item) (image : Image) (plan : List Override) (env : Env) (point : ℕ) (checkpoint path : Path) (pieces : List Send) (result : Tried) → 1 ≤ limits.keep → IsCheckpoint limits image checkpoint → path.state.machine.taken < point + limits.keep
+    → Served limits items (everywhere limits.keep env point) checkpoint path → ComesTo limits items (everywhere limits.keep env point) checkpoint pieces point path result
+    → ComesTo limits items (plan_of_trial limits.keep plan checkpoint.state.machine.taken env point) checkpoint pieces point path result
+comes_so limits items image plan env point checkpoint path pieces tried.Asks some at_start low served comes =
+    (comes.0, asks_under_all limits (everywhere limits.keep env point) (plan_of_trial limits.keep plan checkpoint.state.machine.taken env point) path point comes.1, comes.2)
+comes_so limits items image plan env point checkpoint path pieces (tried.Exits code) some at_start low served comes = comes
+comes_so limits items image plan env point checkpoint path pieces (tried.Failed cause) some at_start low served comes =
     (comes.0, way_fails limits items image plan env point checkpoint path cause at_start low served comes.1)
-comes_so limits items image plan env point checkpoint path pieces tried.Contradicts at_start low served comes = way_contradicts limits items image plan env point checkpoint path pieces at_start comes
-comes_so limits items image plan env point checkpoint path pieces tried.Behind at_start low served comes = (comes.0, of_either comes.1)
+comes_so limits items image plan env point checkpoint path pieces tried.Contradicts some at_start low served comes = way_contradicts limits items image plan env point checkpoint path pieces some at_start comes
+comes_so limits items image plan env point checkpoint path pieces tried.Behind some at_start low served comes = (comes.0, of_either comes.1)
   where
-    of_either : ((item : ℕ) × IsBehindAt limits (everywhere env point) pieces point path item) ⊎ (IsPast limits (everywhere env point) point path × (¬ Covers pieces path.state))
-        → ((item : ℕ) × IsBehindAt limits (plan_of_trial plan checkpoint.state.machine.taken env point) pieces point path item) ⊎ (IsPast limits (plan_of_trial plan checkpoint.state.machine.taken env point) point path × (¬ Covers pieces path.state))
+    of_either : ((item : ℕ) × IsBehindAt limits (everywhere limits.keep env point) pieces point path item) ⊎ (IsPast limits (everywhere limits.keep env point) point path × (¬ Covers pieces path.state))
+        → ((item : ℕ) × IsBehindAt limits (plan_of_trial limits.keep plan checkpoint.state.machine.taken env point) pieces point path item) ⊎ (IsPast limits (plan_of_trial limits.keep plan checkpoint.state.machine.taken env point) point path × (¬ Covers pieces path.state))
     of_either (inl behind) =
-        inl (behind.0, record { early = behind.1.early; asks = asks_under_all limits (everywhere env point) (plan_of_trial plan checkpoint.state.machine.taken env point) path behind.0 behind.1.asks; behind = behind.1.behind })
-    of_either (inr past) = inr (way_past limits (everywhere env point) (plan_of_trial plan checkpoint.state.machine.taken env point) point path past.0, past.1)
+        inl (behind.0, record { early = behind.1.early; asks = asks_under_all limits (everywhere limits.keep env point) (plan_of_trial limits.keep plan checkpoint.state.machine.taken env point) path behind.0 behind.1.asks; behind = behind.1.behind })
+    of_either (inr past) = inr (way_past limits (everywhere limits.keep env point) (plan_of_trial limits.keep plan checkpoint.state.machine.taken env point) point path past.0, past.1)
 
 pub trial_comes : TrialComes
-trial_comes limits items image plan env point checkpoint path pieces result at_start trial =
-    let low : path.state.machine.taken < point + 4 = omega (arith, in_time limits items (everywhere env point) checkpoint pieces point path result trial.comes) in
+trial_comes limits items image plan env point checkpoint path pieces result some at_start trial =
+    let low : path.state.machine.taken < point + limits.keep = omega (arith, some, in_time limits items (everywhere limits.keep env point) checkpoint pieces point path result trial.comes) in
     record {
       from = trial_serves limits items image plan env point checkpoint path at_start low trial.from;
-      comes = comes_so limits items image plan env point checkpoint path pieces result at_start low trial.from trial.comes;
+      comes = comes_so limits items image plan env point checkpoint path pieces result some at_start low trial.from trial.comes;
     }

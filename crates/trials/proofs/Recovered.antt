@@ -49,7 +49,7 @@ recovery_adopts rules image entries recovery trial was is =
     let items : List Item = items_in rules.bounds entries in
     let pieces : List Send = passed_in rules.bounds entries in
     let point : ℕ = point_of recovery in
-    let next : Survivor = adopted_by recovery trial in
+    let next : Survivor = adopted_by rules recovery trial in
     let it = walk_adopts rules.limits items recovery.survivor.plan pieces point recovery.ring recovery.trials trial was.walks is in
     let chain =
     chained_adopt rules.limits items recovery.survivor.plan image trial.chance.env point recovery.survivor.now trial.path recovery.ring it.index trial.chance.checkpoint was.chained was.checkpoints it.checkpoint it.right.from in

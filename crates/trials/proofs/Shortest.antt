@@ -116,9 +116,9 @@ chapters_shortest rules image items before first [] chapter back (recovery ∷ r
 chapters_shortest rules image items before first (earlier ∷ front) chapter back [] now lawful are = absurd are
 chapters_shortest rules image items before first (earlier ∷ front) chapter back (recovery ∷ recoveries) now lawful are =
     subst (λ (start : List Entry). IsShortest rules start chapter.entries chapter.survivor) (append_assoc before earlier.entries (entries_of front))
-    (of_trial (survivor_in recovery.trials) (λ trial. AreRecovered rules image (before ++ earlier.entries) (adopted_by recovery trial) (front ++ chapter ∷ back) recoveries now)
+    (of_trial (survivor_in recovery.trials) (λ trial. AreRecovered rules image (before ++ earlier.entries) (adopted_by rules recovery trial) (front ++ chapter ∷ back) recoveries now)
     (IsShortest rules ((before ++ earlier.entries) ++ entries_of front) chapter.entries chapter.survivor)
-    (λ trial rest. chapters_shortest rules image items (before ++ earlier.entries) (adopted_by recovery trial) front chapter back recoveries now lawful.2 rest) are.3)
+    (λ trial rest. chapters_shortest rules image items (before ++ earlier.entries) (adopted_by rules recovery trial) front chapter back recoveries now lawful.2 rest) are.3)
 
 pub recoveries_are_shortest : RecoveriesAreShortest
 recoveries_are_shortest rules image session recoveries front chapter back account are split =

@@ -38,7 +38,7 @@ pub points_rise : PointsRise
 points_rise rules image entries later more recovery next trial grown was is same then_fails =
     let items : List Item = items_in rules.bounds entries in
     let pieces : List Send = passed_in rules.bounds entries in
-    let plan : List Override = (adopted_by recovery trial).plan in
+    let plan : List Override = (adopted_by rules recovery trial).plan in
     let it = walk_adopts rules.limits items recovery.survivor.plan pieces (point_of recovery) recovery.ring recovery.trials trial was.walks is in
     let ran = served_with rules.limits items more plan (origin image) trial.path (recovery_adopts rules image entries recovery trial was is).ran in
     let fails : FailsBy rules.limits plan next.survivor.now next.cause = subst (λ (p : List Override). FailsBy rules.limits p next.survivor.now next.cause) same then_fails.fails in
@@ -64,9 +64,9 @@ recovered_on rules image before first (chapter ∷ chapters) (recovery ∷ recov
   are.0,
   are.1,
   are.2,
-  with_trial (survivor_in recovery.trials) (λ trial. AreRecovered rules image (before ++ chapter.entries) (adopted_by recovery trial) chapters recoveries now)
-      (λ trial. AreRecovered rules image (before ++ chapter.entries) (adopted_by recovery trial) chapters recoveries (gone_on now path))
-      (λ trial rest. recovered_on rules image (before ++ chapter.entries) (adopted_by recovery trial) chapters recoveries now path rest) are.3,
+  with_trial (survivor_in recovery.trials) (λ trial. AreRecovered rules image (before ++ chapter.entries) (adopted_by rules recovery trial) chapters recoveries now)
+      (λ trial. AreRecovered rules image (before ++ chapter.entries) (adopted_by rules recovery trial) chapters recoveries (gone_on now path))
+      (λ trial rest. recovered_on rules image (before ++ chapter.entries) (adopted_by rules recovery trial) chapters recoveries now path rest) are.3,
 )
 
 pub recovered_then : RecoveredThen
@@ -74,7 +74,7 @@ recovered_then rules image before first [] [] recovery since trial are was is = 
   are,
   refl,
   subst (λ (entries : List Entry). IsRecovery rules image (entries ++ since) recovery) (append-nil before) was,
-  subst (λ (o : Option Trial). MatchOption o ⊥ (λ (next : Trial). AreRecovered rules image (before ++ since) (adopted_by recovery next) [] [] (adopted_by recovery trial))) (sym is) (refl, refl),
+  subst (λ (o : Option Trial). MatchOption o ⊥ (λ (next : Trial). AreRecovered rules image (before ++ since) (adopted_by rules recovery next) [] [] (adopted_by rules recovery trial))) (sym is) (refl, refl),
 )
 recovered_then rules image before first [] (earlier ∷ recoveries) recovery since trial are was is = absurd are
 recovered_then rules image before first (chapter ∷ chapters) [] recovery since trial are was is = absurd are
@@ -83,7 +83,7 @@ recovered_then rules image before first (chapter ∷ chapters) (earlier ∷ reco
       are.0,
       are.1,
       are.2,
-      with_trial (survivor_in earlier.trials) (λ next. AreRecovered rules image (before ++ chapter.entries) (adopted_by earlier next) chapters recoveries recovery.survivor)
-          (λ next. AreRecovered rules image (before ++ chapter.entries) (adopted_by earlier next) (chapters ++ record { survivor = recovery.survivor; entries = since } ∷ []) (recoveries ++ recovery ∷ []) (adopted_by recovery trial))
-          (λ next rest. recovered_then rules image (before ++ chapter.entries) (adopted_by earlier next) chapters recoveries recovery since trial rest behind is) are.3,
+      with_trial (survivor_in earlier.trials) (λ next. AreRecovered rules image (before ++ chapter.entries) (adopted_by rules earlier next) chapters recoveries recovery.survivor)
+          (λ next. AreRecovered rules image (before ++ chapter.entries) (adopted_by rules earlier next) (chapters ++ record { survivor = recovery.survivor; entries = since } ∷ []) (recoveries ++ recovery ∷ []) (adopted_by rules recovery trial))
+          (λ next rest. recovered_then rules image (before ++ chapter.entries) (adopted_by rules earlier next) chapters recoveries recovery since trial rest behind is) are.3,
     )

@@ -40,8 +40,8 @@ pub record SameTrial (trial other : Trial) : Type 0 where
 pub same_trial : (limits : Limits) (items : List Item) (plan : List Override) (pieces : List Send) (point : ℕ) (trial other : Trial) → trial.chance ≡ other.chance → IsTimed trial.chance.checkpoint
     → IsRight limits items plan pieces point trial → IsRight limits items plan pieces point other → SameTrial trial other
 same_trial limits items plan pieces point trial other same timed one two =
-    let moved = subst (λ (c : Chance). IsTrial limits items (plan_of_trial plan c.checkpoint.state.machine.taken c.env point) c.checkpoint pieces point other.path other.result) (sym same) two in
-    let both = one_result limits items (plan_of_trial plan trial.chance.checkpoint.state.machine.taken trial.chance.env point) trial.chance.checkpoint trial.path other.path pieces point trial.result other.result timed one moved in
+    let moved = subst (λ (c : Chance). IsTrial limits items (plan_of_trial limits.keep plan c.checkpoint.state.machine.taken c.env point) c.checkpoint pieces point other.path other.result) (sym same) two in
+    let both = one_result limits items (plan_of_trial limits.keep plan trial.chance.checkpoint.state.machine.taken trial.chance.env point) trial.chance.checkpoint trial.path other.path pieces point trial.result other.result timed one moved in
     record { path = both.0; result = both.1 }
 
 none_of : (limits : Limits) (items : List Item) (plan : List Override) (pieces : List Send) (point : ℕ) (chances : List Chance) (trials : List Trial)

@@ -13,13 +13,13 @@ OneRecovery =
 
 -- a trial that is adopted is a run from the start under its plan, which emits what was passed, and in time; it has the checkpoints up to its own
 pub record GoesOnAs (rules : Rules) (image : Image) (entries : List Entry) (recovery : Recovery) (trial : Trial) : Type 0 where
-  pub ran : Served rules.limits (items_in rules.bounds entries) (adopted_by recovery trial).plan (origin image) trial.path
+  pub ran : Served rules.limits (items_in rules.bounds entries) (adopted_by rules recovery trial).plan (origin image) trial.path
   pub early : trial.path.state.machine.taken ≤ point_of recovery
   pub covers : Covers (passed_in rules.bounds entries) trial.path.state
   pub feasible : IsFeasible (passed_in rules.bounds entries) trial.path.state
   pub index : ℕ
   pub checkpoint : slice_get recovery.ring index ≡ Some trial.chance.checkpoint
-  pub chained : AreChained rules.limits (items_in rules.bounds entries) (adopted_by recovery trial).plan image trial.path (drop index recovery.ring)
+  pub chained : AreChained rules.limits (items_in rules.bounds entries) (adopted_by rules recovery trial).plan image trial.path (drop index recovery.ring)
   pub checkpoints : AreCheckpoints rules.limits image (drop index recovery.ring)
 
 -- where one survives the session can go on as it
@@ -39,7 +39,7 @@ RecoveryGivesUp =
 abbrev pub PointsRise : Type 0
 PointsRise =
     (rules : Rules) (image : Image) (entries later : List Entry) (more : List Item) (recovery next : Recovery) (trial : Trial) → items_in rules.bounds later ≡ items_in rules.bounds entries ++ more → IsRecovery rules image entries recovery →
-    survivor_in recovery.trials ≡ Some trial → next.survivor.plan ≡ (adopted_by recovery trial).plan → IsRecovery rules image later next → point_of recovery < point_of next
+    survivor_in recovery.trials ≡ Some trial → next.survivor.plan ≡ (adopted_by rules recovery trial).plan → IsRecovery rules image later next → point_of recovery < point_of next
 
 -- The survivors of a session: the first one, one that goes on, and behind a recovery the trial that survived.
 abbrev pub RecoveredFirst : Type 0
@@ -54,4 +54,4 @@ abbrev pub RecoveredThen : Type 0
 RecoveredThen =
     (rules : Rules) (image : Image) (before : List Entry) (first : Survivor) (chapters : List Chapter) (recoveries : List Recovery) (recovery : Recovery) (since : List Entry) (trial : Trial) →
     AreRecovered rules image before first chapters recoveries recovery.survivor → IsRecovery rules image ((before ++ entries_of chapters) ++ since) recovery → survivor_in recovery.trials ≡ Some trial →
-    AreRecovered rules image before first (chapters ++ record { survivor = recovery.survivor; entries = since } ∷ []) (recoveries ++ recovery ∷ []) (adopted_by recovery trial)
+    AreRecovered rules image before first (chapters ++ record { survivor = recovery.survivor; entries = since } ∷ []) (recoveries ++ recovery ∷ []) (adopted_by rules recovery trial)

@@ -36,9 +36,9 @@ pub record IsRecovery (rules : Rules) (image : Image) (entries : List Entry) (re
   pub walks : WalksOver rules.limits (items_in rules.bounds entries) recovery.survivor.plan (passed_in rules.bounds entries) (point_of recovery) (table recovery.ring) recovery.trials
 
 -- the next survivor: it begins where a trial has come that survives, under the plan of that trial
-abbrev pub adopted_by : Recovery → Trial → Survivor
-adopted_by recovery trial = record {
-  plan = plan_of_trial recovery.survivor.plan trial.chance.checkpoint.state.machine.taken trial.chance.env (point_of recovery);
+abbrev pub adopted_by : Rules → Recovery → Trial → Survivor
+adopted_by rules recovery trial = record {
+  plan = plan_of_trial rules.limits.keep recovery.survivor.plan trial.chance.checkpoint.state.machine.taken trial.chance.env (point_of recovery);
   begun = trial.path;
   now = trial.path;
 }
@@ -53,5 +53,5 @@ abbrev pub AreRecovered : Rules → Image → List Entry → Survivor → List C
 AreRecovered rules image before first [] [] now = BeginsAs first now
 AreRecovered rules image before first (chapter ∷ chapters) (recovery ∷ recoveries) now =
     BeginsAs first chapter.survivor × (recovery.survivor ≡ chapter.survivor) × IsRecovery rules image (before ++ chapter.entries) recovery
-    × MatchOption (survivor_in recovery.trials) ⊥ (λ trial. AreRecovered rules image (before ++ chapter.entries) (adopted_by recovery trial) chapters recoveries now)
+    × MatchOption (survivor_in recovery.trials) ⊥ (λ trial. AreRecovered rules image (before ++ chapter.entries) (adopted_by rules recovery trial) chapters recoveries now)
 AreRecovered rules image before first _ _ now = ⊥

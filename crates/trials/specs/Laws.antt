@@ -1,30 +1,30 @@
 -- What holds of all trials, and of a run that is adopted.
-use Rattle.std.specs.Prelude.{◌≡◌, ℕ, ◌+◌, ◌<◌, List, [], ◌∷◌, ◌++◌, drop, map, false, None, Some, slice_get}
+use Rattle.std.specs.Prelude.{◌≡◌, ℕ, ◌+◌, ◌<◌, ◌≤◌, List, [], ◌∷◌, ◌++◌, drop, map, false, None, Some, slice_get}
 use Rattle.trials.specs.Terms.{Item, Send, Env, Image, AsksFor, Limits, Override, Path, Served, origin, AreBetween, Covers, IsFeasible, Tried, survives}
 use Rattle.trials.specs.Trials.{plan_of_trial, IsUnharmed, IsTrial}
 use Rattle.trials.specs.Tables.{Trial, table, WalksOver, IsRight, survivor_in, IsAdopted}
 use Rattle.trials.specs.Chains.{IsCheckpoint, AreCheckpoints, AreChained}
 
 -- the environment of a trial, for all counts of items from the start on
-abbrev pub everywhere : Env → ℕ → List Override
-everywhere env point = record { low = 0; until = point + 4; env = env } ∷ []
+abbrev pub everywhere : ℕ → Env → ℕ → List Override
+everywhere keep env point = record { low = 0; until = point + keep; env = env } ∷ []
 
 -- Whether a run asks for an item depends on no plan.
 abbrev pub AsksUnderAll : Type 0
 AsksUnderAll = (limits : Limits) (plan other : List Override) (path : Path) (item : ℕ) → AsksFor limits plan path item → AsksFor limits other path item
 
--- A run from a checkpoint in one environment is one under the plan of the trial, up to four items more than the point: at the checkpoint
+-- A run from a checkpoint in one environment is one under the plan of the trial, up to so many items more than the point: at the checkpoint
 -- nothing is asked of the allocator before the next item.
 abbrev pub TrialServes : Type 0
 TrialServes =
-    (limits : Limits) (items : List Item) (image : Image) (plan : List Override) (env : Env) (point : ℕ) (checkpoint path : Path) → IsCheckpoint limits image checkpoint → path.state.machine.taken < point + 4 →
-    Served limits items (everywhere env point) checkpoint path → Served limits items (plan_of_trial plan checkpoint.state.machine.taken env point) checkpoint path
+    (limits : Limits) (items : List Item) (image : Image) (plan : List Override) (env : Env) (point : ℕ) (checkpoint path : Path) → IsCheckpoint limits image checkpoint → path.state.machine.taken < point + limits.keep →
+    Served limits items (everywhere limits.keep env point) checkpoint path → Served limits items (plan_of_trial limits.keep plan checkpoint.state.machine.taken env point) checkpoint path
 
 -- so is its result
 abbrev pub TrialComes : Type 0
 TrialComes =
-    (limits : Limits) (items : List Item) (image : Image) (plan : List Override) (env : Env) (point : ℕ) (checkpoint path : Path) (pieces : List Send) (result : Tried) → IsCheckpoint limits image checkpoint →
-    IsTrial limits items (everywhere env point) checkpoint pieces point path result → IsTrial limits items (plan_of_trial plan checkpoint.state.machine.taken env point) checkpoint pieces point path result
+    (limits : Limits) (items : List Item) (image : Image) (plan : List Override) (env : Env) (point : ℕ) (checkpoint path : Path) (pieces : List Send) (result : Tried) → 1 ≤ limits.keep → IsCheckpoint limits image checkpoint →
+    IsTrial limits items (everywhere limits.keep env point) checkpoint pieces point path result → IsTrial limits items (plan_of_trial limits.keep plan checkpoint.state.machine.taken env point) checkpoint pieces point path result
 
 -- What came of a trial is one: no other result of it is right, and it is found in one place.
 abbrev pub OneResult : Type 0
@@ -48,8 +48,8 @@ ChainedDrop =
 abbrev pub ChainedAdopt : Type 0
 ChainedAdopt =
     (limits : Limits) (items : List Item) (plan : List Override) (image : Image) (env : Env) (point : ℕ) (later path : Path) (ring : List Path) (index : ℕ) (checkpoint : Path) → AreChained limits items plan image later ring →
-    AreCheckpoints limits image ring → slice_get ring index ≡ Some checkpoint → Served limits items (plan_of_trial plan checkpoint.state.machine.taken env point) checkpoint path →
-    AreChained limits items (plan_of_trial plan checkpoint.state.machine.taken env point) image path (drop index ring) × AreCheckpoints limits image (drop index ring)
+    AreCheckpoints limits image ring → slice_get ring index ≡ Some checkpoint → Served limits items (plan_of_trial limits.keep plan checkpoint.state.machine.taken env point) checkpoint path →
+    AreChained limits items (plan_of_trial limits.keep plan checkpoint.state.machine.taken env point) image path (drop index ring) × AreCheckpoints limits image (drop index ring)
 
 -- The run that failed is unharmed at each of its checkpoints, where it emits what was passed, and in time.
 abbrev pub CheckpointUnharmed : Type 0

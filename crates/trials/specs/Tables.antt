@@ -38,7 +38,7 @@ try_of trial = record { checkpoint = trial.chance.checkpoint.state.machine.taken
 -- its chance was tried, by the plan that is in force before the failure
 abbrev pub IsRight : Limits → List Item → List Override → List Send → ℕ → Trial → Type 0
 IsRight limits items plan pieces point trial =
-    IsTrial limits items (plan_of_trial plan trial.chance.checkpoint.state.machine.taken trial.chance.env point) trial.chance.checkpoint pieces point trial.path trial.result
+    IsTrial limits items (plan_of_trial limits.keep plan trial.chance.checkpoint.state.machine.taken trial.chance.env point) trial.chance.checkpoint pieces point trial.path trial.result
 
 -- The trials of a walk over a table: its chances in order, each with its result, up to the first that survives; or all of them.
 abbrev pub WalksOver : Limits → List Item → List Override → List Send → ℕ → List Chance → List Trial → Type 0

@@ -4,10 +4,10 @@ use Rattle.session_notes.specs.declared.episode.Tried.TheVariants as tried
 use Rattle.trials.specs.Terms.{Item, Send, sent_to, Env, agree, State, output, AsksFor, FailsBy, Limits, Override, Path, Served, planned_next, Agrees, Covers, CoversBefore, IsFeasible, Tried}
 
 -- The plan of a trial, which stays in force if the trial is adopted. Up to the checkpoint, where so many items were taken, the earlier
--- plan; from the next item on, or from the start where the checkpoint is the start, the trial's environment, until four items more
--- were taken than at the failure; then Plain.
-abbrev pub plan_of_trial : List Override → ℕ → Env → ℕ → List Override
-plan_of_trial plan checkpoint env point = record { low = if checkpoint == 0 then 0 else checkpoint + 1; until = point + 4; env = env } ∷ plan
+-- plan; from the next item on, or from the start where the checkpoint is the start, the trial's environment, until so many items more
+-- were taken than at the failure as an environment is kept; then Plain.
+abbrev pub plan_of_trial : ℕ → List Override → ℕ → Env → ℕ → List Override
+plan_of_trial keep plan checkpoint env point = record { low = if checkpoint == 0 then 0 else checkpoint + 1; until = point + keep; env = env } ∷ plan
 
 -- A trial is unharmed so far: no byte that it emits differs from the passed byte at its place, it took no item before it had emitted each
 -- byte that was passed before that item was received, and it took no more items than the run that failed.

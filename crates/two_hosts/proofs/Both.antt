@@ -4,18 +4,19 @@ use Rattle.links.specs.Links.{events_in}
 use Rattle.run_history.proofs.Outputs.{sent_to-append}
 use Rattle.session_history.proofs.Closing.{items_longer}
 use Rattle.session_history.proofs.Heeding.{events_alone, items_in-alike}
+use Rattle.follow.specs.Plans.{plan_of}
 use Rattle.follow.proofs.Agreed.{held_at_release}
 use Rattle.follow.proofs.Behind.{followed_is_past}
 use Rattle.follow.proofs.Placed.{episodes_are_placed}
-use Rattle.two_hosts.specs.Terms.{Item, Prefix, sent_to, Limits, Path, Served, origin, journal_of, events_of, passed_behind, heard_alone, HasReached, Stand, count_of, held, IsFollowed, IsTakeover, Takeover, passed_first, plan_in}
+use Rattle.two_hosts.specs.Terms.{Item, Prefix, sent_to, Limits, Path, Served, origin, journal_of, events_of, passed_behind, heard_alone, HasReached, Stand, count_of, held, IsFollowed, IsTakeover, Takeover, passed_first}
 use Rattle.two_hosts.specs.Hosts.{AreHosts, Hosts, emitted, given_by_second, had_of_first, items_followed, items_of_second, rules_of_second}
 use Rattle.two_hosts.specs.Rows.{AreInRow, given_in_row}
 use Rattle.two_hosts.specs.Laws.{AllAreOne, BothArePassed, HostsAreOne, ItemsGoOn, ThirdTakesOver}
 
 -- a run that has reached what was handed over, under limits that are the takeover's
 record ReachesUnder (over : Takeover) (heard : List Item) (path : Path) (limits : Limits) : Type 0 where
-  ran : Served limits heard (plan_in over) (origin over.image) path
-  stand : Stand limits (plan_in over) path
+  ran : Served limits heard (plan_of limits.keep over.handed.episodes) (origin over.image) path
+  stand : Stand limits (plan_of limits.keep over.handed.episodes) path
   reached : HasReached limits over.handed path stand
 
 -- what is held of its sends is what the first host passed first

@@ -14,4 +14,4 @@ pub use Rattle.trials.specs.Episodes.{AreRecovered, Recovery}
 pub use Rattle.follow.specs.Following.{HasFollowed, heard_alone, rules_behind}
 pub use Rattle.follow.specs.Handed.{Handed, HasReached, IsHandedBy, Stand}
 pub use Rattle.follow.specs.Held.{count_of, held}
-pub use Rattle.follow.specs.Takeover.{IsFollowed, IsTakeover, Takeover, passed_first, plan_in}
+pub use Rattle.follow.specs.Takeover.{IsFollowed, IsTakeover, Takeover, passed_first}

@@ -55,8 +55,8 @@ fn links_play_and_take_as_planned(rt: HostRuntime) -> Result<(), Fail> {
         rt.alloc(),
         "
         list 9 - > Ok(Ends)
-        list 9 o0|p0hi. > Ok(Opens(0)) Ok(Piece(0, Bytes { bytes: [104, 105, 10] })) Ok(Ends)
-        list 9 o0|p0hi.|e0|s0|c0 > Ok(Opens(0)) Ok(Piece(0, Bytes { bytes: [104, 105, 10] })) Ok(Ends)
+        list 9 o0|p0hi. > Ok(Opens(0)) Ok(Piece(0, Listed { values: [104, 105, 10] })) Ok(Ends)
+        list 9 o0|p0hi.|e0|s0|c0 > Ok(Opens(0)) Ok(Piece(0, Listed { values: [104, 105, 10] })) Ok(Ends)
         list 2 o0|p0hi. > Ok(Opens(0)) Err(ReadFault)
         list 9 s0|p0hi. > Ok(Settles) Err(Refused { kind: 4, offset: 1 })
         list 9 o0|o0 > Ok(Opens(0)) Err(Refused { kind: 4, offset: 1 })
@@ -66,10 +66,10 @@ fn links_play_and_take_as_planned(rt: HostRuntime) -> Result<(), Fail> {
         list 9 c0 > Err(Refused { kind: 4, offset: 0 })
         list 9 x > Err(Refused { kind: 4, offset: 0 })
         # The call that fails, and how many bytes go out at call 3, where the connection is gone.
-        gives 9 1 > Ok(Gone(1)) [Took(Opens(0)), Gave { conn: 0, bytes: Bytes { bytes: [120] }, gone: false }, Gave { conn: 0, bytes: Bytes { bytes: [104] }, gone: true }]
-        gives 9 0 > Ok(Gone(0)) [Took(Opens(0)), Gave { conn: 0, bytes: Bytes { bytes: [120] }, gone: false }, Gave { conn: 0, bytes: Bytes { bytes: [] }, gone: true }]
-        gives 9 8 > Ok(Gone(3)) [Took(Opens(0)), Gave { conn: 0, bytes: Bytes { bytes: [120] }, gone: false }, Gave { conn: 0, bytes: Bytes { bytes: [104, 105, 10] }, gone: true }]
-        gives 3 1 > Err(WriteFault) [Took(Opens(0)), Gave { conn: 0, bytes: Bytes { bytes: [120] }, gone: false }]
+        gives 9 1 > Ok(Gone(1)) [Took(Opens(0)), Gave { conn: 0, bytes: Listed { values: [120] }, gone: false }, Gave { conn: 0, bytes: Listed { values: [104] }, gone: true }]
+        gives 9 0 > Ok(Gone(0)) [Took(Opens(0)), Gave { conn: 0, bytes: Listed { values: [120] }, gone: false }, Gave { conn: 0, bytes: Listed { values: [] }, gone: true }]
+        gives 9 8 > Ok(Gone(3)) [Took(Opens(0)), Gave { conn: 0, bytes: Listed { values: [120] }, gone: false }, Gave { conn: 0, bytes: Listed { values: [104, 105, 10] }, gone: true }]
+        gives 3 1 > Err(WriteFault) [Took(Opens(0)), Gave { conn: 0, bytes: Listed { values: [120] }, gone: false }]
     ",
     )
 }
@@ -102,12 +102,12 @@ fn frames_come_in_and_go_out(rt: HostRuntime) -> Result<(), Fail> {
         trunk 1 0 010000000002000003006869 > Ok(Opens(0)) Err(Refused { kind: 5, offset: 5 })
         trunk 2 0 010000000002000003006869 > Ok(Opens(0)) Err(Refused { kind: 5, offset: 5 })
         trunk 100 0 010000000002000003006869 > Ok(Opens(0)) Err(Refused { kind: 5, offset: 5 })
-        trunk 1 0 0100000000020000030068690a > Ok(Opens(0)) Ok(Piece(0, Bytes { bytes: [104, 105, 10] })) Ok(Ends)
-        trunk 2 0 0100000000020000030068690a > Ok(Opens(0)) Ok(Piece(0, Bytes { bytes: [104, 105, 10] })) Ok(Ends)
-        trunk 100 0 0100000000020000030068690a > Ok(Opens(0)) Ok(Piece(0, Bytes { bytes: [104, 105, 10] })) Ok(Ends)
-        trunk 1 0 0100000000020000030068690a020000 > Ok(Opens(0)) Ok(Piece(0, Bytes { bytes: [104, 105, 10] })) Err(Refused { kind: 5, offset: 13 })
-        trunk 2 0 0100000000020000030068690a020000 > Ok(Opens(0)) Ok(Piece(0, Bytes { bytes: [104, 105, 10] })) Err(Refused { kind: 5, offset: 13 })
-        trunk 100 0 0100000000020000030068690a020000 > Ok(Opens(0)) Ok(Piece(0, Bytes { bytes: [104, 105, 10] })) Err(Refused { kind: 5, offset: 13 })
+        trunk 1 0 0100000000020000030068690a > Ok(Opens(0)) Ok(Piece(0, Listed { values: [104, 105, 10] })) Ok(Ends)
+        trunk 2 0 0100000000020000030068690a > Ok(Opens(0)) Ok(Piece(0, Listed { values: [104, 105, 10] })) Ok(Ends)
+        trunk 100 0 0100000000020000030068690a > Ok(Opens(0)) Ok(Piece(0, Listed { values: [104, 105, 10] })) Ok(Ends)
+        trunk 1 0 0100000000020000030068690a020000 > Ok(Opens(0)) Ok(Piece(0, Listed { values: [104, 105, 10] })) Err(Refused { kind: 5, offset: 13 })
+        trunk 2 0 0100000000020000030068690a020000 > Ok(Opens(0)) Ok(Piece(0, Listed { values: [104, 105, 10] })) Err(Refused { kind: 5, offset: 13 })
+        trunk 100 0 0100000000020000030068690a020000 > Ok(Opens(0)) Ok(Piece(0, Listed { values: [104, 105, 10] })) Err(Refused { kind: 5, offset: 13 })
         # A frame is refused by the first rule that holds.
         trunk 100 0 0988130300 > Err(Refused { kind: 1, offset: 0 })
         trunk 100 0 0000000000 > Err(Refused { kind: 1, offset: 0 })
@@ -121,7 +121,7 @@ fn frames_come_in_and_go_out(rt: HostRuntime) -> Result<(), Fail> {
         trunk 100 0 0200000300 > Err(Refused { kind: 4, offset: 0 })
         trunk 100 0 04000000000300000000 > Ok(Settles) Err(Refused { kind: 4, offset: 5 })
         trunk 100 0 010000000003000000000200000000 > Ok(Opens(0)) Ok(Closes(0)) Err(Refused { kind: 4, offset: 10 })
-        trunk 100 0 01020000000202000000020200010178 > Ok(Opens(2)) Ok(Piece(2, Bytes { bytes: [] })) Err(Refused { kind: 5, offset: 10 })
+        trunk 100 0 01020000000202000000020200010178 > Ok(Opens(2)) Ok(Piece(2, Listed { values: [] })) Err(Refused { kind: 5, offset: 10 })
         # A read fails, with one byte a call. The last call finds the end.
         trunk 1 1 04050100000102010000 > Err(ReadFault)
         trunk 1 5 04050100000102010000 > Err(ReadFault)

@@ -10,7 +10,7 @@ use Rattle.run_history.specs.Machine as M
 use Rattle.session_history.specs.Heeding as H
 use Rattle.session_history.proofs.Accounts.{nothing_is_sound}
 use Rattle.session_state.proofs.Lemmas.{in_force_by, none_noted, tells_none, watched_kept, known_same}
-use Rattle.session_state.proofs.Terms.{Bool, List, None, Option, [], ap, arith, drop, false, inl, inr, length, refl, subst, suc, sym, take, true, zero, ℕ, ◌*◌, ◌++◌, ◌+◌, ◌-◌, ◌/◌, ◌<◌, ◌^◌, ◌∙◌, ◌∷◌, ◌≡◌, ◌≤◌, replicate, slice_get, MAX_ITEMS, Send, tells_nothing, Grew, IsFresh, Seen, Heap, Framing, Log, Ledger, no_replies, Image, Answer, no_connections, Path, origin, runs_start, CpuState, standing_of, Standing, served_same, serving_first, items_in, nothing_before, KeepsReplies, Rules, Stands, CanGive, Try, Noted, Shown, recovered_first, in_force_none, oldest_kept, handled_first, none_followed, alone, keeping_by, stands_of, KeepsRing, Options, keeping_for, rules_in, rules_of, IsBegun, SessionState, AreTables, HasWatched, IsTrimmed, LeavesBy, keeping_of, IsBetween, Since, Story, told_since, GoesFurther, HasSameFrame, HasServedLink, HasServedOn, IsCounted, MayServe, StaysKnown, outcome_of, rules_by}
+use Rattle.session_state.proofs.Terms.{Bool, List, None, Option, [], ap, arith, drop, false, inl, inr, length, refl, subst, suc, sym, take, true, zero, ℕ, ◌*◌, ◌++◌, ◌+◌, ◌-◌, ◌/◌, ◌<◌, ◌^◌, ◌∙◌, ◌∷◌, ◌≡◌, ◌≤◌, replicate, slice_get, KEEP, MAX_ITEMS, Send, tells_nothing, Grew, IsFresh, Seen, Heap, Framing, Log, Ledger, no_replies, Image, Answer, no_connections, Path, origin, runs_start, CpuState, standing_of, Standing, served_same, serving_first, items_in, nothing_before, KeepsReplies, Rules, Stands, CanGive, Try, Noted, Shown, recovered_first, in_force_none, oldest_kept, handled_first, none_followed, alone, keeping_by, stands_of, KeepsRing, Options, keeping_for, rules_in, rules_of, IsBegun, SessionState, AreTables, HasWatched, IsTrimmed, LeavesBy, keeping_of, IsBetween, Since, Story, told_since, GoesFurther, HasSameFrame, HasServedLink, HasServedOn, IsCounted, MayServe, StaysKnown, outcome_of, rules_by}
 use Rattle.session_state.proofs.ending.LeavingLemmas.{start_trimmed}
 use Rattle.session_state.proofs.standing.FrameLemmas.{same_rules}
 
@@ -232,10 +232,10 @@ module _ {R : Type 0} where
 
   -- What is left to do gets less: of failures, or of instructions before the next one.
   pub turned_smaller : (old mid new : SessionState R) → mid.options ≡ old.options → mid.cpu.slots.live.steps < 18446744073709551616 → GoesFurther mid new
-      → (old.options.max_items + 5 - new.until) * 18446744073709551617 + (18446744073709551616 - new.cpu.slots.live.steps) < (old.options.max_items + 5 - mid.until) * 18446744073709551617 + (18446744073709551616 - mid.cpu.slots.live.steps)
+      → (old.options.max_items + KEEP + 1 - new.until) * 18446744073709551617 + (18446744073709551616 - new.cpu.slots.live.steps) < (old.options.max_items + KEEP + 1 - mid.until) * 18446744073709551617 + (18446744073709551616 - mid.cpu.slots.live.steps)
   turned_smaller old mid new options fits (inl further) =
-      let same : old.options.max_items + 5 - new.until ≡ old.options.max_items + 5 - mid.until = ap (λ n. old.options.max_items + 5 - n) further.0 in
-      subst (λ n. n * 18446744073709551617 + (18446744073709551616 - new.cpu.slots.live.steps) < (old.options.max_items + 5 - mid.until) * 18446744073709551617 + (18446744073709551616 - mid.cpu.slots.live.steps)) (sym same)
+      let same : old.options.max_items + KEEP + 1 - new.until ≡ old.options.max_items + KEEP + 1 - mid.until = ap (λ n. old.options.max_items + KEEP + 1 - n) further.0 in
+      subst (λ n. n * 18446744073709551617 + (18446744073709551616 - new.cpu.slots.live.steps) < (old.options.max_items + KEEP + 1 - mid.until) * 18446744073709551617 + (18446744073709551616 - mid.cpu.slots.live.steps)) (sym same)
       (let later = further.1 in omega (arith, later, fits))
   turned_smaller old mid new options fits (inr adopted) =
       let most : mid.options.max_items ≡ old.options.max_items = ap (λ o. o.max_items) options in

@@ -67,7 +67,7 @@ module _ {R : Type 0} where
             stands_by (λ k stands. HandlesRequests rules image k story.earlier (entries (then_story story more)) story.recoveries story.survivor stands) old new (ap (λ (cpu : CpuState R). cpu.slots.saved) same.cpu)
             (run_keeping same) (requests_more items brings.items k.requests);
         in_force = in_force_by same.env same.until k.in_force;
-        past = subst (λ n. (n < now.state.machine.taken + 4) ⊎ ((n ≡ now.state.machine.taken + 4) × AsksFor rules.limits [] now now.state.machine.taken)) (sym same.until) k.past;
+        past = subst (λ n. (n < now.state.machine.taken + rules.limits.keep) ⊎ ((n ≡ now.state.machine.taken + rules.limits.keep) × AsksFor rules.limits [] now now.state.machine.taken)) (sym same.until) k.past;
       }
 
   -- what is known behind an event that was heard, but for the replies

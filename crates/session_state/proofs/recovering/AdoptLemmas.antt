@@ -16,24 +16,24 @@ spent_more recoveries recovery =
     omega (arith, ap sum (map-append f recoveries (recovery ∷ [])) ∙ sum_by-append (λ x. x) (map f recoveries) (map f (recovery ∷ [])))
 
 -- the story behind a recovery that adopted a trial
-abbrev pub adopted_story : Story → Recovery → Trial → Story
-adopted_story story recovery trial = record {
+abbrev pub adopted_story : Rules → Story → Recovery → Trial → Story
+adopted_story rules story recovery trial = record {
   earlier = story.earlier ++ record { survivor = story.survivor; entries = story.since } ∷ [];
   recoveries = story.recoveries ++ recovery ∷ [];
-  survivor = adopted_by recovery trial;
+  survivor = adopted_by rules recovery trial;
   since = [];
 }
 
 -- it has the same entries
-same_entries : (story : Story) (recovery : Recovery) (trial : Trial) → entries (adopted_story story recovery trial) ≡ entries story
-same_entries story recovery trial =
+same_entries : (rules : Rules) (story : Story) (recovery : Recovery) (trial : Trial) → entries (adopted_story rules story recovery trial) ≡ entries story
+same_entries rules story recovery trial =
     append-nil (entries_of (story.earlier ++ record { survivor = story.survivor; entries = story.since } ∷ []))
     ∙ entries_of-then story.earlier (record { survivor = story.survivor; entries = story.since })
 
 -- it is told, where so many instructions were counted
 told_adopted : {rules : Rules} {image : Image} {began : Since} {now : Told} {story : Story} {recovery : Recovery} {trial : Trial} {lost : ℕ} {noted : Noted} {tables : Option (List (List Try))} → IsTold rules image began now story → LeavesNothing rules (entries_of story.earlier) story.since story.survivor → recovery.survivor ≡ story.survivor → IsRecovery rules image (entries story) recovery
     → survivor_in recovery.trials ≡ Some trial → lost + trial.path.steps ≡ began.lost + story.survivor.now.steps + steps_of recovery.trials → Grew began.noted.episodes noted.episodes (episode_of recovery ∷ [])
-    → TellsOne rules (entries story) recovery began.tables tables → IsTold rules image (record began { lost = lost; noted = noted; tables = tables }) now (adopted_story story recovery trial)
+    → TellsOne rules (entries story) recovery began.tables tables → IsTold rules image (record began { lost = lost; noted = noted; tables = tables }) now (adopted_story rules story recovery trial)
 told_adopted {rules = rules} {image = image} {began = began} {now = now} {story = story} {recovery = recovery} {trial = trial} {noted = noted} {tables = tables} told leaves is was found counts grew one =
     let g : GoesOnAs rules image (entries story) recovery trial = recovery_adopts rules image (entries story) recovery trial was found in
     let early : trial.path.state.machine.taken ≤ story.survivor.now.state.machine.taken = subst (λ (s : Survivor). trial.path.state.machine.taken ≤ s.now.state.machine.taken) is g.early in
@@ -43,13 +43,13 @@ told_adopted {rules = rules} {image = image} {began = began} {now = now} {story 
     (subst (λ (s : Survivor). AreRecovered rules image [] (first_survivor rules image) story.earlier story.recoveries s) (sym is) told.recovered) was found in
     record {
       serving =
-          serving_adopts rules image story.earlier story.survivor story.since (adopted_by recovery trial).plan trial.path told.serving leaves g.ran (omega (arith, early, told.serving.carries.taken)) g.covers g.feasible;
-      way = served_same rules.limits (items_in rules.bounds (entries (adopted_story story recovery trial))) (adopted_by recovery trial).plan trial.path;
-      tells = subst (Tells began.told now) (sym (same_entries story recovery trial)) told.tells;
+          serving_adopts rules image story.earlier story.survivor story.since (adopted_by rules recovery trial).plan trial.path told.serving leaves g.ran (omega (arith, early, told.serving.carries.taken)) g.covers g.feasible;
+      way = served_same rules.limits (items_in rules.bounds (entries (adopted_story rules story recovery trial))) (adopted_by rules recovery trial).plan trial.path;
+      tells = subst (Tells began.told now) (sym (same_entries rules story recovery trial)) told.tells;
       counted = omega (arith, more, steps_later rules.limits (items_in rules.bounds (entries story)) story.survivor.plan story.survivor.begun story.survivor.now told.way, told.counted, counts);
       recovered =
           subst
-          (λ (s : Survivor). AreRecovered rules image [] (first_survivor rules image) (story.earlier ++ record { survivor = s; entries = story.since } ∷ []) (story.recoveries ++ recovery ∷ []) (adopted_by recovery trial)) is first;
+          (λ (s : Survivor). AreRecovered rules image [] (first_survivor rules image) (story.earlier ++ record { survivor = s; entries = story.since } ∷ []) (story.recoveries ++ recovery ∷ []) (adopted_by rules recovery trial)) is first;
       episodes =
           subst (Grew began.noted_before.episodes noted.episodes) (sym (map-append episode_of story.recoveries (recovery ∷ [])))
           (grew_more began.noted_before.episodes began.noted.episodes noted.episodes (map episode_of story.recoveries) (episode_of recovery ∷ []) told.episodes grew);
@@ -112,7 +112,7 @@ module _ {R : Type 0} {rules : Rules} {image : Image} {began : Since} {seen : Se
 
   -- and the story then, by the one that is adopted
   abbrev story_behind : IsFailing rules image began seen cause old → List Trial → Trial → Story
-  story_behind f trials trial = adopted_story f.going.story (recovery_behind f trials) trial
+  story_behind f trials trial = adopted_story rules f.going.story (recovery_behind f trials) trial
 
   -- the table that was told of it is that of its recovery
   table_of : (f : IsFailing rules image began seen cause old) (trials : List Trial) (tables : Option (List (List Try))) → TellsTable (failure_of f) old.taken began.tables tables
@@ -121,11 +121,11 @@ module _ {R : Type 0} {rules : Rules} {image : Image} {began : Since} {seen : Se
 
 module _ {R : Type 0} {rules : Rules} {image : Image} {began : Since} {seen : Seen} {cause : Cause} {old : SessionState R} (f : IsFailing rules image began seen cause old) where
   -- what is asked for before a recovery
-  pub to_recover : rules.limits.budget ≤ 2 ^ 24 → rules.bounds.max_items ≤ MAX_ITEMS → HasToRecover (record { point = old.taken; cause = cause; pc = old.cpu.slots.live.guest.machine.pc }) (failure_of f) (held_in old)
-  to_recover budget items =
+  pub to_recover : rules.limits.budget ≤ 2 ^ 24 → 1 ≤ rules.limits.keep → rules.bounds.max_items ≤ MAX_ITEMS → HasToRecover (record { point = old.taken; cause = cause; pc = old.cpu.slots.live.guest.machine.pc }) (failure_of f) (held_in old)
+  to_recover budget keep items =
       let g = f.going in
       record {
-        failed = record { has = ring_fails g.saved.ring items g.goes.items g.passed.replies g.told.serving.carries; point_is = sym g.answers.taken; few_steps = budget };
+        failed = record { has = ring_fails g.saved.ring items g.goes.items g.passed.replies g.told.serving.carries; point_is = sym g.answers.taken; few_steps = budget; some_keep = keep };
         ring = g.saved.ring;
         chose = g.answers.choices;
         early = g.saved.early;
@@ -185,11 +185,11 @@ module _ {R : Type 0} {rules : Rules} {image : Image} {began : Since} {seen : Se
       (notes_here {began = began} all told.episodes answers (sym (append-nil all))) (λ some. absurd (omega (arith, some))) answers.taken answers.steps
 
   -- behind a failure the number is higher, up to which an environment is in force
-  pub adopted_later : (old.until < old.taken + 4) × (old.taken ≤ rules.bounds.max_items)
+  pub adopted_later : (old.until < old.taken + rules.limits.keep) × (old.taken ≤ rules.bounds.max_items)
   adopted_later =
       let g = f.going in
       let taken : old.taken ≡ g.story.survivor.now.state.machine.taken = g.answers.taken in
-      let past : old.until < g.story.survivor.now.state.machine.taken + 4 = elim g.saved.past [
+      let past : old.until < g.story.survivor.now.state.machine.taken + rules.limits.keep = elim g.saved.past [
         | inl past ↦ past
         | inr there ↦ absurd (asks_or_fails there.1 f.fails)
       ] in
@@ -275,7 +275,7 @@ module _ {R : Type 0} {rules : Rules} {image : Image} {began : Since} {seen : Se
     (was : IsRecovery rules image (entries f.going.story) (recovery_behind f trials)) (found : survivor_in trials ≡ Some trial) (run : HasAdoptedRun (failure_of f) (recovery_behind f trials) trial adopted new) (left : LeavesSession (Some adopted) (held_in old) new) (rest : KeepsBeside old new)
     (counts : lost + trial.path.steps ≡ began.lost + f.going.story.survivor.now.steps + steps_of trials) (one : TellsOne rules (entries f.going.story) (recovery_behind f trials) began.tables tables) where
   same_items : KeepsItems rules.bounds (entries (story_behind f trials trial)) new.log
-  same_items = subst (λ (at : List Entry × Log). KeepsItems rules.bounds at.0 at.1) (λ i. (sym (same_entries f.going.story (recovery_behind f trials) trial) i, sym rest.log i)) f.going.goes.items
+  same_items = subst (λ (at : List Entry × Log). KeepsItems rules.bounds at.0 at.1) (λ i. (sym (same_entries rules f.going.story (recovery_behind f trials) trial) i, sym rest.log i)) f.going.goes.items
 
   -- what stands then
   adopted_requests : HasHandled rules image (keeping_by old.options.every new.cpu.slots) (story_behind f trials trial).earlier (entries (story_behind f trials trial)) (story_behind f trials trial).recoveries (story_behind f trials trial).survivor trial.path.state.machine.taken (stands_of new.cpu.slots.saved)
@@ -283,11 +283,11 @@ module _ {R : Type 0} {rules : Rules} {image : Image} {began : Since} {seen : Se
       handled_adopts (record { survivor = f.going.story.survivor; entries = f.going.story.since }) (recovery_behind f trials) adopted.index refl (failed_requests f rest.keeping) (failed_ring f) found run.from (stands_up_to adopted.index old.cpu.slots.saved left.slots.1)
 
   -- the session holds the checkpoints up to its own
-  adopted_held : HoldsCheckpoints rules image (story_behind f trials trial).earlier (entries (story_behind f trials trial)) (story_behind f trials trial).recoveries (story_behind f trials trial).survivor (goes_as old new adopted.env (old.taken + 4))
+  adopted_held : HoldsCheckpoints rules image (story_behind f trials trial).earlier (entries (story_behind f trials trial)) (story_behind f trials trial).recoveries (story_behind f trials trial).survivor (goes_as old new adopted.env (old.taken + rules.limits.keep))
   adopted_held = record {
     paths = drop adopted.index f.going.saved.paths;
     some = run.ring.some;
-    chained = subst (λ es. AreChained rules.limits (items_in rules.bounds es) (adopted_by (recovery_behind f trials) trial).plan image trial.path (drop adopted.index f.going.saved.paths)) (sym (same_entries f.going.story (recovery_behind f trials) trial)) run.ring.chained;
+    chained = subst (λ es. AreChained rules.limits (items_in rules.bounds es) (adopted_by rules (recovery_behind f trials) trial).plan image trial.path (drop adopted.index f.going.saved.paths)) (sym (same_entries rules f.going.story (recovery_behind f trials) trial)) run.ring.chained;
     are = run.ring.are;
     saved = run.ring.saved;
     requests = inl adopted_requests;
@@ -295,7 +295,7 @@ module _ {R : Type 0} {rules : Rules} {image : Image} {began : Since} {seen : Se
 
   -- it answers for the run that it adopted, of which the first answers of the allocator are those that are noted
   adopted_answers : (noted : Noted) (tables : Option (List (List Try))) → Grew began.noted.choices noted.choices [] → noted.unnoted ≡ began.noted.unnoted
-      → AnswersFor (record began { lost = lost; noted = noted; tables = tables }) (story_behind f trials trial) (goes_as old new adopted.env (old.taken + 4))
+      → AnswersFor (record began { lost = lost; noted = noted; tables = tables }) (story_behind f trials trial) (goes_as old new adopted.env (old.taken + rules.limits.keep))
   adopted_answers noted tables grew unnoted =
       let answers = f.going.answers in
       let failed : List Choice = f.going.story.survivor.now.choices in
@@ -311,13 +311,13 @@ module _ {R : Type 0} {rules : Rules} {image : Image} {began : Since} {seen : Se
       }
 
   -- it goes on as a trial that asks for the next item
-  adopts_going : adopted.code ≡ None → (noted : Noted) → HasNotedMore began.noted noted [] (episode_of (recovery_behind f trials) ∷ []) → IsGoing rules image (record began { lost = lost; noted = noted; tables = tables }) seen (goes_as old new adopted.env (old.taken + 4))
+  adopts_going : adopted.code ≡ None → (noted : Noted) → HasNotedMore began.noted noted [] (episode_of (recovery_behind f trials) ∷ []) → IsGoing rules image (record began { lost = lost; noted = noted; tables = tables }) seen (goes_as old new adopted.env (old.taken + rules.limits.keep))
   adopts_going asks noted more =
       let g = f.going in
       let story : Story = g.story in
       let recovery : Recovery = recovery_behind f trials in
       let next : Story = story_behind f trials trial in
-      let same : entries next ≡ entries story = same_entries story recovery trial in
+      let same : entries next ≡ entries story = same_entries rules story recovery trial in
       let lives : trial.path.state.ended ≡ None = sym run.code_is ∙ asks in
       let at_point : AsksFor rules.limits [] trial.path story.survivor.now.state.machine.taken = run.asks lives in
       let point : old.taken ≡ story.survivor.now.state.machine.taken = g.answers.taken in
@@ -339,10 +339,10 @@ module _ {R : Type 0} {rules : Rules} {image : Image} {began : Since} {seen : Se
         };
         saved = record {
           paths = drop adopted.index g.saved.paths;
-          ring = subst (λ es. KeepsRing rules image es (adopted_by recovery trial).plan trial.path (drop adopted.index g.saved.paths) new.cpu new.log new.replies) (sym same) run.ring;
+          ring = subst (λ es. KeepsRing rules image es (adopted_by rules recovery trial).plan trial.path (drop adopted.index g.saved.paths) new.cpu new.log new.replies) (sym same) run.ring;
           early = behind_drop new.recorded adopted.index g.saved.paths (subst (λ n. AreBehind n g.saved.paths) (sym rest.recorded) g.saved.early);
           requests = inl adopted_requests;
-          in_force = subst (λ (at : ℕ × ℕ). IsInForce (adopted_by recovery trial).plan at.0 adopted.env (at.1 + 4)) (λ i. (sym taken i, sym point i)) run.in_force;
+          in_force = subst (λ (at : ℕ × ℕ). IsInForce (adopted_by rules recovery trial).plan at.0 adopted.env (at.1 + rules.limits.keep)) (λ i. (sym taken i, sym point i)) run.in_force;
           past = inr (omega (arith, point, taken), subst (AsksFor rules.limits [] trial.path) (sym taken) at_point);
         };
         passed = record {
@@ -355,10 +355,10 @@ module _ {R : Type 0} {rules : Rules} {image : Image} {began : Since} {seen : Se
 
   -- the trial ended itself
   adopts_ending : {code : ℕ} → adopted.code ≡ Some code → (noted : Noted) → HasNotedMore began.noted noted [] (episode_of (recovery_behind f trials) ∷ [])
-      → IsEnding rules image (record began { lost = lost; noted = noted; tables = tables }) seen (goes_as old new adopted.env (old.taken + 4)) (session_end.Exited code)
+      → IsEnding rules image (record began { lost = lost; noted = noted; tables = tables }) seen (goes_as old new adopted.env (old.taken + rules.limits.keep)) (session_end.Exited code)
   adopts_ending {code = code} exits noted more =
       let next : Story = story_behind f trials trial in
-      let same : entries next ≡ entries f.going.story = same_entries f.going.story (recovery_behind f trials) trial in
+      let same : entries next ≡ entries f.going.story = same_entries rules f.going.story (recovery_behind f trials) trial in
       let then = told_adopted f.going.told (failed_owes f) refl was found counts more.episodes_more one in
       record {
         story = next;
@@ -384,12 +384,12 @@ module _ {R : Type 0} {rules : Rules} {image : Image} {began : Since} {seen : Se
 
   -- by its code
   adopts_to : (code : Option ℕ) → adopted.code ≡ code → (noted : Noted) → HasNotedMore began.noted noted [] (episode_of (recovery_behind f trials) ∷ [])
-      → AdoptsTo rules image (record began { lost = lost; noted = noted; tables = tables }) seen (goes_as old new adopted.env (old.taken + 4)) (option_map session_end.Exited code)
+      → AdoptsTo rules image (record began { lost = lost; noted = noted; tables = tables }) seen (goes_as old new adopted.env (old.taken + rules.limits.keep)) (option_map session_end.Exited code)
   adopts_to None is noted more = adopts_going is noted more
   adopts_to (Some code) is noted more = adopts_ending is noted more
 
   -- its episode isn't noted: the session is broken off as the trial
-  adopted_unnoted : (fault : SessionBreak) → IsNoteFault fault → (now : Noted) → HasMissed began.noted now (episode_of (recovery_behind f trials)) → IsBrokenOff rules image (record began { lost = lost; noted = now; tables = tables }) seen (goes_as old new adopted.env (old.taken + 4)) fault
+  adopted_unnoted : (fault : SessionBreak) → IsNoteFault fault → (now : Noted) → HasMissed began.noted now (episode_of (recovery_behind f trials)) → IsBrokenOff rules image (record began { lost = lost; noted = now; tables = tables }) seen (goes_as old new adopted.env (old.taken + rules.limits.keep)) fault
   adopted_unnoted fault note now missed =
       let story : Story = f.going.story in
       let told = f.going.told in
@@ -424,7 +424,7 @@ module _ {R : Type 0} {rules : Rules} {image : Image} {began : Since} {seen : Se
       })
 
   pub adopt_some : {adopted : Adopted} {lost : ℕ} {tables : Option (List (List Try))} → LeavesSession recovered.adopted (held_in old) new → KeepsBeside old new → recovered.adopted ≡ Some adopted → lost + new.cpu.slots.live.steps + before ≡ began.lost + old.steps + after
-      → TellsTable (failure_of f) old.taken began.tables tables → Adopting rules image (record began { lost = lost; tables = tables }) seen old.taken cause (goes_as old new adopted.env (old.taken + 4)) recovered
+      → TellsTable (failure_of f) old.taken began.tables tables → Adopting rules image (record began { lost = lost; tables = tables }) seen old.taken cause (goes_as old new adopted.env (old.taken + rules.limits.keep)) recovered
   adopt_some {adopted = adopted} {lost = lost} {tables = tables} left rest is counts told =
       let leaves = subst (LeavesRun (failure_of f) (recovery_behind f h.trials) (held_in old) new) is h.leaves in
       let run = leaves.2 in
@@ -433,7 +433,7 @@ module _ {R : Type 0} {rules : Rules} {image : Image} {began : Since} {seen : Se
       let one = table_of f h.trials tables told in
       record {
         goes = λ noted more.
-            subst (AdoptsTo rules image (record began { lost = lost; noted = noted; tables = tables }) seen (goes_as old new adopted.env (old.taken + 4))) (sym (ap (end_of old.taken cause) is))
+            subst (AdoptsTo rules image (record began { lost = lost; noted = noted; tables = tables }) seen (goes_as old new adopted.env (old.taken + rules.limits.keep))) (sym (ap (end_of old.taken cause) is))
             (adopts_to f lost tables h.recovers leaves.1 run stays rest all one adopted.code refl noted (subst (λ (e : Episode). HasNotedMore began.noted noted [] (e ∷ [])) h.episode_is more));
         breaks = λ fault note noted missed. adopted_unnoted f lost tables h.recovers leaves.1 run stays rest all one fault note noted (subst (HasMissed began.noted noted) h.episode_is missed);
       }

@@ -9,12 +9,12 @@ in_force_by {plan = plan} {taken = taken} {env = env} {till = till} same still i
 
 -- a run past a failure goes on past it; one that stands at it, at its request, takes the item
 pub past_on : {limits : Limits} {items : List Item} {plan : List Override} {now to : Path} {until till : ℕ} → Served limits items plan now to → now.state.machine.taken ≤ to.state.machine.taken → till ≡ until
-    → (until < now.state.machine.taken + 4) ⊎ ((until ≡ now.state.machine.taken + 4) × AsksFor limits [] now now.state.machine.taken) → (till < to.state.machine.taken + 4) ⊎ ((till ≡ to.state.machine.taken + 4) × AsksFor limits [] to to.state.machine.taken)
+    → (until < now.state.machine.taken + limits.keep) ⊎ ((until ≡ now.state.machine.taken + limits.keep) × AsksFor limits [] now now.state.machine.taken) → (till < to.state.machine.taken + limits.keep) ⊎ ((till ≡ to.state.machine.taken + limits.keep) × AsksFor limits [] to to.state.machine.taken)
 past_on served more same (inl past) = inl (omega (arith, past, more, same))
 past_on {limits = limits} {items = items} {plan = plan} {now = now} {to = to} {until = until} {till = till} served more same (inr there) =
     elim (past_request limits items plan now to there.1 served) [
-      | inl stays ↦ subst (λ (p : Path). (till < p.state.machine.taken + 4) ⊎ ((till ≡ p.state.machine.taken + 4) × AsksFor limits [] p p.state.machine.taken)) stays (inr (same ∙ there.0, there.1))
-      | inr later ↦ inl (let is : until ≡ now.state.machine.taken + 4 = there.0 in omega (arith, is, later, same))
+      | inl stays ↦ subst (λ (p : Path). (till < p.state.machine.taken + limits.keep) ⊎ ((till ≡ p.state.machine.taken + limits.keep) × AsksFor limits [] p p.state.machine.taken)) stays (inr (same ∙ there.0, there.1))
+      | inr later ↦ inl (let is : until ≡ now.state.machine.taken + limits.keep = there.0 in omega (arith, is, later, same))
     ]
 
 module _ {R : Type 0} where

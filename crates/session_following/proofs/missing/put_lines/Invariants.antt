@@ -1,4 +1,5 @@
-use Rattle.session_following.proofs.Terms.{List, length, ℕ, ◌++◌, ◌≡◌, NUMBERS, HasCounts}
+use Rattle.std.proofs.Common.{◌^◌}
+use Rattle.session_following.proofs.Terms.{List, length, ℕ, ◌++◌, ◌≡◌, ◌≤◌, HasCounts}
 use Rattle.session_following.proofs.missing.put_lines.Given as goal
 
 -- the lines behind are those that were gone over
@@ -6,8 +7,8 @@ abbrev pub invariant-lines : goal.invariant-lines
 invariant-lines l = record {
   behind : List (ℕ × ℕ);
   whole : l.rest ++ behind ≡ l.counts;
-  as_many : length l.numbers ≡ NUMBERS;
-  are : HasCounts l.numbers behind;
+  few : length l.numbers.items ≤ 2 ^ 32;
+  are : HasCounts l.numbers.items behind;
 }
 
 abbrev pub decreases-lines : goal.decreases-lines

@@ -1,6 +1,6 @@
 use Rattle.std.specs.List.{last_or}
 use Rattle.session_following.specs.Placed.{IsFollowedBy}
-use Rattle.rx_engine.proofs.Terms.{None, ap, subst, sym, ℕ, ◌∙◌, plan_of, IsInForce, SessionState, released_followed, released_on, released_past, before_released}
+use Rattle.rx_engine.proofs.Terms.{None, ap, subst, sym, ℕ, ◌∙◌, KEEP, plan_of, IsInForce, SessionState, released_followed, released_on, released_past, before_released}
 use Rattle.rx_engine.proofs.session.Session.release.Goals as goal
 
 pub in_force-env-requires-clause-behind : goal.in_force-env-requires-clause-behind
@@ -9,8 +9,8 @@ in_force-env-requires-clause-behind g c = subst (λ (n : ℕ). IsFollowedBy n (l
 pub returns-clause-released : goal.returns-clause-released
 returns-clause-released g c taken image before seen noted_before noted missing r =
     released_on g.R.AccessRule.rule r.stands.alone r.stands r.stand r.reached
-    (subst (λ (n : ℕ). IsInForce (plan_of c.args.handed.now.episodes.now) n c.in_force-env.result.0 c.in_force-env.result.1) (ap (λ (s : SessionState _). s.taken) c.self.view_is ∙ r.stands.follows.stands.answers.taken) c.in_force-env.ensures.in_force)
-    (released_past r c.in_force-env.ensures.until)
+    (subst (λ (n : ℕ). IsInForce (plan_of KEEP c.args.handed.now.episodes.now) n c.in_force-env.result.0 c.in_force-env.result.1) (ap (λ (s : SessionState _). s.taken) c.self.view_is ∙ r.stands.follows.stands.answers.taken) c.in_force-env.ensures.in_force)
+    (released_past g.R.AccessRule.rule r c.in_force-env.ensures.until)
     ((λ i. record (c.self.view_is i) { env = c.in_force-env.result.0; until = c.in_force-env.result.1; before = c.of-self-inside.result.before; hold = (c.self.view_is i).options.hold })
     ∙ (λ i. record c.args.self.now { env = c.in_force-env.result.0; until = c.in_force-env.result.1; before = c.of-self-inside.result.before; hold = sym r.stands.hold_is i }))
-    (c.of-self-inside.ensures ∙ (λ i. before_released (c.self.view_is i).before (plan_of c.args.handed.now.episodes.now)))
+    (c.of-self-inside.ensures ∙ (λ i. before_released (c.self.view_is i).before (plan_of KEEP c.args.handed.now.episodes.now)))
