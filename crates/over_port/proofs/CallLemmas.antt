@@ -4,6 +4,7 @@ use Rattle.std.specs.Prelude.{count_by, flat_map}
 use Rattle.std.proofs.lemmas.Grind.{flat_map-append}
 use Rattle.std.proofs.lemmas.List.Sums.{sum_by-cons}
 use Rattle.links.proofs.Journaled.{events_in-append}
+use Rattle.links.proofs.Moved.{gave, gave_to, took}
 use Rattle.port_link.specs.declared.place.Stage.{Stage}
 use Rattle.port_link.specs.Stages.{broken}
 use Rattle.over_port.specs.Terms.{ListenEntry, Entry, LinkEvent, events_in, bytes_from, received_from, Place, Broken, Dropping, Ended, Open, Waiting, AreCalls, IsCall, Port, after_call, closed_entries, entries_of, fresh_port, gives_all, gives_part, is_closable, port_after, takes_bytes, with_part, link_journal, with_close, with_ends}

@@ -67,6 +67,17 @@ fn fault_of<'a>(rt: &HostRuntime, value: &Value<'a>) -> Option<Seen<'a>> {
     }
 }
 
+// The first file of a command that can't be used, and why.
+fn first_fault<'a>(rt: &HostRuntime, words: &[Fact<'a>]) -> Option<Seen<'a>> {
+    for word in words {
+        let fault = fault_of(rt, &word.value);
+        if fault.is_some() {
+            return fault;
+        }
+    }
+    None
+}
+
 // The bytes of a program's window.
 fn window_bytes(run: &RunCommand<'_>) -> u32
     requires { AreInRange (run_shown run.now) }
@@ -158,12 +169,15 @@ pub fn seen_behind<'a>(
 {
     let alloc = rt.alloc();
     match answer {
-        Answer::FileFault => words.iter().find_map(|word| fault_of(rt, &word.value)),
+        Answer::FileFault => first_fault(rt, words),
         Answer::ElfRefused(kind) => {
             let file = loaded(rt, file_named(words, "program")?, MAX_PROGRAM)?;
             let window = window_of(rt, command)?;
             let found = field_of_refusal(alloc, file.as_slice(), kind, window).ok()?;
-            found.map(Seen::Field)
+            match found {
+                Some(field) => Some(Seen::Field(field)),
+                None => None,
+            }
         }
         Answer::AsmRefused { kind, line } => {
             let text = loaded(rt, file_named(words, "source")?, MAX_SOURCE)?;
