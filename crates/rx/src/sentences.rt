@@ -13,6 +13,18 @@ use run_history::Answer;
 use rx_serve::MAX_RECORD;
 use std::alloc::AllocError;
 
+// The commands in short.
+const COMMANDS: &str = "  run PROGRAM                          serves the events of standard input
+  serve PROGRAM PORT CONNS             serves the clients of a port
+  diagnose PROGRAM                     is a run that says what each failure was
+  resume PROGRAM RECORD REPORT COUNTS  goes on for a host that was killed
+  standby PROGRAM RECORD COUNTS        takes over from a host that stopped
+  replay, convert                      do a recorded run again
+  asm, drill                           assemble a program; serve a generated session
+  frame, unframe                       turn lines into frames, and frames into lines
+rx help tells all of it, and rx help COMMAND one command.
+";
+
 /// Tells that memory ran out.
 pub fn tell_memory(rt: &HostRuntime) {
     let _ = eprintln!(rt; "rx: memory ran out");
@@ -43,7 +55,9 @@ fn tell_words(rt: &HostRuntime, words: &[String]) {
         Err(_) => tell_memory(rt),
     }
     match words {
-        [] => tell_usage(rt, ""),
+        [] => {
+            let _ = eprint!(rt; "{COMMANDS}");
+        }
         [command, ..] => tell_usage(rt, command.as_str()),
     }
 }

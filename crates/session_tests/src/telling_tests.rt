@@ -79,7 +79,7 @@ fn recoveries_are_told(rt: HostRuntime) -> Result<(), Fail> {
     let line = recovery_line(alloc, Some(50_602), Some(412), Some(&seen), &lives)?;
     assert_eq!(rt;
         line.as_str(),
-        "rx: 14:03:22 recovered in 0.412 ms: point 37 (message 4 of connection 5, 12 bytes): BadAccess at 000104ec; try 2, checkpoint 32, env zero\n"
+        "rx: 14:03:22 recovered in 0.412 ms: point 37 (message 4 of connection 5, 12 bytes): BadAccess at 000104ec; try 1, checkpoint 32, env zero\n"
     );
     let fails = episode(alloc, Tried::Contradicts)?;
     let bare = recovery_line(alloc, None, None, None, &fails)?;

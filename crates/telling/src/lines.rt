@@ -79,13 +79,14 @@ fn taken_text(alloc: Global, seen: Option<&Sighting>) -> Result<String, AllocErr
     format!(in alloc; " ({text})")
 }
 
-// What the last trial came to.
+// What the last of so many trials came to. Their numbers are those of the report, from 0.
 fn trial_text(alloc: Global, count: u64, last: Option<&Try>) -> Result<String, AllocError> {
     match last {
         Some(t) if t.tried.survives() => {
+            let number = count.saturating_sub(1);
             let checkpoint = t.checkpoint;
             let env = env_word(t.env);
-            format!(in alloc; "try {count}, checkpoint {checkpoint}, env {env}")
+            format!(in alloc; "try {number}, checkpoint {checkpoint}, env {env}")
         }
         _ => {
             let tries = match count {
