@@ -3,7 +3,7 @@
 
 Each row of crates/hostile_tests/src/fault_tests.rt and of standby_tests.rt and resume_tests.rt in crates/program_tests/src is run by the second engine:
 the same program, input, record, report, counts and failing calls. Answer, counts, output and files have to be those of the row; of a port, what each client was given. An edited program is
-read by the second reader. The second engine knows no crowd and no words: rows of several clients at once, and of refused words, are passed over.
+read by the second reader. The second engine knows one client at a time and no words: rows of several clients at once, and of refused words, are passed over.
 
 usage: compare_rows.py
 """
@@ -38,6 +38,12 @@ def bytes_of(text):
     return b"".join(bytes.fromhex(word[0]) * int(word[1] if len(word) > 1 else 1) for word in words)
 
 
+def with_all(rows):
+    """The rows of a block, with the cells of a line for all of them in front of their own."""
+    cells = "".join(row[len("all:"):] + "; " for row in rows if row.startswith("all:"))
+    return [cells + row for row in rows if not row.startswith(("#", "all:"))]
+
+
 def blocks_in(path):
     """The program's line and the rows of each block of a file."""
     with open(path, encoding="utf-8") as file:
@@ -45,7 +51,7 @@ def blocks_in(path):
     for rows in re.findall(r'r#"(.*?)"#', text, re.DOTALL):
         for block in rows.split("\n\n"):
             program, *rows = [line.strip() for line in block.strip().split("\n")]
-            yield program, [row for row in rows if not row.startswith("#")]
+            yield program, with_all(rows)
 
 
 def each_of(row):
