@@ -47,7 +47,7 @@ RUN = ["run", "p", "--record", "r", "--report", "t"]
 LONG = b"x" * 39 + b"\n"
 
 CHOICE = re.compile(r"tail Choice \{ ask: (\w+) \{ (?:(?:count|old): (\d+), )?size: (\d+) \}, at: (\d+), zeroed: (true|false) \}")
-GAVE = re.compile(r"call (?:(Accepted)|Gave \{ bytes: Bytes \{ bytes: \[([\d, ]*)\] \}, .*)")
+GAVE = re.compile(r"call (?:Accepted\((\d+)\)|Gave \{ conn: (\d+), bytes: Listed \{ values: \[([\d, ]*)\] \}, .*)")
 CALLS = {"Malloc": MALLOC, "Calloc": CALLOC, "Realloc": REALLOC}
 
 # A command: its words, the files and the standard input that it is run over, what it writes to standard output and to files, and how it ends. Of a session
@@ -134,14 +134,14 @@ def choice_of(line):
 
 
 def given_in(lines):
-    """What each client was given, by the calls on the listener."""
+    """What each client was given, by the calls on the port."""
     given = {}
     for line in lines:
         found = GAVE.fullmatch(line)
         if found and found[1]:
-            given[len(given)] = b""
+            given[int(found[1])] = b""
         elif found:
-            given[len(given) - 1] += bytes(int(byte) for byte in found[2].split(",") if byte)
+            given[int(found[2])] += bytes(int(byte) for byte in found[3].split(",") if byte)
     return given
 
 

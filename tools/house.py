@@ -22,7 +22,7 @@ import sys
 
 TOP = os.path.dirname(os.path.dirname(os.path.abspath(__file__)))
 
-TOWER = ["session_history", "link_gate", "session_notes", "trials", "recovery", "session_state", "rx_engine", "over_trunk"]
+TOWER = ["session_history", "link_gate", "session_notes", "trials", "recovery", "session_state", "rx_engine", "routes"]
 
 MOST_CLAUSES = 8  # of a public function
 

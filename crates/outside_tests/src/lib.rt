@@ -6,10 +6,8 @@ mod answering;
 #[cfg(test)]
 mod clients;
 #[cfg(test)]
-mod crowd_tests;
-#[cfg(test)]
-mod listener_tests;
+mod port_tests;
 #[cfg(test)]
 mod rx_io_tests;
 #[cfg(test)]
-mod tcp_crowd_tests;
+mod tcp_port_tests;

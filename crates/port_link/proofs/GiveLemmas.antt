@@ -1,304 +1,384 @@
--- Gives of one piece, call by call, and what a link over the listener tells of them.
+-- Gives of one piece, call by call, and what a link over the port tells of them.
 use Rattle.std.proofs.Math.Seq.{take-append_seam}
-use Rattle.port_link.proofs.Terms.{Bool, Err, List, None, Ok, OnOk, Option, Result, Some, [], ap, append-nil, append_assoc, arith, drop, false, length, nat_lt, refl, subst, sym, take, true, ℕ, ◌++◌, ◌-◌, ◌<◌, ◌∙◌, ◌∷◌, ◌≡◌, ◌≢◌, ◌≤◌, le-ltb, lt-ltb, length-append, length-drop, length-take-le, take-append-drop, take_all, none-some, same_Some, IfErr, Prefix, ListenEntry, Logs, Entry, Given, All, Gone, LinkFault, Memory, ReadFault, Refused, WriteFault, tells_more, Gives, Tells, cut_entries, Place, Stage, Broken, Dropping, Ended, Open, Waiting, broken, is_present, shown, stage_behind, AreCalls, IsCall, Port, after_call, gives_all, gives_gone, gives_part, port_after, port_of, with_part, Agrees, IsAt, IsWhole, Stands, link_journal, told_at, with_close, with_ends, WentOn, GivesPiece, GivesTo, Leads, are_calls-append, calls_same, port_after-append, port_of-append}
+use Rattle.port_link.proofs.Terms.{Bool, Err, List, None, Ok, OnOk, Option, Result, Some, [], ap, append-nil, append_assoc, arith, drop, false, inl, inr, length, nat_lt, refl, subst, sym, take, true, ℕ, ◌++◌, ◌-◌, ◌<◌, ◌∙◌, ◌∷◌, ◌≡◌, ◌≢◌, ◌≤◌, le-ltb, lt-ltb, length-append, length-drop, length-set, length-take-le, set-get_or, take-append-drop, take_all, none-some, same_Some, IfErr, slice_set, Prefix, Entry, Given, All, Gone, LinkFault, Memory, ReadFault, Refused, WriteFault, tells_more, Gives, Tells, cut_entries, PortEntry, Logs, Closing, Place, PortLimits, Stage, Broken, Closed, Dropped, Ended, Open, Unopened, broken, is_done, is_given, is_present, phase_of, shown, stage_behind, stage_in, AreCalls, GoesOn, IsCall, Served, after_call, gives_all, gives_gone, gives_part, served_after, served_of, with_part, with_stage, Agrees, IsAt, IsClosing, IsWhole, Stands, link_journal, stage_at, told_at, with_ends, WentOn, GivesPiece, GivesTo, Leads, given_place, are_calls-append, calls_same, served_after-append, served_of-append}
 use Rattle.port_link.proofs.CallLemmas.{logs_same, tells_none}
-use Rattle.port_link.proofs.JournalLemmas.{no_ends, not_waiting, same_journal}
+use Rattle.port_link.proofs.JournalLemmas.{same_journal}
+use Rattle.port_link.proofs.PlaceLemmas.{Closes, closes_from, closes_to, number_cases, shown_set, keeps_set}
+use Rattle.port_link.proofs.StepLemmas.{at_here, elsewhere, not_ended, present_less}
+use Rattle.port_link.specs.declared.place.Closing.TheVariants as closing
+use Rattle.ports.specs.declared.port_calls.PortEntry.TheVariants as made
+use Rattle.ports.specs.declared.port_calls.FailedCall.TheVariants as call
 use Rattle.links.specs.declared.journal.Entry.TheVariants as entry
-use Rattle.rx_io.specs.declared.listener_calls.ListenCall.TheVariants as call
-use Rattle.rx_io.specs.declared.listener_calls.ListenEntry.TheVariants as listen
 
 -- some first bytes of a piece went out, and more are to follow
-pub record Giving (old now : Option (List ListenEntry)) (bytes rest : List ℕ) : Type 0 where
+pub record Giving (conn : ℕ) (old now : Option (List PortEntry)) (bytes rest : List ℕ) : Type 0 where
   pub front : List ℕ
   pub whole : front ++ rest ≡ bytes
   pub some : 0 < length rest
-  pub gave : Leads old now (gives_part front)
+  pub gave : Leads conn old now (gives_part conn front)
 
-leads_none : (told : Option (List ListenEntry)) → Leads told told (gives_part [])
-unfolding port_after AreCalls
-leads_none None = tt
-leads_none (Some calls) = record {
+leads_none : (conn : ℕ) (told : Option (List PortEntry)) → Leads conn told told (gives_part conn [])
+unfolding served_after AreCalls
+leads_none conn None = tt
+leads_none conn (Some calls) = record {
   calls = [];
   grew = sym (append-nil calls);
-  are = λ conns port there. tt;
-  lead = λ port. ap (λ (part : List ℕ). let made : Port = record port { part = part } in made) (sym (append-nil port.part));
+  are = λ limits served there none. tt;
+  lead = λ served. refl;
 }
 
-leads_more : (old mid new : Option (List ListenEntry)) (front : List ℕ) (call : ListenEntry) (leads : Port → Port) → Leads old mid (gives_part front) → Logs mid new (call ∷ [])
-    → ((conns : ℕ) (port : Port) → is_present port.stage ≡ true → IsCall conns port call) → ((port : Port) → after_call (gives_part front port) call ≡ leads port) → Leads old new leads
-unfolding port_after AreCalls
-leads_more None None None front call leads gave logs is lead = tt
-leads_more None None (Some new) front call leads gave logs is lead = absurd logs
-leads_more None (Some mid) new front call leads gave logs is lead = absurd gave
-leads_more (Some old) None new front call leads gave logs is lead = absurd gave
-leads_more (Some old) (Some mid) None front call leads gave logs is lead = absurd logs
-leads_more (Some old) (Some mid) (Some new) front call leads gave logs is lead = record {
+part_stages : (conn : ℕ) (front : List ℕ) (served : Served) → (gives_part conn front served).stages ≡ served.stages
+part_stages conn [] served = refl
+part_stages conn (byte ∷ front) served = refl
+
+pub goes_same : (part : List ℕ) (conn : ℕ) → GoesOn part conn conn
+goes_same [] conn = tt
+goes_same (byte ∷ part) conn = refl
+
+goes_behind : (conn : ℕ) (front : List ℕ) (served : Served) → served.part ≡ [] → GoesOn (gives_part conn front served).part (gives_part conn front served).to conn
+goes_behind conn [] served none = subst (λ (part : List ℕ). GoesOn part served.to conn) (sym none) tt
+goes_behind conn (byte ∷ front) served none = goes_same (served.part ++ byte ∷ front) conn
+
+leads_more : (conn : ℕ) (old mid new : Option (List PortEntry)) (front : List ℕ) (call : PortEntry) (leads : Served → Served) → Leads conn old mid (gives_part conn front) → Logs mid new (call ∷ [])
+    → ((limits : PortLimits) (served : Served) → is_present (served.stages conn) ≡ true → GoesOn served.part served.to conn → IsCall limits served call) → ((served : Served) → after_call (gives_part conn front served) call ≡ leads served) → Leads conn old new leads
+unfolding served_after AreCalls
+leads_more conn None None None front call leads gave logs is lead = tt
+leads_more conn None None (Some new) front call leads gave logs is lead = absurd logs
+leads_more conn None (Some mid) new front call leads gave logs is lead = absurd gave
+leads_more conn (Some old) None new front call leads gave logs is lead = absurd gave
+leads_more conn (Some old) (Some mid) None front call leads gave logs is lead = absurd logs
+leads_more conn (Some old) (Some mid) (Some new) front call leads gave logs is lead = record {
   calls = gave.calls ++ call ∷ [];
   grew = logs ∙ ap (λ l. l ++ call ∷ []) gave.grew ∙ append_assoc old gave.calls (call ∷ []);
-  are = λ conns port there.
-      let behind : is_present (port_after port gave.calls).stage ≡ true = ap (λ (made : Port). is_present made.stage) (gave.lead port) ∙ there in
-      are_calls-append conns port gave.calls (call ∷ []) (gave.are conns port there) (is conns (port_after port gave.calls) behind, tt);
-  lead = λ port. port_after-append port gave.calls (call ∷ []) ∙ ap (λ (made : Port). after_call made call) (gave.lead port) ∙ lead port;
+  are = λ limits served there none.
+      let behind : is_present ((served_after served gave.calls).stages conn) ≡ true =
+      ap (λ (s : Served). is_present (s.stages conn)) (gave.lead served) ∙ ap (λ (f : ℕ → Stage). is_present (f conn)) (part_stages conn front served) ∙ there in
+      let goes : GoesOn (served_after served gave.calls).part (served_after served gave.calls).to conn =
+      subst (λ (s : Served). GoesOn s.part s.to conn) (sym (gave.lead served)) (goes_behind conn front served none) in
+      are_calls-append limits served gave.calls (call ∷ []) (gave.are limits served there none) (is limits (served_after served gave.calls) behind goes, tt);
+  lead = λ served. served_after-append served gave.calls (call ∷ []) ∙ ap (λ (s : Served). after_call s call) (gave.lead served) ∙ lead served;
 }
 
-leads_same : (old mid new : Option (List ListenEntry)) (leads : Port → Port) → Leads old mid leads → Logs mid new [] → Leads old new leads
-leads_same None None None leads gave logs = tt
-leads_same None None (Some new) leads gave logs = absurd logs
-leads_same None (Some mid) new leads gave logs = absurd gave
-leads_same (Some old) None new leads gave logs = absurd gave
-leads_same (Some old) (Some mid) None leads gave logs = absurd logs
-leads_same (Some old) (Some mid) (Some new) leads gave logs =
+leads_same : (conn : ℕ) (old mid new : Option (List PortEntry)) (leads : Served → Served) → Leads conn old mid leads → Logs mid new [] → Leads conn old new leads
+leads_same conn None None None leads gave logs = tt
+leads_same conn None None (Some new) leads gave logs = absurd logs
+leads_same conn None (Some mid) new leads gave logs = absurd gave
+leads_same conn (Some old) None new leads gave logs = absurd gave
+leads_same conn (Some old) (Some mid) None leads gave logs = absurd logs
+leads_same conn (Some old) (Some mid) (Some new) leads gave logs =
     record { calls = gave.calls; grew = logs ∙ append-nil mid ∙ gave.grew; are = gave.are; lead = gave.lead }
 
-gave_part : (front piece : List ℕ) (offered : ℕ) (port : Port) → nat_lt (length piece) offered ≡ true → after_call (gives_part front port) (listen.Gave piece offered) ≡ gives_part (front ++ piece) port
+gave_part : (conn : ℕ) (front piece : List ℕ) (offered : ℕ) (served : Served) → 0 < length piece → nat_lt (length piece) offered ≡ true → after_call (gives_part conn front served) (made.Gave conn piece offered) ≡ gives_part conn (front ++ piece) served
 unfolding after_call
-gave_part front piece offered port less = rw less (ap (λ (part : List ℕ). let made : Port = record port { part = part } in made) (append_assoc port.part front piece))
+gave_part conn front [] offered served some less = absurd (omega arith)
+gave_part conn [] (byte ∷ piece) offered served some less = rw less refl
+gave_part conn (first ∷ front) (byte ∷ piece) offered served some less =
+    rw less (ap (λ (part : List ℕ). let there : Served = record served { to = conn; part = part } in there) (append_assoc served.part (first ∷ front) (byte ∷ piece)))
 
-gave_all : (front piece : List ℕ) (offered : ℕ) (port : Port) → nat_lt (length piece) offered ≡ false → after_call (gives_part front port) (listen.Gave piece offered) ≡ gives_all (front ++ piece) port
+gave_all : (conn : ℕ) (front piece : List ℕ) (offered : ℕ) (served : Served) → nat_lt (length piece) offered ≡ false → after_call (gives_part conn front served) (made.Gave conn piece offered) ≡ gives_all conn (front ++ piece) served
 unfolding after_call
-gave_all front piece offered port less =
-    rw less (ap (λ (bytes : List ℕ). let made : Port = record port { entries = port.entries ++ entry.Gave port.conn bytes false ∷ []; part = [] } in made) (append_assoc port.part front piece))
+gave_all conn [] piece offered served less = rw less refl
+gave_all conn (first ∷ front) piece offered served less =
+    rw less (ap (λ (bytes : List ℕ). let there : Served = record served { entries = served.entries ++ entry.Gave conn bytes false ∷ []; to = conn; part = [] } in there) (append_assoc served.part (first ∷ front) piece))
 
-gave_gone : (front : List ℕ) (port : Port) → after_call (gives_part front port) (listen.Failed call.Give) ≡ gives_gone front port
+gave_gone : (conn : ℕ) (front : List ℕ) (served : Served) → after_call (gives_part conn front served) (made.Failed (call.Give conn)) ≡ gives_gone conn front served
 unfolding after_call
-gave_gone front port =
-    ap (λ (bytes : List ℕ). let made : Port = record { conn = port.conn; stage = broken port.stage; entries = port.entries ++ entry.Gave port.conn bytes true ∷ []; part = [] } in made) (append-nil (port.part ++ front))
+gave_gone conn [] served = refl
+gave_gone conn (first ∷ front) served =
+    ap (λ (bytes : List ℕ). let there : Served = record served { stages = with_stage conn (broken (served.stages conn)) served.stages; entries = served.entries ++ entry.Gave conn bytes true ∷ []; to = conn; part = [] } in there)
+    (append-nil (served.part ++ first ∷ front))
 
 -- at the start
-pub giving_start : (told : Option (List ListenEntry)) (bytes : List ℕ) → 0 < length bytes → Giving told told bytes bytes
-giving_start told bytes some = record { front = []; whole = refl; some = some; gave = leads_none told }
+pub giving_start : (conn : ℕ) (told : Option (List PortEntry)) (bytes : List ℕ) → 0 < length bytes → Giving conn told told bytes bytes
+giving_start conn told bytes some = record { front = []; whole = refl; some = some; gave = leads_none conn told }
 
 take_some : (n : ℕ) (rest : List ℕ) → 0 < n → n ≤ length rest → 0 < length (take n rest)
 take_some n rest some within = let size = length-take-le n rest within in omega arith
 
 -- one call took some bytes, and not all
-pub giving_on : (old mid new : Option (List ListenEntry)) (bytes rest : List ℕ) (n : ℕ) → Giving old mid bytes rest → Logs mid new (listen.Gave (take n rest) (length rest) ∷ []) → 0 < n → n < length rest
-    → Giving old new bytes (drop n rest)
-giving_on old mid new bytes rest n giving logs some less = record {
+pub giving_on : (conn : ℕ) (old mid new : Option (List PortEntry)) (bytes rest : List ℕ) (n : ℕ) → Giving conn old mid bytes rest → Logs mid new (made.Gave conn (take n rest) (length rest) ∷ []) → 0 < n → n < length rest
+    → Giving conn old new bytes (drop n rest)
+giving_on conn old mid new bytes rest n giving logs some less = record {
   front = giving.front ++ take n rest;
   whole = append_assoc giving.front (take n rest) (drop n rest) ∙ ap (λ l. giving.front ++ l) (take-append-drop n rest) ∙ giving.whole;
   some = let size = length-drop n rest in omega arith;
-  gave = leads_more old mid new giving.front (listen.Gave (take n rest) (length rest)) (gives_part (giving.front ++ take n rest)) giving.gave logs
-      (λ conns port there. (there, take_some n rest some (omega arith)))
-      (λ port. gave_part giving.front (take n rest) (length rest) port (let size = length-take-le n rest (omega arith) in lt-ltb (length (take n rest)) (length rest) (omega arith)));
+  gave = leads_more conn old mid new giving.front (made.Gave conn (take n rest) (length rest)) (gives_part conn (giving.front ++ take n rest)) giving.gave logs
+      (λ limits served there goes. (there, take_some n rest some (omega arith), goes))
+      (λ served. gave_part conn giving.front (take n rest) (length rest) served (take_some n rest some (omega arith)) (let size = length-take-le n rest (omega arith) in lt-ltb (length (take n rest)) (length rest) (omega arith)));
 }
 
 -- one took all
-pub gave_rest : (old mid new : Option (List ListenEntry)) (bytes rest : List ℕ) (n : ℕ) → Giving old mid bytes rest → Logs mid new (listen.Gave (take n rest) (length rest) ∷ []) → n ≡ length rest
-    → Leads old new (gives_all bytes)
-gave_rest old mid new bytes rest n giving logs all =
+pub gave_rest : (conn : ℕ) (old mid new : Option (List PortEntry)) (bytes rest : List ℕ) (n : ℕ) → Giving conn old mid bytes rest → Logs mid new (made.Gave conn (take n rest) (length rest) ∷ []) → n ≡ length rest
+    → Leads conn old new (gives_all conn bytes)
+gave_rest conn old mid new bytes rest n giving logs all =
     let same : take n rest ≡ rest = take_all n rest (omega arith) in
-    subst (λ (l : List ℕ). Leads old new (gives_all l)) giving.whole
-    (leads_more old mid new giving.front (listen.Gave rest (length rest)) (gives_all (giving.front ++ rest)) giving.gave (subst (λ (l : List ℕ). Logs mid new (listen.Gave l (length rest) ∷ [])) same logs)
-    (λ conns port there. (there, giving.some)) (λ port. gave_all giving.front rest (length rest) port (le-ltb (length rest) (length rest) (omega arith))))
+    subst (λ (l : List ℕ). Leads conn old new (gives_all conn l)) giving.whole
+    (leads_more conn old mid new giving.front (made.Gave conn rest (length rest)) (gives_all conn (giving.front ++ rest)) giving.gave (subst (λ (l : List ℕ). Logs mid new (made.Gave conn l (length rest) ∷ [])) same logs)
+    (λ limits served there goes. (there, giving.some, goes)) (λ served. gave_all conn giving.front rest (length rest) served (le-ltb (length rest) (length rest) (omega arith))))
 
 -- one failed: what went out before it did
-pub gave_cut : (old mid new : Option (List ListenEntry)) (bytes rest : List ℕ) → Giving old mid bytes rest → Logs mid new (listen.Failed call.Give ∷ []) → Leads old new (gives_gone (take (length bytes - length rest) bytes))
-gave_cut old mid new bytes rest giving logs =
+pub gave_cut : (conn : ℕ) (old mid new : Option (List PortEntry)) (bytes rest : List ℕ) → Giving conn old mid bytes rest → Logs mid new (made.Failed (call.Give conn) ∷ []) → Leads conn old new (gives_gone conn (take (length bytes - length rest) bytes))
+gave_cut conn old mid new bytes rest giving logs =
     let sizes : length giving.front ≡ length bytes - length rest = let joined = ap length giving.whole in let sum = length-append giving.front rest in omega arith in
     let front : take (length bytes - length rest) bytes ≡ giving.front =
     ap (λ k. take k bytes) (sym sizes) ∙ ap (take (length giving.front)) (sym giving.whole) ∙ take-append_seam giving.front rest in
-    subst (λ (l : List ℕ). Leads old new (gives_gone l)) (sym front)
-    (leads_more old mid new giving.front (listen.Failed call.Give) (gives_gone giving.front) giving.gave logs (λ conns port there. there) (gave_gone giving.front))
+    subst (λ (l : List ℕ). Leads conn old new (gives_gone conn l)) (sym front)
+    (leads_more conn old mid new giving.front (made.Failed (call.Give conn)) (gives_gone conn giving.front) giving.gave logs (λ limits served there goes. (there, goes)) (gave_gone conn giving.front))
 
 -- for one memory ran out
-pub gave_some : (old mid new : Option (List ListenEntry)) (bytes rest : List ℕ) → Giving old mid bytes rest → Logs mid new [] → (front : List ℕ) × Prefix front bytes × Leads old new (gives_part front)
-gave_some old mid new bytes rest giving logs = (giving.front, (rest, giving.whole), leads_same old mid new (gives_part giving.front) giving.gave logs)
+pub gave_some : (conn : ℕ) (old mid new : Option (List PortEntry)) (bytes rest : List ℕ) → Giving conn old mid bytes rest → Logs mid new [] → (front : List ℕ) × Prefix front bytes × Leads conn old new (gives_part conn front)
+gave_some conn old mid new bytes rest giving logs = (giving.front, (rest, giving.whole), leads_same conn old mid new (gives_part conn giving.front) giving.gave logs)
 
--- the stage that calls show
-shown_present : (stage : Stage) → is_present (shown stage) ≡ is_present stage
-shown_present Waiting = refl
-shown_present Open = refl
-shown_present Ended = refl
-shown_present Broken = refl
-shown_present Dropping = refl
-
+-- the stage that a give leaves
 broken_shown : (stage : Stage) → broken (shown stage) ≡ shown (broken stage)
-broken_shown Waiting = refl
+broken_shown Unopened = refl
 broken_shown Open = refl
 broken_shown Ended = refl
 broken_shown Broken = refl
-broken_shown Dropping = refl
+broken_shown Dropped = refl
+broken_shown Closed = refl
 
 broken_present : (stage : Stage) → is_present (broken stage) ≡ is_present stage
-broken_present Waiting = refl
+broken_present Unopened = refl
 broken_present Open = refl
 broken_present Ended = refl
 broken_present Broken = refl
-broken_present Dropping = refl
+broken_present Dropped = refl
+broken_present Closed = refl
 
--- whether the calls tell all that was answered of a connection
-abbrev pub is_told : Stage → Bool
-is_told Waiting = true
-is_told Open = true
-is_told Ended = true
-is_told Broken = true
-is_told Dropping = false
+broken_given : (stage : Stage) → is_given (broken stage) ≡ is_given stage
+broken_given Unopened = refl
+broken_given Open = refl
+broken_given Ended = refl
+broken_given Broken = refl
+broken_given Dropped = refl
+broken_given Closed = refl
 
-broken_told : (stage : Stage) → is_told (broken stage) ≡ is_told stage
-broken_told Waiting = refl
-broken_told Open = refl
-broken_told Ended = refl
-broken_told Broken = refl
-broken_told Dropping = refl
+broken_done : (stage : Stage) → is_done (broken stage) ≡ is_done stage
+broken_done Unopened = refl
+broken_done Open = refl
+broken_done Ended = refl
+broken_done Broken = refl
+broken_done Dropped = refl
+broken_done Closed = refl
 
-told_close : (stage : Stage) (conn : ℕ) (entries : List Entry) → is_told stage ≡ true → with_close stage conn entries ≡ entries
-told_close Waiting conn entries is = refl
-told_close Open conn entries is = refl
-told_close Ended conn entries is = refl
-told_close Broken conn entries is = refl
-told_close Dropping conn entries is = cc
+broken_phase : (stage : Stage) → phase_of (broken stage) ≡ phase_of stage
+broken_phase Unopened = refl
+broken_phase Open = refl
+broken_phase Ended = refl
+broken_phase Broken = refl
+broken_phase Dropped = refl
+broken_phase Closed = refl
 
-given_in : (stage later : Stage) (ends conn of : ℕ) (entries : List Entry) (part bytes : List ℕ) (gone : Bool) → is_told stage ≡ true → is_told later ≡ true → ends ≡ 0 → conn ≡ of → part ≡ []
-    → with_ends ends (with_close later conn (entries ++ entry.Gave conn (part ++ bytes) gone ∷ [])) ≡ with_ends ends (with_close stage conn (with_part entries conn part)) ++ entry.Gave of bytes gone ∷ []
-given_in stage later ends conn of entries part bytes gone is_one is_other none is whole =
-    rw (none, is, whole) (told_close later of (entries ++ entry.Gave of bytes gone ∷ []) is_other ∙ ap (λ (l : List Entry). l ++ entry.Gave of bytes gone ∷ []) (sym (told_close stage of entries is_one)))
+-- what isn't changed by breaking isn't changed by a give
+pub behind_keeps : {Y : Type 0} (f : Stage → Y) → ((stage : Stage) → f (broken stage) ≡ f stage) → (stage : Stage) (result : Result Given LinkFault) → f (stage_behind stage result) ≡ f stage
+behind_keeps f same stage (Ok All) = refl
+behind_keeps f same stage (Ok (Gone count)) = same stage
+behind_keeps f same stage (Err fault) = refl
 
-cut_in : (conn : ℕ) (entries : List Entry) (front : List ℕ) → with_part entries conn front ≡ entries ++ cut_entries conn front
-cut_in conn entries [] = sym (append-nil entries)
-cut_in conn entries (byte ∷ front) = refl
+pub given_phase : (stage : Stage) (result : Result Given LinkFault) → phase_of (stage_behind stage result) ≡ phase_of stage
+given_phase stage result = behind_keeps phase_of broken_phase stage result
 
-given_part_in : (stage : Stage) (ends conn of : ℕ) (entries : List Entry) (part front : List ℕ) → is_told stage ≡ true → ends ≡ 0 → conn ≡ of → part ≡ []
-    → with_ends ends (with_close stage conn (with_part entries conn (part ++ front))) ≡ with_ends ends (with_close stage conn (with_part entries conn part)) ++ cut_entries of front
-given_part_in stage ends conn of entries part front is_one none is whole =
-    rw (none, is, whole) (told_close stage of (with_part entries of front) is_one ∙ cut_in of entries front ∙ ap (λ (l : List Entry). l ++ cut_entries of front) (sym (told_close stage of entries is_one)))
+pub given_gives : (stage : Stage) (result : Result Given LinkFault) → is_given (stage_behind stage result) ≡ is_given stage
+given_gives stage result = behind_keeps is_given broken_given stage result
 
-leads_tell : (old new : Option (List ListenEntry)) (leads : Port → Port) (place later : Place) (more : List Entry) → Leads old new leads
-    → ((calls : List ListenEntry) → old ≡ Some calls → link_journal later (leads (port_of calls)) ≡ link_journal place (port_of calls) ++ more) → Tells (told_at old place) (told_at new later) more
+behind_fixed : (stage : Stage) (result : Result Given LinkFault) → broken stage ≡ stage → stage_behind stage result ≡ stage
+behind_fixed stage (Ok All) is = refl
+behind_fixed stage (Ok (Gone count)) is = is
+behind_fixed stage (Err fault) is = refl
+
+-- a connection whose close was answered keeps its stage
+stays_in : (of : ℕ) (stages : List Stage) (conn : ℕ) (result : Result Given LinkFault) → conn < length stages → (stage : Stage) → broken stage ≡ stage → stage_in stages of ≡ stage
+    → stage_in (slice_set stages conn (stage_behind (stage_in stages conn) result)) of ≡ stage
+stays_in of stages conn result less stage kept there = elim (number_cases of conn) [
+  | inl same ↦
+      let here : stage_in stages conn ≡ stage = ap (λ (n : ℕ). stage_in stages n) (sym same) ∙ there in
+      ap (λ (n : ℕ). stage_in (slice_set stages conn (stage_behind (stage_in stages conn) result)) n) same ∙ at_here stages conn (stage_behind (stage_in stages conn) result) less
+      ∙ behind_fixed (stage_in stages conn) result (ap broken here ∙ kept ∙ sym here) ∙ here
+  | inr differ ↦ elsewhere stages conn of (stage_behind (stage_in stages conn) result) less differ ∙ there
+]
+
+-- which close was answered last is the same
+kept_by : (was : Closing) (stages : List Stage) (conn : ℕ) (result : Result Given LinkFault) → conn < length stages → Closes was stages → Closes was (slice_set stages conn (stage_behind (stage_in stages conn) result))
+kept_by closing.Nothing stages conn result less there = λ other. keeps_set is_done stages conn _ less (behind_keeps is_done broken_done (stage_in stages conn) result) other ∙ there other
+kept_by (closing.Due of) stages conn result less there = (stays_in of stages conn result less Ended refl there.0, λ other differ. keeps_set is_done stages conn _ less (behind_keeps is_done broken_done (stage_in stages conn) result) other ∙ there.1 other differ)
+kept_by (closing.Made of) stages conn result less there = (stays_in of stages conn result less Dropped refl there.0, λ other differ. keeps_set is_done stages conn _ less (behind_keeps is_done broken_done (stage_in stages conn) result) other ∙ there.1 other differ)
+
+closing_kept : (was : Closing) (stages : List Stage) (conn : ℕ) (result : Result Given LinkFault) → conn < length stages → IsClosing was stages → IsClosing was (slice_set stages conn (stage_behind (stage_in stages conn) result))
+closing_kept was stages conn result less there =
+    closes_to was (slice_set stages conn (stage_behind (stage_in stages conn) result)) (kept_by was stages conn result less (closes_from was stages there))
+
+given_in : (ends conn to : ℕ) (entries : List Entry) (part bytes : List ℕ) (gone : Bool) → ends ≡ 0 → part ≡ []
+    → with_ends ends (entries ++ entry.Gave conn (part ++ bytes) gone ∷ []) ≡ with_ends ends (with_part entries to part) ++ entry.Gave conn bytes gone ∷ []
+given_in ends conn to entries part bytes gone none whole = rw (none, whole) refl
+
+part_in : (ends conn to : ℕ) (entries : List Entry) (part : List ℕ) (byte : ℕ) (bytes : List ℕ) → ends ≡ 0 → part ≡ []
+    → with_ends ends (with_part entries conn (part ++ byte ∷ bytes)) ≡ with_ends ends (with_part entries to part) ++ entry.Gave conn (byte ∷ bytes) false ∷ []
+part_in ends conn to entries part byte bytes none whole = rw (none, whole) refl
+
+given_part_in : (place : Place) (served : Served) (conn : ℕ) (front : List ℕ) → place.ends ≡ 0 → served.part ≡ [] → link_journal place (gives_part conn front served) ≡ link_journal place served ++ cut_entries conn front
+unfolding link_journal
+given_part_in place served conn [] none whole = sym (append-nil _)
+given_part_in place served conn (byte ∷ front) none whole = part_in place.ends conn served.to served.entries served.part byte front none whole
+
+leads_tell : (conn : ℕ) (old new : Option (List PortEntry)) (leads : Served → Served) (place later : Place) (more : List Entry) → Leads conn old new leads
+    → ((calls : List PortEntry) → old ≡ Some calls → link_journal later (leads (served_of calls)) ≡ link_journal place (served_of calls) ++ more) → Tells (told_at old place) (told_at new later) more
 unfolding told_at
-leads_tell None None leads place later more gave journal = record { events = tt; pieces = tt; journal = tt }
-leads_tell None (Some new) leads place later more gave journal = absurd gave
-leads_tell (Some old) None leads place later more gave journal = absurd gave
-leads_tell (Some old) (Some new) leads place later more gave journal =
-    tells_more (link_journal place (port_of old)) (link_journal later (port_of new)) more
-    (ap (link_journal later) (ap port_of gave.grew ∙ port_of-append old gave.calls ∙ gave.lead (port_of old)) ∙ journal old refl)
+leads_tell conn None None leads place later more gave journal = record { events = tt; pieces = tt; journal = tt }
+leads_tell conn None (Some new) leads place later more gave journal = absurd gave
+leads_tell conn (Some old) None leads place later more gave journal = absurd gave
+leads_tell conn (Some old) (Some new) leads place later more gave journal =
+    tells_more (link_journal place (served_of old)) (link_journal later (served_of new)) more
+    (ap (link_journal later) (ap served_of gave.grew ∙ served_of-append old gave.calls ∙ gave.lead (served_of old)) ∙ journal old refl)
 
-leads_agree : (old new : Option (List ListenEntry)) (leads : Port → Port) (later : Place) → Leads old new leads → ((calls : List ListenEntry) → old ≡ Some calls → IsAt later (leads (port_of calls))) → Agrees new later
-leads_agree old None leads later gave at = λ calls is. absurd (none-some calls is)
-leads_agree None (Some new) leads later gave at = absurd gave
-leads_agree (Some old) (Some new) leads later gave at = λ calls is.
-    subst (IsAt later) (sym (ap port_of (sym (same_Some new calls is) ∙ gave.grew) ∙ port_of-append old gave.calls ∙ gave.lead (port_of old))) (at old refl)
+leads_agree : (conn : ℕ) (old new : Option (List PortEntry)) (leads : Served → Served) (later : Place) → Leads conn old new leads → ((calls : List PortEntry) → old ≡ Some calls → IsAt later (leads (served_of calls))) → Agrees new later
+leads_agree conn old None leads later gave at = λ calls is. absurd (none-some calls is)
+leads_agree conn None (Some new) leads later gave at = absurd gave
+leads_agree conn (Some old) (Some new) leads later gave at = λ calls is.
+    subst (IsAt later) (sym (ap served_of (sym (same_Some new calls is) ∙ gave.grew) ∙ served_of-append old gave.calls ∙ gave.lead (served_of old))) (at old refl)
 
-leads_whole : (old new : Option (List ListenEntry)) (leads : Port → Port) → Leads old new leads → ((port : Port) → (leads port).part ≡ []) → IsWhole new
-leads_whole old None leads gave whole = λ calls is. absurd (none-some calls is)
-leads_whole None (Some new) leads gave whole = absurd gave
-leads_whole (Some old) (Some new) leads gave whole = λ calls is.
-    ap (λ (port : Port). port.part) (ap port_of (sym (same_Some new calls is) ∙ gave.grew) ∙ port_of-append old gave.calls ∙ gave.lead (port_of old)) ∙ whole (port_of old)
+leads_whole : (conn : ℕ) (old new : Option (List PortEntry)) (leads : Served → Served) → Leads conn old new leads → ((served : Served) → (leads served).part ≡ []) → IsWhole new
+leads_whole conn old None leads gave whole = λ calls is. absurd (none-some calls is)
+leads_whole conn None (Some new) leads gave whole = absurd gave
+leads_whole conn (Some old) (Some new) leads gave whole = λ calls is.
+    ap (λ (s : Served). s.part) (ap served_of (sym (same_Some new calls is) ∙ gave.grew) ∙ served_of-append old gave.calls ∙ gave.lead (served_of old)) ∙ whole (served_of old)
 
-leads_went : (conns : ℕ) (old new : Option (List ListenEntry)) (leads : Port → Port) (place : Place) → Leads old new leads → Agrees old place → is_present place.stage ≡ true → WentOn conns old new
-leads_went conns None None leads place gave agrees there = tt
-leads_went conns None (Some new) leads place gave agrees there = absurd gave
-leads_went conns (Some old) None leads place gave agrees there = absurd gave
-leads_went conns (Some old) (Some new) leads place gave agrees there = record {
+shown_present : (stage : Stage) → is_present stage ≡ true → is_present (shown stage) ≡ true
+shown_present Unopened there = cc
+shown_present Open there = refl
+shown_present Ended there = refl
+shown_present Broken there = refl
+shown_present Dropped there = cc
+shown_present Closed there = cc
+
+leads_went : (limits : PortLimits) (conn : ℕ) (old new : Option (List PortEntry)) (leads : Served → Served) (place : Place) → Leads conn old new leads → Agrees old place → IsWhole old → is_present (stage_at place conn) ≡ true → WentOn limits old new
+leads_went limits conn None None leads place gave agrees whole there = tt
+leads_went limits conn None (Some new) leads place gave agrees whole there = absurd gave
+leads_went limits conn (Some old) None leads place gave agrees whole there = absurd gave
+leads_went limits conn (Some old) (Some new) leads place gave agrees whole there = record {
   calls = gave.calls;
   grew = gave.grew;
-  are = gave.are conns (port_of old) (ap is_present (agrees old refl).stage ∙ shown_present place.stage ∙ there);
+  are = gave.are limits (served_of old) (ap is_present ((agrees old refl).stages conn) ∙ shown_present (stage_at place conn) there) (whole old refl);
 }
 
--- a link over the listener stands behind a give
-abbrev pub behind_give : Place → Result Given LinkFault → Place
-behind_give place result = record place { stage = stage_behind place.stage result }
+part_at : (place : Place) (conn : ℕ) (front : List ℕ) (served : Served) → IsAt place served → IsAt place (gives_part conn front served)
+part_at place conn [] served at = at
+part_at place conn (byte ∷ front) served at = record { stages = at.stages; accepted = at.accepted; closed = at.closed }
 
 -- what it tells, where it stands and what calls it made
-module _ (conns : ℕ) (old new : Option (List ListenEntry)) (place : Place) (bytes : List ℕ) where
-  pub tells_given : (result : Result Given LinkFault) → GivesTo old new bytes result → Agrees old place → is_told place.stage ≡ true → place.ends ≡ 0 → IsWhole old
-      → Gives (told_at old place) (told_at new (behind_give place result)) place.conn bytes result
+module _ (limits : PortLimits) (conn : ℕ) (old new : Option (List PortEntry)) (place : Place) (bytes : List ℕ) where
+  tells_given : (result : Result Given LinkFault) → GivesTo conn old new bytes result → place.ends ≡ 0 → IsWhole old → Gives (told_at old place) (told_at new (given_place conn result place)) conn bytes result
   unfolding link_journal
-  tells_given (Ok All) gave agrees told none whole =
-      leads_tell old new (gives_all bytes) place place (entry.Gave place.conn bytes false ∷ []) gave
-      (λ calls is. given_in place.stage place.stage place.ends (port_of calls).conn place.conn (port_of calls).entries (port_of calls).part bytes false told told none (agrees calls is).conn (whole calls is))
-  tells_given (Ok (Gone count)) gave agrees told none whole = (
+  tells_given (Ok All) gave none whole =
+      leads_tell conn old new (gives_all conn bytes) place (given_place conn (Ok All) place) (entry.Gave conn bytes false ∷ []) gave
+      (λ calls is. given_in place.ends conn (served_of calls).to (served_of calls).entries (served_of calls).part bytes false none (whole calls is))
+  tells_given (Ok (Gone count)) gave none whole = (
     gave.0,
-    leads_tell old new (gives_gone (take count bytes)) place (record place { stage = broken place.stage }) (entry.Gave place.conn (take count bytes) true ∷ []) gave.1
-        (λ calls is. given_in place.stage (broken place.stage) place.ends (port_of calls).conn place.conn (port_of calls).entries (port_of calls).part (take count bytes) true told (broken_told place.stage ∙ told) none
-        (agrees calls is).conn (whole calls is)),
+    leads_tell conn old new (gives_gone conn (take count bytes)) place (given_place conn (Ok (Gone count)) place) (entry.Gave conn (take count bytes) true ∷ []) gave.1
+        (λ calls is. given_in place.ends conn (served_of calls).to (served_of calls).entries (served_of calls).part (take count bytes) true none (whole calls is)),
   )
-  tells_given (Err Memory) gave agrees told none whole = (
+  tells_given (Err Memory) gave none whole = (
     gave.0,
     gave.1,
-    leads_tell old new (gives_part gave.0) place place (cut_entries place.conn gave.0) gave.2
-        (λ calls is. given_part_in place.stage place.ends (port_of calls).conn place.conn (port_of calls).entries (port_of calls).part gave.0 told none (agrees calls is).conn (whole calls is)),
+    leads_tell conn old new (gives_part conn gave.0) place (given_place conn (Err Memory) place) (cut_entries conn gave.0) gave.2 (λ calls is. given_part_in place (served_of calls) conn gave.0 none (whole calls is)),
   )
-  tells_given (Err ReadFault) gave agrees told none whole = absurd gave
-  tells_given (Err WriteFault) gave agrees told none whole = absurd gave
-  tells_given (Err (Refused kind offset)) gave agrees told none whole = absurd gave
+  tells_given (Err ReadFault) gave none whole = absurd gave
+  tells_given (Err WriteFault) gave none whole = absurd gave
+  tells_given (Err (Refused kind offset)) gave none whole = absurd gave
 
-  pub agrees_given : (result : Result Given LinkFault) → GivesTo old new bytes result → Agrees old place → Agrees new (behind_give place result)
-  agrees_given (Ok All) gave agrees = leads_agree old new (gives_all bytes) place gave (λ calls is. record { conn = (agrees calls is).conn; stage = (agrees calls is).stage })
-  agrees_given (Ok (Gone count)) gave agrees =
-      leads_agree old new (gives_gone (take count bytes)) (record place { stage = broken place.stage }) gave.1
-      (λ calls is. record { conn = (agrees calls is).conn; stage = ap broken (agrees calls is).stage ∙ broken_shown place.stage })
-  agrees_given (Err Memory) gave agrees = leads_agree old new (gives_part gave.0) place gave.2 (λ calls is. record { conn = (agrees calls is).conn; stage = (agrees calls is).stage })
-  agrees_given (Err ReadFault) gave agrees = absurd gave
-  agrees_given (Err WriteFault) gave agrees = absurd gave
-  agrees_given (Err (Refused kind offset)) gave agrees = absurd gave
+  -- the table is as it was where a give didn't find its connection gone
+  still_at : (result : Result Given LinkFault) (served : Served) → conn < length place.stages → stage_behind (stage_at place conn) result ≡ stage_at place conn → IsAt place served → IsAt (given_place conn result place) served
+  still_at result served inside is at = record {
+    stages = λ other. at.stages other ∙ sym (keeps_set shown place.stages conn (stage_behind (stage_at place conn) result) inside (ap shown is) other);
+    accepted = at.accepted;
+    closed = at.closed;
+  }
 
-  pub whole_given : (result : Result Given LinkFault) → GivesTo old new bytes result → OnOk result (IsWhole new)
-  whole_given (Ok All) gave = leads_whole old new (gives_all bytes) gave (λ port. refl)
-  whole_given (Ok (Gone count)) gave = leads_whole old new (gives_gone (take count bytes)) gave.1 (λ port. refl)
+  agrees_given : (result : Result Given LinkFault) → GivesTo conn old new bytes result → conn < length place.stages → Agrees old place → Agrees new (given_place conn result place)
+  agrees_given (Ok All) gave inside agrees =
+      leads_agree conn old new (gives_all conn bytes) (given_place conn (Ok All) place) gave (λ calls is.
+      let at = still_at (Ok All) (served_of calls) inside refl (agrees calls is) in record { stages = at.stages; accepted = at.accepted; closed = at.closed })
+  agrees_given (Ok (Gone count)) gave inside agrees =
+      leads_agree conn old new (gives_gone conn (take count bytes)) (given_place conn (Ok (Gone count)) place) gave.1 (λ calls is. record {
+        stages = λ other. shown_set place.stages conn (broken (stage_at place conn)) (broken ((served_of calls).stages conn)) (served_of calls).stages inside
+            (ap broken ((agrees calls is).stages conn) ∙ broken_shown (stage_at place conn)) (agrees calls is).stages other;
+        accepted = (agrees calls is).accepted;
+        closed = (agrees calls is).closed;
+      })
+  agrees_given (Err Memory) gave inside agrees =
+      leads_agree conn old new (gives_part conn gave.0) (given_place conn (Err Memory) place) gave.2 (λ calls is.
+      still_at (Err Memory) (gives_part conn gave.0 (served_of calls)) inside refl (part_at place conn gave.0 (served_of calls) (agrees calls is)))
+  agrees_given (Err ReadFault) gave inside agrees = absurd gave
+  agrees_given (Err WriteFault) gave inside agrees = absurd gave
+  agrees_given (Err (Refused kind offset)) gave inside agrees = absurd gave
+
+  whole_given : (result : Result Given LinkFault) → GivesTo conn old new bytes result → OnOk result (IsWhole new)
+  whole_given (Ok All) gave = leads_whole conn old new (gives_all conn bytes) gave (λ served. refl)
+  whole_given (Ok (Gone count)) gave = leads_whole conn old new (gives_gone conn (take count bytes)) gave.1 (λ served. refl)
   whole_given (Err fault) gave = tt
 
-  pub went_given : (result : Result Given LinkFault) → GivesTo old new bytes result → Agrees old place → is_present place.stage ≡ true → WentOn conns old new
-  went_given (Ok All) gave agrees there = leads_went conns old new (gives_all bytes) place gave agrees there
-  went_given (Ok (Gone count)) gave agrees there = leads_went conns old new (gives_gone (take count bytes)) place gave.1 agrees there
-  went_given (Err Memory) gave agrees there = leads_went conns old new (gives_part gave.0) place gave.2 agrees there
-  went_given (Err ReadFault) gave agrees there = absurd gave
-  went_given (Err WriteFault) gave agrees there = absurd gave
-  went_given (Err (Refused kind offset)) gave agrees there = absurd gave
+  went_given : (result : Result Given LinkFault) → GivesTo conn old new bytes result → Agrees old place → IsWhole old → is_present (stage_at place conn) ≡ true → WentOn limits old new
+  went_given (Ok All) gave agrees whole there = leads_went limits conn old new (gives_all conn bytes) place gave agrees whole there
+  went_given (Ok (Gone count)) gave agrees whole there = leads_went limits conn old new (gives_gone conn (take count bytes)) place gave.1 agrees whole there
+  went_given (Err Memory) gave agrees whole there = leads_went limits conn old new (gives_part conn gave.0) place gave.2 agrees whole there
+  went_given (Err ReadFault) gave agrees whole there = absurd gave
+  went_given (Err WriteFault) gave agrees whole there = absurd gave
+  went_given (Err (Refused kind offset)) gave agrees whole there = absurd gave
 
--- a give changes no number, and neither opens nor closes
-pub given_present : (stage : Stage) (result : Result Given LinkFault) → is_present (stage_behind stage result) ≡ is_present stage
-given_present stage (Ok All) = refl
-given_present stage (Ok (Gone count)) = broken_present stage
-given_present stage (Err fault) = refl
+  -- no fault but want of memory comes
+  memory_alone : (result : Result Given LinkFault) → GivesTo conn old new bytes result → IfErr result (λ fault. fault ≡ Memory)
+  memory_alone (Ok given) gave = tt
+  memory_alone (Err Memory) gave = refl
+  memory_alone (Err ReadFault) gave = absurd gave
+  memory_alone (Err WriteFault) gave = absurd gave
+  memory_alone (Err (Refused kind offset)) gave = absurd gave
 
-pub given_waits : (stage : Stage) (result : Result Given LinkFault) → stage ≡ Waiting → stage_behind stage result ≡ Waiting
-given_waits stage (Ok All) waits = waits
-given_waits stage (Ok (Gone count)) waits = ap broken waits
-given_waits stage (Err fault) waits = waits
+  -- a piece was given, and the link stands behind it
+  pub give_does : (connections now : List Bool) (result : Result Given LinkFault) → GivesTo conn old new bytes result → Stands old connections limits place → IsWhole old → is_present (stage_at place conn) ≡ true → conn < length place.stages → now ≡ connections
+      → GivesPiece limits conn old new now place (given_place conn result place) bytes result
+  give_does connections now result gave stands whole there inside is =
+      let less = present_less limits old new connections place stands conn there in
+      subst (λ (c : List Bool). GivesPiece limits conn old new c place (given_place conn result place) bytes result) (sym is)
+      (record {
+        place_is = refl;
+        stands = record {
+          agrees = agrees_given result gave inside stands.agrees;
+          room = length-set place.stages conn (stage_behind (stage_at place conn) result) ∙ stands.room;
+          present = λ other. stands.present other ∙ sym (keeps_set is_present place.stages conn (stage_behind (stage_at place conn) result) inside (behind_keeps is_present broken_present (stage_at place conn) result) other);
+          accepted = stands.accepted;
+          count = stands.count;
+          behind = λ other past. elsewhere place.stages conn other (stage_behind (stage_at place conn) result) inside (λ same. let no : ⊥ = omega arith in no) ∙ stands.behind other past;
+          closing = closing_kept place.closing place.stages conn result inside stands.closing;
+          most = stands.most;
+          at_once = stands.at_once;
+          ended = stands.ended;
+        };
+        given = tells_given result gave (not_ended limits old new connections place stands conn there) whole;
+        whole = whole_given result gave;
+        went = went_given result gave stands.agrees whole there;
+        fault = memory_alone result gave;
+      })
 
-told_unless : (stage : Stage) → stage ≢ Dropping → is_told stage ≡ true
-told_unless Waiting not = refl
-told_unless Open not = refl
-told_unless Ended not = refl
-told_unless Broken not = refl
-told_unless Dropping not = absurd (not refl)
+given_same : (place : Place) (conn : ℕ) → given_place conn (Err Memory) place ≡ place
+given_same place conn = ap (λ (stages : List Stage). let made_place : Place = record place { stages = stages } in made_place) (set-get_or place.stages conn Unopened)
 
--- no fault but want of memory comes
-memory_alone : (old new : Option (List ListenEntry)) (bytes : List ℕ) (result : Result Given LinkFault) → GivesTo old new bytes result → IfErr result (λ fault. fault ≡ Memory)
-memory_alone old new bytes (Ok given) gave = tt
-memory_alone old new bytes (Err Memory) gave = refl
-memory_alone old new bytes (Err ReadFault) gave = absurd gave
-memory_alone old new bytes (Err WriteFault) gave = absurd gave
-memory_alone old new bytes (Err (Refused kind offset)) gave = absurd gave
-
--- a piece was given, and the link stands behind it
-pub give_does : (conns : ℕ) (old new : Option (List ListenEntry)) (connected now : Bool) (place : Place) (bytes : List ℕ) (result : Result Given LinkFault) (stage : Stage) → stage ≡ stage_behind place.stage result
-    → GivesTo old new bytes result → Stands old connected conns place → is_present place.stage ≡ true → place.stage ≢ Dropping → now ≡ true → GivesPiece conns old new now place (record place { stage = stage }) bytes result
-give_does conns old new connected now place bytes result stage is gave stands there not is_there =
-    subst (λ (s : Stage). GivesPiece conns old new now place (record place { stage = s }) bytes result) (sym is)
-    (record {
-      place_is = refl;
-      stands = record {
-        agrees = agrees_given conns old new place bytes result gave stands.agrees;
-        present = λ behind. is_there;
-        below = λ behind. stands.below there;
-        most = stands.most;
-        ended = λ more. (given_waits place.stage result (stands.ended more).0, (stands.ended more).1);
-      };
-      given = λ whole. tells_given conns old new place bytes result gave stands.agrees (told_unless place.stage not) (no_ends place.ends stands.ended (λ at. not_waiting place.stage there at.0)) whole;
-      whole = λ whole. whole_given conns old new place bytes result gave;
-      went = went_given conns old new place bytes result gave stands.agrees there;
-      fault = memory_alone old new bytes result gave;
-    })
-
--- to a connection whose close was answered behind a failed give nothing is given
-pub give_dropped : (conns : ℕ) (told : Option (List ListenEntry)) (connected : Bool) (place : Place) (bytes : List ℕ) → Stands told connected conns place → GivesPiece conns told told connected place place bytes (Err Memory)
-give_dropped conns told connected place bytes stands = record {
-  place_is = refl;
+-- to a connection that was closed, since a give to it had failed, nothing is given
+pub give_dropped : (limits : PortLimits) (conn : ℕ) (told : Option (List PortEntry)) (connections : List Bool) (place : Place) (bytes : List ℕ) → Stands told connections limits place
+    → GivesPiece limits conn told told connections place place bytes (Err Memory)
+give_dropped limits conn told connections place bytes stands = record {
+  place_is = sym (given_same place conn);
   stands = stands;
-  given = λ whole. ([], (bytes, refl), tells_none told told place place [] (logs_same told) (λ calls is. same_journal place (port_of calls)));
-  whole = λ whole. tt;
-  went = calls_same conns told;
+  given = ([], (bytes, refl), tells_none told told place place [] (logs_same told) (λ calls is. same_journal place (served_of calls)));
+  whole = tt;
+  went = calls_same limits told;
   fault = refl;
 }
+
+-- a connection to which may be given is open at the port, unless it was closed since
+pub given_there : (stage : Stage) → is_given stage ≡ true → stage ≢ Dropped → is_present stage ≡ true
+given_there Unopened given not = cc
+given_there Open given not = refl
+given_there Ended given not = refl
+given_there Broken given not = refl
+given_there Dropped given not = absurd (not refl)
+given_there Closed given not = cc

@@ -1,89 +1,92 @@
--- What each call adds to the journal of a link.
+-- What each call adds to the journal of a link, and what stages say of one another.
 use Rattle.links.specs.declared.journal.Entry.TheVariants as entry
 use Rattle.links.specs.declared.journal.LinkEvent.TheVariants as event
-use Rattle.rx_io.specs.declared.listener_calls.ListenEntry.TheVariants as listen
-use Rattle.port_link.proofs.Terms.{List, [], add-one, append-nil, arith, refl, suc, sym, true, zero, ℕ, ◌++◌, ◌+◌, ◌<◌, ◌∷◌, ◌≡◌, Entry, Place, Stage, Broken, Dropping, Ended, Open, Waiting, is_done, is_present, shown, Port, after_call, closed_entries, entries_of, is_closable, takes_bytes, IsAt, link_journal, with_close, with_ends, closed_place}
+use Rattle.port_link.proofs.Terms.{List, Option, [], add-one, ap, append-nil, arith, false, refl, suc, sym, true, zero, ℕ, ◌++◌, ◌+◌, ◌<◌, ◌∙◌, ◌∷◌, ◌≡◌, Entry, Ready, Place, Stage, Broken, Closed, Dropped, Ended, Open, Unopened, is_broken, is_done, is_present, shown, Served, closed_entries, closes, entries_of, is_closable, opens, takes_bytes, with_ready, link_journal, with_ends, closed_place, dropped_place, ended_place, opened_place, settled_place}
 
 -- a link that isn't at its end hasn't answered it
 pub no_ends : (ends : ℕ) {A : Type 0} → (0 < ends → A) → (A → ⊥) → ends ≡ 0
 no_ends zero at not = refl
 no_ends (suc n) at not = absurd (not (at (omega arith)))
 
-pub not_waiting : (stage : Stage) → is_present stage ≡ true → stage ≡ Waiting → ⊥
-not_waiting Waiting there is = let no : ⊥ = cc there in no
-not_waiting Open there is = cc
-not_waiting Ended there is = cc
-not_waiting Broken there is = cc
-not_waiting Dropping there is = cc
+more_in : (ends : ℕ) (entries more : List Entry) → ends ≡ 0 → with_ends ends (entries ++ more) ≡ with_ends ends entries ++ more
+more_in ends entries more none = rw none refl
 
-opened_in : (stage : Stage) (ends conn of : ℕ) (entries : List Entry) → stage ≡ Waiting → ends ≡ 0 → conn ≡ of
-    → with_ends ends (entries ++ entry.Took (event.Opens conn) ∷ []) ≡ with_ends ends (with_close stage conn entries) ++ entry.Took (event.Opens of) ∷ []
-opened_in stage ends conn of entries waits none is = rw (waits, none, is) refl
+-- what a wait answered is no part of it
+pub ready_journal : (place : Place) (served : Served) (ready : Option Ready) → link_journal place (with_ready ready served) ≡ link_journal place served
+unfolding link_journal
+ready_journal place served ready = refl
 
 -- an accept opens the next connection
-pub opened : (place : Place) (port : Port) → place.stage ≡ Waiting → place.ends ≡ 0 → IsAt place port
-    → link_journal (record place { stage = Open }) (after_call port listen.Accepted) ≡ link_journal place port ++ entry.Took (event.Opens place.conn) ∷ []
-unfolding link_journal after_call
-opened place port waits none at = opened_in place.stage place.ends port.conn place.conn (entries_of port) waits none at.conn
-
-took_in : (stage : Stage) (ends conn of : ℕ) (entries : List Entry) (byte : ℕ) (bytes : List ℕ) → stage ≡ Open → ends ≡ 0 → conn ≡ of
-    → with_ends ends (with_close stage conn (entries ++ entry.Took (event.Piece conn (byte ∷ bytes)) ∷ [])) ≡ with_ends ends (with_close stage conn entries) ++ entry.Took (event.Piece of (byte ∷ bytes)) ∷ []
-took_in stage ends conn of entries byte bytes is_open none is = rw (is_open, none, is) refl
-
-ended_in : (stage : Stage) (ends conn of : ℕ) (entries : List Entry) → stage ≡ Open → ends ≡ 0 → conn ≡ of
-    → with_ends ends (entries ++ entry.Took (event.Closes conn) ∷ []) ≡ with_ends ends (with_close stage conn entries) ++ entry.Took (event.Closes of) ∷ []
-ended_in stage ends conn of entries is_open none is = rw (is_open, none, is) refl
+pub opened : (place : Place) (served : Served) → place.ends ≡ 0
+    → link_journal (opened_place place) (opens place.accepted served) ≡ link_journal place served ++ entry.Took (event.Opens place.accepted) ∷ []
+unfolding link_journal
+opened place served none = more_in place.ends (entries_of served) (entry.Took (event.Opens place.accepted) ∷ []) none
 
 -- bytes that were taken are a piece
-pub took : (place : Place) (port : Port) (byte : ℕ) (bytes : List ℕ) → place.stage ≡ Open → place.ends ≡ 0 → IsAt place port
-    → link_journal place (takes_bytes (byte ∷ bytes) port) ≡ link_journal place port ++ entry.Took (event.Piece place.conn (byte ∷ bytes)) ∷ []
+pub took : (place : Place) (served : Served) (conn byte : ℕ) (bytes : List ℕ) → place.ends ≡ 0
+    → link_journal place (takes_bytes conn (byte ∷ bytes) served) ≡ link_journal place served ++ entry.Took (event.Piece conn (byte ∷ bytes)) ∷ []
 unfolding link_journal
-took place port byte bytes is_open none at = took_in place.stage place.ends port.conn place.conn (entries_of port) byte bytes is_open none at.conn
+took place served conn byte bytes none = more_in place.ends (entries_of served) (entry.Took (event.Piece conn (byte ∷ bytes)) ∷ []) none
 
 -- none are the close
-pub ended : (place : Place) (port : Port) → place.stage ≡ Open → place.ends ≡ 0 → IsAt place port
-    → link_journal (record place { stage = Ended }) (takes_bytes [] port) ≡ link_journal place port ++ entry.Took (event.Closes place.conn) ∷ []
+pub ended : (place : Place) (served : Served) (conn : ℕ) → place.ends ≡ 0
+    → link_journal (ended_place conn place) (takes_bytes conn [] served) ≡ link_journal place served ++ entry.Took (event.Closes conn) ∷ []
 unfolding link_journal
-ended place port is_open none at = ended_in place.stage place.ends port.conn place.conn (entries_of port) is_open none at.conn
+ended place served conn none = more_in place.ends (entries_of served) (entry.Took (event.Closes conn) ∷ []) none
 
-closed_in : (stage was : Stage) (ends conn : ℕ) (entries : List Entry) → is_done stage ≡ true → was ≡ shown stage
-    → with_ends ends (closed_entries was conn entries) ≡ with_ends ends (with_close stage conn entries) ++ []
-closed_in Waiting was ends conn entries done is = cc
-closed_in Open was ends conn entries done is = cc
-closed_in Ended was ends conn entries done is = rw is (sym (append-nil _))
-closed_in Broken was ends conn entries done is = cc
-closed_in Dropping was ends conn entries done is = rw is (sym (append-nil _))
+closed_told : (was : Stage) (conn : ℕ) (entries : List Entry) → was ≡ Ended → closed_entries was conn entries ≡ entries
+closed_told was conn entries is = ap (λ (s : Stage). closed_entries s conn entries) is
 
--- what is closed was answered as closed before
-pub closed : (place : Place) (port : Port) → is_done place.stage ≡ true → IsAt place port → link_journal (closed_place place) (after_call port listen.Closed) ≡ link_journal place port ++ []
-unfolding link_journal after_call
-closed place port done at = closed_in place.stage port.stage place.ends port.conn (entries_of port) done at.stage
+closed_newly : (was : Stage) (conn : ℕ) (entries : List Entry) → was ≡ Broken → closed_entries was conn entries ≡ entries ++ entry.Took (event.Closes conn) ∷ []
+closed_newly was conn entries is = ap (λ (s : Stage). closed_entries s conn entries) is
 
-closable_in : (stage was : Stage) → is_done stage ≡ true → was ≡ shown stage → is_closable was ≡ true
-closable_in Waiting was done is = cc
-closable_in Open was done is = cc
-closable_in Ended was done is = rw is refl
-closable_in Broken was done is = cc
-closable_in Dropping was done is = rw is refl
+-- one to which a give failed is told as closed where it is
+pub dropped : (place : Place) (served : Served) (conn : ℕ) → served.stages conn ≡ Broken → place.ends ≡ 0
+    → link_journal (dropped_place conn place) (closes conn served) ≡ link_journal place served ++ entry.Took (event.Closes conn) ∷ []
+unfolding link_journal
+dropped place served conn is none =
+    ap (with_ends place.ends) (closed_newly (served.stages conn) conn (entries_of served) is) ∙ more_in place.ends (entries_of served) (entry.Took (event.Closes conn) ∷ []) none
 
-pub closable : (place : Place) (port : Port) → is_done place.stage ≡ true → IsAt place port → is_closable port.stage ≡ true
-closable place port done at = closable_in place.stage port.stage done at.stage
+-- one whose end was found was told as closed before
+pub closed : (place : Place) (served : Served) (conn : ℕ) → served.stages conn ≡ Ended → link_journal (closed_place conn place) (closes conn served) ≡ link_journal place served ++ []
+unfolding link_journal
+closed place served conn is = ap (with_ends place.ends) (closed_told (served.stages conn) conn (entries_of served) is) ∙ sym (append-nil _)
 
 -- the end is one entry more
-pub ended_more : (place : Place) (port : Port) → link_journal (record place { ends = place.ends + 1 }) port ≡ link_journal place port ++ entry.Took event.Ends ∷ []
+pub ended_more : (place : Place) (served : Served) → link_journal (record place { ends = place.ends + 1 }) served ≡ link_journal place served ++ entry.Took event.Ends ∷ []
 unfolding link_journal
-ended_more place port = rw add-one refl
-
-dropped_in : (stage : Stage) (ends conn of : ℕ) (entries : List Entry) → stage ≡ Broken → ends ≡ 0 → conn ≡ of
-    → with_ends ends (entries ++ entry.Took (event.Closes conn) ∷ []) ≡ with_ends ends (with_close stage conn entries) ++ entry.Took (event.Closes of) ∷ []
-dropped_in stage ends conn of entries is_broken none is = rw (is_broken, none, is) refl
-
--- a close behind a failed give is told before it is made
-pub dropped : (place : Place) (port : Port) → place.stage ≡ Broken → place.ends ≡ 0 → IsAt place port
-    → link_journal (record place { stage = Dropping }) port ≡ link_journal place port ++ entry.Took (event.Closes place.conn) ∷ []
-unfolding link_journal
-dropped place port is_broken none at = dropped_in place.stage place.ends port.conn place.conn (entries_of port) is_broken none at.conn
+ended_more place served = rw add-one refl
 
 -- nothing more
-pub same_journal : (place : Place) (port : Port) → link_journal place port ≡ link_journal place port ++ []
-same_journal place port = sym (append-nil _)
+pub same_journal : (place : Place) (served : Served) → link_journal place served ≡ link_journal place served ++ []
+same_journal place served = sym (append-nil _)
+
+pub settled : (place : Place) (served : Served) (conn : ℕ) → link_journal (settled_place conn place) served ≡ link_journal place served ++ []
+unfolding link_journal
+settled place served conn = sym (append-nil _)
+
+-- where none is to be closed, and no give failed, none may be closed
+pub none_closable : (stage was : Stage) → is_done stage ≡ false → is_broken stage ≡ false → was ≡ shown stage → is_closable was ≡ false
+none_closable Unopened was done broken is = ap is_closable is
+none_closable Open was done broken is = ap is_closable is
+none_closable Ended was done broken is = cc
+none_closable Broken was done broken is = cc
+none_closable Dropped was done broken is = cc
+none_closable Closed was done broken is = ap is_closable is
+
+-- such a connection that is open at the port is one whose end wasn't found
+pub only_open : (stage : Stage) → is_done stage ≡ false → is_broken stage ≡ false → is_present stage ≡ true → stage ≡ Open
+only_open Unopened done broken there = cc
+only_open Open done broken there = refl
+only_open Ended done broken there = cc
+only_open Broken done broken there = cc
+only_open Dropped done broken there = cc
+only_open Closed done broken there = cc
+
+pub broken_is : (stage : Stage) → is_broken stage ≡ true → stage ≡ Broken
+broken_is Unopened is = cc
+broken_is Open is = cc
+broken_is Ended is = cc
+broken_is Broken is = refl
+broken_is Dropped is = cc
+broken_is Closed is = cc

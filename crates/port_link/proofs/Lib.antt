@@ -1,8 +1,8 @@
 pub mod Terms
 pub mod CallLemmas
+pub mod PlaceLemmas
 pub mod JournalLemmas
-pub mod PhaseLemmas
-pub mod GiveLemmas
 pub mod StepLemmas
+pub mod GiveLemmas
 pub mod ShowLemmas
 pub mod EndLemmas

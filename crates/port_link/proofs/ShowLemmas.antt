@@ -1,15 +1,47 @@
--- What a port link shows behind a give.
-use Rattle.port_link.proofs.Terms.{Bool, Err, List, None, Ok, Option, Result, Some, ap, arith, if◌then◌else◌, inl, inr, length, nat_lt, refl, subst, sym, true, ℕ, ◌&&◌, ◌-◌, ◌==◌, ◌∙◌, ◌≡◌, ◌≤◌, and_parts, cases_lt, eqb-true, IfErr, IsErrOf, ◌^◌, Rose, one_more, ListenEntry, Given, All, Gone, LinkFault, Memory, WriteFault, told_by, ComesUntold, Counts, Gives, Handed, HasGiveCause, IsGone, Phase, Phases, TellsHanded, Told, Seen, Place, Stage, Broken, Dropping, Ended, Open, Waiting, broken, gones_behind, stage_behind, Port, IsJustBound, IsWhole, gives_at, link_journal, phases_at, present_phase, told_at, GivesPiece, told_nothing}
-use Rattle.port_link.proofs.GiveLemmas.{behind_give, given_present}
-use Rattle.links.specs.Links as links
+-- What a link over a port shows, at first and behind a give.
+use Rattle.port_link.proofs.Terms.{Bool, Err, List, None, Ok, Option, Result, Some, [], ap, arith, inl, inr, length, refl, subst, sym, true, ℕ, ◌-◌, ◌<◌, ◌∙◌, ◌≡◌, ◌≤◌, fun_ext, cases_lt, get_or-replicate, get_or_past, length-replicate, IfErr, IsErrOf, replicate, ◌^◌, Rose, one_more, Given, All, Gone, LinkFault, Memory, WriteFault, told_by, ComesUntold, Counts, Handed, HasGiveCause, IsGone, Phases, TellsHanded, Told, Seen, PortEntry, Place, PortLimits, Stage, Unopened, gones_behind, is_done, is_given, is_present, phase_of, shown, stage_behind, stage_in, Served, IsAt, IsJustBound, IsWhole, Stands, gives_at, link_journal, phases_at, stage_at, told_at, given_place, told_nothing}
+use Rattle.port_link.proofs.GiveLemmas.{given_gives, given_phase}
+use Rattle.port_link.proofs.PlaceLemmas.{closes_to, keeps_set}
+use Rattle.port_link.specs.declared.place.Closing.TheVariants as closing
 
--- nothing was told yet over a listener that was just bound
-pub fresh_told : (told : Option (List ListenEntry)) → IsJustBound told → told_at told (record { conn = 0; stage = Waiting; ends = 0 }) ≡ told_nothing told
+pub none_yet : (n conn : ℕ) → stage_in (replicate n Unopened) conn ≡ Unopened
+none_yet n conn = elim (cases_lt conn n) [
+  | inl less ↦ get_or-replicate n conn Unopened Unopened less
+  | inr past ↦ get_or_past (replicate n Unopened) conn Unopened (let size = length-replicate n Unopened in omega arith)
+]
+
+abbrev pub first_place : List Stage → Place
+first_place stages = record { stages = stages; accepted = 0; closed = 0; closing = closing.Nothing; ends = 0 }
+
+-- nothing was told yet over a port that was just bound
+pub fresh_told : (told : Option (List PortEntry)) (stages : List Stage) → IsJustBound told → told_at told (first_place stages) ≡ told_nothing told
 unfolding told_at link_journal
-fresh_told None bound = refl
-fresh_told (Some calls) bound = ap (λ (port : Port). told_by (link_journal (record { conn = 0; stage = Waiting; ends = 0 }) port)) (bound calls refl)
+fresh_told None stages bound = refl
+fresh_told (Some calls) stages bound = ap (λ (served : Served). told_by (link_journal (first_place stages) served)) (bound calls refl)
 
-pub handed_told : (told : Option (List ListenEntry)) (place : Place) (conn : ℕ) (bytes : List ℕ) → TellsHanded (told_at told place) (Some (record { conn = conn; length = length bytes })) conn bytes
+pub fresh_stands : (told : Option (List PortEntry)) (connections : List Bool) (limits : PortLimits) (stages : List Stage) → IsJustBound told → connections ≡ [] → ((conn : ℕ) → stage_in stages conn ≡ Unopened) → length stages ≡ 4096 → Stands told connections limits (first_place stages)
+fresh_stands told connections limits stages bound none at size =
+    subst (λ (c : List Bool). Stands told c limits (first_place stages)) (sym none)
+    (record {
+      agrees = λ calls is. subst (IsAt (first_place stages)) (sym (bound calls is)) (record { stages = λ conn. sym (ap shown (at conn)); accepted = refl; closed = refl });
+      room = size;
+      present = λ conn. sym (ap is_present (at conn));
+      accepted = refl;
+      count = refl;
+      behind = λ conn past. at conn;
+      closing = closes_to closing.Nothing stages (λ conn. ap is_done (at conn));
+      most = omega arith;
+      at_once = omega arith;
+      ended = λ more. let no : ⊥ = omega arith in absurd no;
+    })
+
+pub fresh_whole : (told : Option (List PortEntry)) → IsJustBound told → IsWhole told
+fresh_whole told bound = λ calls is. ap (λ (served : Served). served.part) (bound calls is)
+
+pub fresh_phases : (stages : List Stage) → ((conn : ℕ) → stage_in stages conn ≡ Unopened) → (conn : ℕ) → phases_at (first_place stages) conn ≡ phase_of Unopened
+fresh_phases stages at conn = ap phase_of (at conn)
+
+pub handed_told : (told : Option (List PortEntry)) (place : Place) (conn : ℕ) (bytes : List ℕ) → TellsHanded (told_at told place) (Some (record { conn = conn; length = length bytes })) conn bytes
 unfolding told_at
 handed_told None place conn bytes = tt
 handed_told (Some calls) place conn bytes = refl
@@ -48,40 +80,32 @@ give_cause takes later gones now result same is alone = record {
     rose (Ok (Gone count)) gone = rose_more gones
     rose (Err fault) gone = absurd gone
 
-broken_phase : (stage : Stage) → present_phase (broken stage) ≡ present_phase stage
-broken_phase Waiting = refl
-broken_phase Open = refl
-broken_phase Ended = refl
-broken_phase Broken = refl
-broken_phase Dropping = refl
-
-given_phase : (stage : Stage) (result : Result Given LinkFault) → present_phase (stage_behind stage result) ≡ present_phase stage
-given_phase stage (Ok All) = refl
-given_phase stage (Ok (Gone count)) = broken_phase stage
-given_phase stage (Err fault) = refl
-
 -- a give changes no phase, and not to whom is given
-pub phases_given : (place later : Place) (result : Result Given LinkFault) → later ≡ behind_give place result → phases_at later ≡ phases_at place
-phases_given place later result is =
-    ap (λ (p : Place). phases_at p) is
-    ∙ ap (λ (phase : Phase). let made : Phases = λ conn. if nat_lt conn place.conn then links.Closed else (if conn == place.conn then phase else links.Unopened) in made) (given_phase place.stage result)
+phases_given : (place later : Place) (conn : ℕ) (result : Result Given LinkFault) → later ≡ given_place conn result place → conn < length place.stages → phases_at later ≡ phases_at place
+phases_given place later conn result is less =
+    ap (λ (p : Place). phases_at p) is ∙ fun_ext (λ other. keeps_set phase_of place.stages conn (stage_behind (stage_at place conn) result) less (given_phase (stage_at place conn) result) other)
 
-pub gives_given : (place later : Place) (result : Result Given LinkFault) → later ≡ behind_give place result → gives_at later ≡ gives_at place
-gives_given place later result is =
-    ap (λ (p : Place). gives_at p) is ∙ ap (λ (there : Bool). let made : ℕ → Bool = λ conn. (conn == place.conn) && there in made) (given_present place.stage result)
+gives_given : (place later : Place) (conn : ℕ) (result : Result Given LinkFault) → later ≡ given_place conn result place → conn < length place.stages → gives_at later ≡ gives_at place
+gives_given place later conn result is less =
+    ap (λ (p : Place). gives_at p) is ∙ fun_ext (λ other. keeps_set is_given place.stages conn (stage_behind (stage_at place conn) result) less (given_gives (stage_at place conn) result) other)
 
 abbrev pub seen_with : Told → Option Handed → Bool → Bool → Counts → Phases → (ℕ → Bool) → Seen
 seen_with told handed takes gives counts phases to =
     record { told = told; phases = phases; coming = Some ComesUntold; handed = handed; gives_to = to; takes = takes; gives = gives; counts = counts }
 
-pub rest_given : (told : Told) (handed : Option Handed) (takes gives : Bool) (counts : Counts) (place later : Place) (result : Result Given LinkFault) → later ≡ behind_give place result
+pub rest_given : (told : Told) (handed : Option Handed) (takes gives : Bool) (counts : Counts) (place later : Place) (conn : ℕ) (result : Result Given LinkFault) → later ≡ given_place conn result place → conn < length place.stages
     → seen_with told handed takes gives counts (phases_at later) (gives_at later) ≡ seen_with told handed takes gives counts (phases_at place) (gives_at place)
-rest_given told handed takes gives counts place later result is =
-    ap (λ (phases : Phases). seen_with told handed takes gives counts phases (gives_at later)) (phases_given place later result is)
-    ∙ ap (λ (to : ℕ → Bool). seen_with told handed takes gives counts (phases_at place) to) (gives_given place later result is)
+rest_given told handed takes gives counts place later conn result is less =
+    ap (λ (phases : Phases). seen_with told handed takes gives counts phases (gives_at later)) (phases_given place later conn result is less)
+    ∙ ap (λ (to : ℕ → Bool). seen_with told handed takes gives counts (phases_at place) to) (gives_given place later conn result is less)
 
--- a piece goes to the present connection
-pub given_there : (conns conn : ℕ) (old new : Option (List ListenEntry)) (now : Bool) (place later : Place) (bytes : List ℕ) (result : Result Given LinkFault) → GivesPiece conns old new now place later bytes result → gives_at place conn ≡ true → IsWhole old
-    → Gives (told_at old place) (told_at new later) conn bytes result
-given_there conns conn old new now place later bytes result gave to whole =
-    subst (λ (n : ℕ). Gives (told_at old place) (told_at new later) n bytes result) (sym (eqb-true conn place.conn (and_parts _ _ to).0)) (gave.given whole)
+-- a connection to which is given is in the table
+pub given_less : (place : Place) (conn : ℕ) → is_given (stage_at place conn) ≡ true → conn < length place.stages
+given_less place conn given = elim (cases_lt conn (length place.stages)) [
+  | inl less ↦ less
+  | inr past ↦ (let no : is_given Unopened ≡ true = sym (ap is_given (get_or_past place.stages conn Unopened past)) ∙ given in cc)
+]
+
+-- and it is below 4096
+pub given_below : (told : Option (List PortEntry)) (connections : List Bool) (limits : PortLimits) (place : Place) (conn : ℕ) → Stands told connections limits place → is_given (stage_at place conn) ≡ true → conn < 4096
+given_below told connections limits place conn stands given = let less = given_less place conn given in let room = stands.room in omega arith

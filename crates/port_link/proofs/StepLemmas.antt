@@ -1,287 +1,530 @@
 -- What each way to the next event does.
-use Rattle.std.proofs.Math.Path.{fun_ext}
+use Rattle.ports.specs.declared.port_calls.PortEntry.TheVariants as made
+use Rattle.ports.specs.declared.port_calls.FailedCall.TheVariants as call
 use Rattle.links.proofs.Growing.{tells_then}
-use Rattle.port_link.proofs.Terms.{Bool, Err, List, Ok, Option, Result, Some, [], ap, arith, false, length, refl, subst, sym, true, ℕ, ◌+◌, ◌<◌, ◌∙◌, ◌∷◌, ◌≡◌, ◌≢◌, ◌≤◌, IsErrOf, IoFault, HasCause, ListenEntry, Accepts, Logs, LinkEvent, LinkFault, Memory, ReadFault, Refused, WriteFault, ComesUntold, Enters, GoesBy, Phases, Place, Stage, Broken, Dropping, Ended, Open, Waiting, is_done, is_present, shown, IsCall, Port, after_call, port_of, takes_bytes, IsAt, IsWhole, Stands, link_journal, phases_at, present_phase, told_at, HasOpenCause, IsTake, NextAt, StepsTo, TakesNext, TakesPiece, WentOn, closed_place, read_fault_of, taken, calls_on, calls_same}
-use Rattle.port_link.proofs.CallLemmas.{logs_same, went_one, went_none, agrees_one, agrees_none, whole_one, whole_none, tells_one, tells_none}
-use Rattle.port_link.proofs.JournalLemmas.{no_ends, not_waiting, opened, took, ended, closed, closable, ended_more, dropped, same_journal}
-use Rattle.port_link.proofs.PhaseLemmas.{phase_changes, phase_here, gives_here, phases_closed}
 use Rattle.links.specs.Links as links
 use Rattle.links.specs.declared.journal.Entry.TheVariants as entry
 use Rattle.links.specs.declared.journal.LinkEvent.TheVariants as event
 use Rattle.rx_base.specs.declared.fault.IoFault.TheVariants as io
-use Rattle.rx_io.specs.declared.listener_calls.ListenCall.TheVariants as call
-use Rattle.rx_io.specs.declared.listener_calls.ListenEntry.TheVariants as listen
+use Rattle.port_link.proofs.Terms.{Bool, Err, List, None, Ok, Option, Result, Some, [], ap, arith, false, inl, inr, length, nat_lt, refl, subst, sym, true, ℕ, ◌&&◌, ◌++◌, ◌+◌, ◌<◌, ◌∙◌, ◌∷◌, ◌≡◌, ◌≢◌, ◌≤◌, ◌⊎◌, fun_ext, and_parts, cases_lt, ltb-true, length-append, length-set, IsErrOf, slice_set, IoFault, HasCause, LinkEvent, LinkFault, Memory, ReadFault, Refused, WriteFault, ComesUntold, Enters, GoesBy, Phases, PortEntry, Ready, Accepts, Reads, Logs, PortAccepts, PortWaits, open_fewer, open_more, open_within, is_open, open_count, without, Closing, Place, PortLimits, Stage, Closed, Dropped, Ended, Open, Unopened, is_broken, is_done, is_given, is_present, phase_of, shown, stage_in, IsCall, Served, after_call, can_accept, is_closable, served_of, takes_bytes, with_ready, IsAt, IsClosing, IsWhole, Stands, WasReady, link_journal, phases_at, stage_at, told_at, HasOpenCause, IsTake, NextAt, Settles, TakesNext, TakesPiece, WaitsAt, WentOn, closed_place, dropped_place, ended_place, opened_place, read_fault_of, settled_place, taken, calls_on, calls_same}
+use Rattle.port_link.specs.declared.place.Closing.TheVariants as closing
+use Rattle.port_link.specs.Taking.{NoneBroken, may_accept}
+use Rattle.port_link.proofs.CallLemmas.{logs_same, went_one, went_none, agrees_one, agrees_none, whole_one, whole_none, tells_one, tells_none}
+use Rattle.port_link.proofs.JournalLemmas.{no_ends, opened, took, ended, dropped, ended_more, ready_journal, same_journal, settled, closed, none_closable, broken_is}
+use Rattle.port_link.proofs.PlaceLemmas.{Closes, closes_to, stage_set, shown_set, keeps_set, all_set, present_opened, present_closed, same_if, other_if, commute}
 
-done_present : (stage : Stage) → is_done stage ≡ true → is_present stage ≡ true
-done_present Waiting done = cc
-done_present Open done = cc
-done_present Ended done = refl
-done_present Broken done = cc
-done_present Dropping done = refl
-
-there_by : (stage other : Stage) → stage ≡ other → is_present other ≡ true → is_present stage ≡ true
-there_by stage other is there = ap is_present is ∙ there
-
-failed_by : (fault : IoFault) (answer : LinkFault) → answer ≡ read_fault_of fault → IsErrOf {T = LinkEvent} (Err answer) ReadFault → IsErrOf {T = Unit {0}} (Err fault) io.Failed
+failed_by : {T U : Type 0} (fault : IoFault) (answer : LinkFault) → answer ≡ read_fault_of fault → IsErrOf {T = T} (Err answer) ReadFault → IsErrOf {T = U} (Err fault) io.Failed
 failed_by io.Failed answer is failed = refl
 failed_by io.Memory answer is failed = cc
+
+-- a wait or an accept that failed has its cause
+pub open_cause : {T U : Type 0} (before after : ℕ) (fault : IoFault) (answer : LinkFault) → answer ≡ read_fault_of fault → HasCause {T = U} before after (Err fault) → HasOpenCause {T = T} before after (Err answer)
+open_cause before after fault answer is cause = record {
+  later = cause.later;
+  read_fault = λ failed. cause.failed (failed_by fault answer is failed);
+}
 
 -- nothing comes that is told before, and nothing is refused
 untold : (event : LinkEvent) → links.IsNext ComesUntold event
 untold event known = absurd (known refl)
 
-module _ (conns : ℕ) (old new : Option (List ListenEntry)) (connected now : Bool) (place : Place) (stands : Stands old connected conns place) where
-  none_ended : is_present place.stage ≡ true → place.ends ≡ 0
-  none_ended there = no_ends place.ends stands.ended (λ at. not_waiting place.stage there at.0)
+-- the phases behind another stage of one connection
+pub phase_changes : (place : Place) (conn : ℕ) (stage : Stage) → conn < length place.stages → (other : ℕ) → phase_of (stage_in (slice_set place.stages conn stage) other) ≡ links.with_phase conn (phase_of stage) (phases_at place) other
+phase_changes place conn stage less other = ap phase_of (stage_set place.stages conn stage less other) ∙ commute phase_of _ stage (stage_in place.stages other)
 
-  pub close_steps : Logs old new (listen.Closed ∷ []) → is_done place.stage ≡ true → StepsTo conns old new place (closed_place place) []
-  close_steps logs done = record {
-    told = tells_one old new listen.Closed place (closed_place place) [] logs (λ calls is. closed place (port_of calls) done (stands.agrees calls is));
-    went = went_one conns old new listen.Closed logs (λ calls is. closable place (port_of calls) done (stands.agrees calls is));
-  }
+gives_here : (stages : List Stage) (conn : ℕ) (stage : Stage) → conn < length stages → is_given stage ≡ true → is_given (stage_in (slice_set stages conn stage) conn) ≡ true
+gives_here stages conn stage less there = ap is_given (stage_set stages conn stage less conn ∙ same_if conn conn stage (stage_in stages conn) refl) ∙ there
 
-  pub close_stands : Logs old new (listen.Closed ∷ []) → is_done place.stage ≡ true → Stands new now conns (closed_place place)
-  unfolding after_call
-  close_stands logs done = record {
-    agrees = agrees_one old new listen.Closed (closed_place place) logs (λ calls is. record { conn = ap (λ n. n + 1) (stands.agrees calls is).conn; stage = refl });
-    present = λ there. cc;
-    below = λ there. let no : false ≡ true = there in cc;
-    most = let less = stands.below (done_present place.stage done) in omega arith;
-    ended = λ more. absurd (not_waiting place.stage (done_present place.stage done) (stands.ended more).0);
-  }
+pub at_here : (stages : List Stage) (conn : ℕ) (stage : Stage) → conn < length stages → stage_in (slice_set stages conn stage) conn ≡ stage
+at_here stages conn stage less = stage_set stages conn stage less conn ∙ same_if conn conn stage (stage_in stages conn) refl
 
-  pub close_whole : Logs old new (listen.Closed ∷ []) → IsWhole old → IsWhole new
-  unfolding after_call
-  close_whole logs whole = whole_one old new listen.Closed logs (λ port none. refl) whole
+pub elsewhere : (stages : List Stage) (conn other : ℕ) (stage : Stage) → conn < length stages → other ≢ conn → stage_in (slice_set stages conn stage) other ≡ stage_in stages other
+elsewhere stages conn other stage less differ = stage_set stages conn stage less other ∙ other_if other conn stage (stage_in stages other) differ
 
-  pub open_takes : Logs old new (listen.Accepted ∷ []) → place.stage ≡ Waiting → place.conn ≢ conns → conns ≤ 4096 → now ≡ true → TakesNext conns old new now place (record place { stage = Open }) (Ok (event.Opens place.conn))
-  unfolding after_call
-  open_takes logs waits other few there =
-      let most = stands.most in
-      let less : place.conn < conns = omega arith in
-      let none : place.ends ≡ 0 = no_ends place.ends stands.ended (λ at. other at.1) in
-      record {
-        stands = record {
-          agrees = agrees_one old new listen.Accepted (record place { stage = Open }) logs (λ calls is. record { conn = (stands.agrees calls is).conn; stage = refl });
-          present = λ is. there;
-          below = λ is. less;
-          most = stands.most;
-          ended = λ more. absurd (other (stands.ended more).1);
-        };
-        steps = record {
-          told = tells_one old new listen.Accepted place (record place { stage = Open }) (entry.Took (event.Opens place.conn) ∷ []) logs (λ calls is. opened place (port_of calls) waits none (stands.agrees calls is));
-          went = went_one conns old new listen.Accepted logs (λ calls is.
-              ((stands.agrees calls is).stage ∙ ap shown waits, subst (λ n. n < conns) (sym (stands.agrees calls is).conn) less));
-        };
-        whole = λ whole. whole_one old new listen.Accepted logs (λ port none. refl) whole;
-        next = record {
-          order = ((omega arith, phase_here place ∙ ap present_phase waits), λ other. phase_changes place Open other);
-          grammar = untold (event.Opens place.conn);
-          closing = tt;
-        };
-      }
+pub none_done : (before : Closing) (stages : List Stage) → before ≡ closing.Nothing → IsClosing before stages → (conn : ℕ) → is_done (stage_in stages conn) ≡ false
+none_done before stages is there = there.nothing is
+
+to_nothing : (before : Closing) (stages : List Stage) → before ≡ closing.Nothing → ((conn : ℕ) → is_done (stage_in stages conn) ≡ false) → IsClosing before stages
+to_nothing before stages is none = closes_to before stages (subst (λ (c : Closing). Closes c stages) (sym is) none)
+
+module _ (limits : PortLimits) (old new : Option (List PortEntry)) (connections : List Bool) (place : Place) (stands : Stands old connections limits place) where
+  pub present_less : (conn : ℕ) → is_present (stage_at place conn) ≡ true → conn < place.accepted
+  present_less conn there = let less = open_within connections conn (stands.present conn ∙ there) in let same = stands.accepted in omega arith
+
+  pub in_table : (conn : ℕ) → limits.conns ≤ 4096 → conn < place.accepted → conn < length place.stages
+  in_table conn few less = let most = stands.most in let room = stands.room in omega arith
+
+  -- where a connection is open the link isn't at its end
+  pub not_ended : (conn : ℕ) → is_present (stage_at place conn) ≡ true → place.ends ≡ 0
+  not_ended conn there =
+      let fewer = open_fewer connections conn (stands.present conn ∙ there) in
+      let count = stands.count in
+      no_ends place.ends stands.ended (λ all. let one = all.1 in let no : ⊥ = omega arith in no)
+
+  pub closed_less : (conn : ℕ) → is_present (stage_at place conn) ≡ true → place.closed < place.accepted
+  closed_less conn there = let fewer = open_fewer connections conn (stands.present conn ∙ there) in let count = stands.count in omega arith
+
+  pub broken_present : (conn : ℕ) → is_broken (stage_at place conn) ≡ true → is_open conn connections ≡ true
+  broken_present conn broken = stands.present conn ∙ ap is_present (broken_is (stage_at place conn) broken)
+
+  pub ready_within : (conn : ℕ) → limits.conns ≤ 4096 → is_open conn connections ≡ true → conn < 4096
+  ready_within conn few here = let less = open_within connections conn here in let same = stands.accepted in let most = stands.most in omega arith
+
+  pub some_open : place.closed < place.accepted → 0 < open_count connections
+  some_open less = let count = stands.count in omega arith
 
   same_next : (fault : LinkFault) → GoesBy (Some ComesUntold) (Err fault) → NextAt place place (Err fault)
   same_next fault goes = record { order = λ other. refl; grammar = goes; closing = tt }
 
-  -- no call was made, or one that changes nothing
-  pub stays_takes : (fault : LinkFault) → Logs old new [] → now ≡ connected → GoesBy (Some ComesUntold) (Err fault) → TakesNext conns old new now place place (Err fault)
-  stays_takes fault logs same goes = record {
+  pub stays_waits : Logs old new [] → WaitsAt limits old new connections place
+  stays_waits logs = record {
     stands = record {
-      agrees = agrees_none old new place place logs (λ port at. at) stands.agrees;
-      present = λ there. same ∙ stands.present there;
-      below = stands.below;
+      agrees = agrees_none old new place place logs (λ served at. at) stands.agrees;
+      room = stands.room;
+      present = stands.present;
+      accepted = stands.accepted;
+      count = stands.count;
+      behind = stands.behind;
+      closing = stands.closing;
       most = stands.most;
+      at_once = stands.at_once;
       ended = stands.ended;
     };
     steps = record {
-      told = tells_none old new place place [] logs (λ calls is. same_journal place (port_of calls));
-      went = went_none conns old new logs;
+      told = tells_none old new place place [] logs (λ calls is. same_journal place (served_of calls));
+      went = went_none limits old new logs;
     };
     whole = whole_none old new logs;
-    next = same_next fault goes;
   }
 
-  pub open_fails : (fault : IoFault) (answer : LinkFault) → answer ≡ read_fault_of fault → Accepts old new (Err fault) → place.stage ≡ Waiting → place.conn ≢ conns → now ≡ connected → TakesNext conns old new now place place (Err answer)
+  at_ready : (ready : Option Ready) (served : Served) → IsAt place served → IsAt place (with_ready ready served)
+  at_ready ready served at = record { stages = at.stages; accepted = at.accepted; closed = at.closed }
+
+  -- a call was made that changes nothing but what was answered to a wait
+  pub still_waits : (made_call : PortEntry) (ready : Option Ready) → Logs old new (made_call ∷ []) → ((served : Served) → after_call served made_call ≡ with_ready ready served) → ((calls : List PortEntry) → old ≡ Some calls → IsCall limits (served_of calls) made_call)
+      → WaitsAt limits old new connections place
+  still_waits made_call ready logs same is = record {
+    stands = record {
+      agrees = agrees_one old new made_call place logs (λ calls told. subst (IsAt place) (sym (same (served_of calls))) (at_ready ready (served_of calls) (stands.agrees calls told)));
+      room = stands.room;
+      present = stands.present;
+      accepted = stands.accepted;
+      count = stands.count;
+      behind = stands.behind;
+      closing = stands.closing;
+      most = stands.most;
+      at_once = stands.at_once;
+      ended = stands.ended;
+    };
+    steps = record {
+      told = tells_one old new made_call place place [] logs (λ calls told. ap (link_journal place) (same (served_of calls)) ∙ ready_journal place (served_of calls) ready ∙ same_journal place (served_of calls));
+      went = went_one limits old new made_call logs is;
+    };
+    whole = whole_one old new made_call logs (λ served none. ap (λ (s : Served). s.part) (same served) ∙ none);
+  }
+
+  -- so is none where memory ran out
+  pub fails_takes : (fault : LinkFault) → GoesBy (Some ComesUntold) (Err fault) → WaitsAt limits old new connections place → TakesNext limits old new connections place place (Err fault)
+  fails_takes fault goes waits = record { stands = waits.stands; steps = waits.steps; whole = waits.whole; next = same_next fault goes }
+
+  -- where none is to be closed
+  has_closed : place.closing ≡ closing.Nothing → NoneBroken place → (served : Served) → IsAt place served → (conn : ℕ) → is_closable (served.stages conn) ≡ false
+  has_closed nothing none served at conn =
+      none_closable (stage_at place conn) (served.stages conn) (none_done place.closing place.stages nothing stands.closing conn) (none conn) (at.stages conn)
+
+  same_may : (served : Served) → IsAt place served → may_accept limits place ≡ can_accept limits served
+  same_may served at =
+      ap (λ accepted. nat_lt accepted limits.conns && nat_lt accepted (place.closed + limits.at_once)) (sym at.accepted)
+      ∙ ap (λ closed. nat_lt served.accepted limits.conns && nat_lt served.accepted (closed + limits.at_once)) (sym at.closed)
+
+  may_be : may_accept limits place ≡ true → (served : Served) → IsAt place served → can_accept limits served ≡ true
+  may_be may served at = sym (same_may served at) ∙ may
+
+  pub wait_waits : (may : Bool) (result : Result Ready IoFault) → PortWaits old new may result → place.closing ≡ closing.Nothing → NoneBroken place → may ≡ may_accept limits place → WaitsAt limits old new connections place
   unfolding after_call
-  open_fails io.Memory answer is logs waits other same = subst (λ (a : LinkFault). TakesNext conns old new now place place (Err a)) (sym is) (stays_takes Memory logs same tt)
-  open_fails io.Failed answer is logs waits other same =
-      let most = stands.most in
-      let less : place.conn < conns = omega arith in
-      subst (λ (a : LinkFault). TakesNext conns old new now place place (Err a)) (sym is)
+  wait_waits may (Ok ready) logs nothing none is =
+      still_waits (made.Waited may ready) (Some ready) logs (λ served. refl)
+      (λ calls told. ((λ conn. has_closed nothing none (served_of calls) (stands.agrees calls told) conn), is ∙ same_may (served_of calls) (stands.agrees calls told)))
+  wait_waits may (Err io.Failed) logs nothing none is = still_waits (made.Failed call.Wait) None logs (λ served. refl) (λ calls told conn. has_closed nothing none (served_of calls) (stands.agrees calls told) conn)
+  wait_waits may (Err io.Memory) logs nothing none is = stays_waits logs
+
+  -- a client was accepted
+  pub open_takes : (now : List Bool) → Logs old new (made.Accepted (length connections) ∷ []) → now ≡ connections ++ true ∷ [] → may_accept limits place ≡ true → WasReady Accepts old → limits.conns ≤ 4096 → place.closing ≡ closing.Nothing
+      → TakesNext limits old new now place (opened_place place) (Ok (event.Opens place.accepted))
+  unfolding after_call
+  open_takes now told is may was few nothing =
+      let parts = and_parts _ _ may in
+      let less : place.accepted < limits.conns = ltb-true place.accepted limits.conns parts.0 in
+      let fewer : place.accepted < place.closed + limits.at_once = ltb-true place.accepted (place.closed + limits.at_once) parts.1 in
+      let room = stands.room in
+      let inside : place.accepted < length place.stages = omega arith in
+      let logs : Logs old new (made.Accepted place.accepted ∷ []) = subst (λ (n : ℕ). Logs old new (made.Accepted n ∷ [])) stands.accepted told in
+      let none : place.ends ≡ 0 = no_ends place.ends stands.ended (λ all. let one = all.0 in let no : ⊥ = omega arith in no) in
+      let fresh : stage_at place place.accepted ≡ Unopened = stands.behind place.accepted (omega arith) in
+      subst (λ (c : List Bool). TakesNext limits old new c place (opened_place place) (Ok (event.Opens place.accepted))) (sym is)
       (record {
         stands = record {
-          agrees = agrees_one old new (listen.Failed call.Accept) place logs (λ calls is. record { conn = (stands.agrees calls is).conn; stage = (stands.agrees calls is).stage });
-          present = λ there. same ∙ stands.present there;
-          below = stands.below;
-          most = stands.most;
-          ended = stands.ended;
+          agrees = agrees_one old new (made.Accepted place.accepted) (opened_place place) logs (λ calls is_told. record {
+            stages = λ other. shown_set place.stages place.accepted Open Open (served_of calls).stages inside refl (stands.agrees calls is_told).stages other;
+            accepted = ap (λ (n : ℕ). n + 1) (stands.agrees calls is_told).accepted;
+            closed = (stands.agrees calls is_told).closed;
+          });
+          room = length-set place.stages place.accepted Open ∙ stands.room;
+          present = present_opened connections place.stages place.accepted inside stands.accepted stands.present;
+          accepted = let size : length (connections ++ true ∷ []) ≡ length connections + 1 = length-append connections (true ∷ []) in let same = stands.accepted in omega arith;
+          count = let more = open_more connections in let count = stands.count in omega arith;
+          behind = λ conn past. elsewhere place.stages place.accepted conn Open inside (λ same. let no : ⊥ = omega arith in no) ∙ stands.behind conn (omega arith);
+          closing = to_nothing place.closing (slice_set place.stages place.accepted Open) nothing
+              (all_set is_done false place.stages place.accepted Open inside refl (λ other differ. none_done place.closing place.stages nothing stands.closing other));
+          most = omega arith;
+          at_once = omega arith;
+          ended = λ more. let no : ⊥ = omega arith in absurd no;
         };
         steps = record {
-          told = tells_one old new (listen.Failed call.Accept) place place [] logs (λ calls is. same_journal place (port_of calls));
-          went = went_one conns old new (listen.Failed call.Accept) logs (λ calls is.
-              ((stands.agrees calls is).stage ∙ ap shown waits, subst (λ n. n < conns) (sym (stands.agrees calls is).conn) less));
+          told = tells_one old new (made.Accepted place.accepted) place (opened_place place) (entry.Took (event.Opens place.accepted) ∷ []) logs (λ calls is_told. opened place (served_of calls) none);
+          went = went_one limits old new (made.Accepted place.accepted) logs (λ calls is_told. (sym (stands.agrees calls is_told).accepted, may_be may (served_of calls) (stands.agrees calls is_told), was calls is_told));
         };
-        whole = λ whole. whole_one old new (listen.Failed call.Accept) logs (λ port none. none) whole;
-        next = same_next ReadFault tt;
+        whole = whole_one old new (made.Accepted place.accepted) logs (λ served empty. refl);
+        next = record {
+          order = ((omega arith, ap phase_of fresh), λ other. phase_changes place place.accepted Open inside other);
+          grammar = untold (event.Opens place.accepted);
+          closing = tt;
+        };
       })
 
-  -- a piece was taken, or the end of them
-  take_call : (bytes : List ℕ) (taken : ListenEntry) (port : Port) → IsTake bytes taken → after_call port taken ≡ takes_bytes bytes port
+  pub open_fails : (fault : IoFault) (answer : LinkFault) → answer ≡ read_fault_of fault → PortAccepts old new (length connections) (Err fault) → may_accept limits place ≡ true → WasReady Accepts old → TakesNext limits old new connections place place (Err answer)
   unfolding after_call
-  take_call bytes (listen.Took took room) port is = ap (λ (l : List ℕ). takes_bytes l port) is.0
-  take_call bytes (listen.Failed call.Take) port is = ap (λ (l : List ℕ). takes_bytes l port) (sym is)
-  take_call bytes (listen.Failed call.Bind) port is = absurd is
-  take_call bytes (listen.Failed call.Accept) port is = absurd is
-  take_call bytes (listen.Failed call.Give) port is = absurd is
-  take_call bytes (listen.Bound number) port is = absurd is
-  take_call bytes listen.Accepted port is = absurd is
-  take_call bytes (listen.Gave gave offered) port is = absurd is
-  take_call bytes listen.Closed port is = absurd is
+  open_fails io.Memory answer is logs may was = subst (λ (a : LinkFault). TakesNext limits old new connections place place (Err a)) (sym is) (fails_takes Memory tt (stays_waits logs))
+  open_fails io.Failed answer is logs may was = subst (λ (a : LinkFault). TakesNext limits old new connections place place (Err a)) (sym is)
+      (fails_takes ReadFault tt (still_waits (made.Failed call.Accept) None logs (λ served. refl) (λ calls told. (may_be may (served_of calls) (stands.agrees calls told), was calls told))))
 
-  take_is : (bytes : List ℕ) (taken : ListenEntry) (port : Port) → IsTake bytes taken → port.stage ≡ Open → IsCall conns port taken
-  take_is bytes (listen.Took took room) port is there = (there, is.1)
-  take_is bytes (listen.Failed call.Take) port is there = there
-  take_is bytes (listen.Failed call.Bind) port is there = absurd is
-  take_is bytes (listen.Failed call.Accept) port is there = absurd is
-  take_is bytes (listen.Failed call.Give) port is there = absurd is
-  take_is bytes (listen.Bound number) port is there = absurd is
-  take_is bytes listen.Accepted port is there = absurd is
-  take_is bytes (listen.Gave gave offered) port is there = absurd is
-  take_is bytes listen.Closed port is there = absurd is
+  -- a piece was taken, or the end of them
+  take_call : (conn : ℕ) (bytes : List ℕ) (made_call : PortEntry) (served : Served) → IsTake conn bytes made_call → after_call served made_call ≡ takes_bytes conn bytes served
+  unfolding after_call
+  take_call conn bytes (made.Took of took_bytes room) served is = ap (λ (c : ℕ). takes_bytes c took_bytes served) is.0 ∙ ap (λ (l : List ℕ). takes_bytes conn l served) is.1
+  take_call conn bytes (made.Failed (call.Take of)) served is = ap (λ (c : ℕ). takes_bytes c [] served) is.0 ∙ ap (λ (l : List ℕ). takes_bytes conn l served) (sym is.1)
+  take_call conn bytes (made.Failed call.Bind) served is = absurd is
+  take_call conn bytes (made.Failed call.Wait) served is = absurd is
+  take_call conn bytes (made.Failed call.Accept) served is = absurd is
+  take_call conn bytes (made.Failed (call.Give of)) served is = absurd is
+  take_call conn bytes (made.Bound number) served is = absurd is
+  take_call conn bytes (made.Waited may ready) served is = absurd is
+  take_call conn bytes (made.Accepted of) served is = absurd is
+  take_call conn bytes (made.Gave of gave offered) served is = absurd is
+  take_call conn bytes (made.Closed of) served is = absurd is
 
-  none_part : (bytes : List ℕ) (port : Port) → (takes_bytes bytes port).part ≡ []
-  none_part [] port = refl
-  none_part (byte ∷ bytes) port = refl
+  take_is : (conn : ℕ) (bytes : List ℕ) (made_call : PortEntry) (served : Served) → IsTake conn bytes made_call → served.stages conn ≡ Open → served.ready ≡ Some (Reads conn) → IsCall limits served made_call
+  take_is conn bytes (made.Took of took_bytes room) served is there was = (ap (λ (c : ℕ). served.stages c) is.0 ∙ there, is.2, was ∙ ap (λ (c : ℕ). Some (Reads c)) (sym is.0))
+  take_is conn bytes (made.Failed (call.Take of)) served is there was = (ap (λ (c : ℕ). served.stages c) is.0 ∙ there, was ∙ ap (λ (c : ℕ). Some (Reads c)) (sym is.0))
+  take_is conn bytes (made.Failed call.Bind) served is there was = absurd is
+  take_is conn bytes (made.Failed call.Wait) served is there was = absurd is
+  take_is conn bytes (made.Failed call.Accept) served is there was = absurd is
+  take_is conn bytes (made.Failed (call.Give of)) served is there was = absurd is
+  take_is conn bytes (made.Bound number) served is there was = absurd is
+  take_is conn bytes (made.Waited may ready) served is there was = absurd is
+  take_is conn bytes (made.Accepted of) served is there was = absurd is
+  take_is conn bytes (made.Gave of gave offered) served is there was = absurd is
+  take_is conn bytes (made.Closed of) served is there was = absurd is
 
-  take_whole : (bytes : List ℕ) (taken : ListenEntry) → IsTake bytes taken → Logs old new (taken ∷ []) → IsWhole old → IsWhole new
-  take_whole bytes taken is logs whole = whole_one old new taken logs (λ port none. ap (λ (made : Port). made.part) (take_call bytes taken port is) ∙ none_part bytes port) whole
+  none_part : (conn : ℕ) (bytes : List ℕ) (served : Served) → (takes_bytes conn bytes served).part ≡ []
+  none_part conn [] served = refl
+  none_part conn (byte ∷ bytes) served = refl
 
-  take_went : (bytes : List ℕ) (taken : ListenEntry) → IsTake bytes taken → Logs old new (taken ∷ []) → place.stage ≡ Open → WentOn conns old new
-  take_went bytes taken is logs is_open = went_one conns old new taken logs (λ calls told. take_is bytes taken (port_of calls) is ((stands.agrees calls told).stage ∙ ap shown is_open))
+  take_whole : (conn : ℕ) (bytes : List ℕ) (made_call : PortEntry) → IsTake conn bytes made_call → Logs old new (made_call ∷ []) → IsWhole old → IsWhole new
+  take_whole conn bytes made_call is logs whole = whole_one old new made_call logs (λ served empty. ap (λ (s : Served). s.part) (take_call conn bytes made_call served is) ∙ none_part conn bytes served) whole
 
-  pub piece_takes : (items : List ℕ) (taken : ListenEntry) → IsTake items taken → Logs old new (taken ∷ []) → 0 < length items → place.stage ≡ Open → conns ≤ 4096 → now ≡ true → TakesNext conns old new now place place (Ok (event.Piece place.conn items))
-  piece_takes [] taken is logs some is_open few there = absurd (omega arith)
-  piece_takes (byte ∷ bytes) taken is logs some is_open few there =
-      let less = stands.below (there_by place.stage Open is_open refl) in
-      let none = none_ended (there_by place.stage Open is_open refl) in
+  take_went : (conn : ℕ) (bytes : List ℕ) (made_call : PortEntry) → IsTake conn bytes made_call → Logs old new (made_call ∷ []) → stage_at place conn ≡ Open → WasReady (Reads conn) old → WentOn limits old new
+  take_went conn bytes made_call is logs is_open_now was =
+      went_one limits old new made_call logs (λ calls told. take_is conn bytes made_call (served_of calls) is ((stands.agrees calls told).stages conn ∙ ap shown is_open_now) (was calls told))
+
+  pub piece_takes : (conn : ℕ) (items : List ℕ) (made_call : PortEntry) → IsTake conn items made_call → Logs old new (made_call ∷ []) → 0 < length items → stage_at place conn ≡ Open → WasReady (Reads conn) old → limits.conns ≤ 4096
+      → TakesNext limits old new connections place place (Ok (event.Piece conn items))
+  piece_takes conn [] made_call is logs some is_open_now was few = absurd (omega arith)
+  piece_takes conn (byte ∷ bytes) made_call is logs some is_open_now was few =
+      let there : is_present (stage_at place conn) ≡ true = ap is_present is_open_now in
+      let less = present_less conn there in
+      let most = stands.most in
       record {
         stands = record {
-          agrees = agrees_one old new taken place logs (λ calls told. subst (IsAt place) (sym (take_call (byte ∷ bytes) taken (port_of calls) is))
-              (record { conn = (stands.agrees calls told).conn; stage = (stands.agrees calls told).stage }));
-          present = λ is_there. there;
-          below = stands.below;
+          agrees = agrees_one old new made_call place logs (λ calls told. subst (IsAt place) (sym (take_call conn (byte ∷ bytes) made_call (served_of calls) is))
+              (record { stages = (stands.agrees calls told).stages; accepted = (stands.agrees calls told).accepted; closed = (stands.agrees calls told).closed }));
+          room = stands.room;
+          present = stands.present;
+          accepted = stands.accepted;
+          count = stands.count;
+          behind = stands.behind;
+          closing = stands.closing;
           most = stands.most;
+          at_once = stands.at_once;
           ended = stands.ended;
         };
         steps = record {
-          told = tells_one old new taken place place (entry.Took (event.Piece place.conn (byte ∷ bytes)) ∷ []) logs (λ calls told.
-              ap (link_journal place) (take_call (byte ∷ bytes) taken (port_of calls) is) ∙ took place (port_of calls) byte bytes is_open none (stands.agrees calls told));
-          went = take_went (byte ∷ bytes) taken is logs is_open;
+          told = tells_one old new made_call place place (entry.Took (event.Piece conn (byte ∷ bytes)) ∷ []) logs (λ calls told.
+              ap (link_journal place) (take_call conn (byte ∷ bytes) made_call (served_of calls) is) ∙ took place (served_of calls) conn byte bytes (not_ended conn there));
+          went = take_went conn (byte ∷ bytes) made_call is logs is_open_now was;
         };
-        whole = take_whole (byte ∷ bytes) taken is logs;
+        whole = take_whole conn (byte ∷ bytes) made_call is logs;
         next = record {
-          order = ((omega arith, phase_here place ∙ ap present_phase is_open), λ other. refl);
-          grammar = untold (event.Piece place.conn (byte ∷ bytes));
+          order = ((omega arith, ap phase_of is_open_now), λ other. refl);
+          grammar = untold (event.Piece conn (byte ∷ bytes));
           closing = tt;
         };
       }
 
-  pub close_takes : (items : List ℕ) (taken : ListenEntry) → IsTake items taken → Logs old new (taken ∷ []) → items ≡ [] → place.stage ≡ Open → conns ≤ 4096 → now ≡ true
-      → TakesNext conns old new now place (record place { stage = Ended }) (Ok (event.Closes place.conn))
-  close_takes items taken is logs empty is_open few there =
-      let less = stands.below (there_by place.stage Open is_open refl) in
-      let none = none_ended (there_by place.stage Open is_open refl) in
-      let later : Place = record place { stage = Ended } in
-      let bare : IsTake [] taken = subst (λ (l : List ℕ). IsTake l taken) empty is in
+  pub end_takes : (conn : ℕ) (items : List ℕ) (made_call : PortEntry) → IsTake conn items made_call → Logs old new (made_call ∷ []) → items ≡ [] → stage_at place conn ≡ Open → WasReady (Reads conn) old → limits.conns ≤ 4096 → place.closing ≡ closing.Nothing
+      → TakesNext limits old new connections place (ended_place conn place) (Ok (event.Closes conn))
+  end_takes conn items made_call is logs empty is_open_now was few nothing =
+      let there : is_present (stage_at place conn) ≡ true = ap is_present is_open_now in
+      let less = present_less conn there in
+      let most = stands.most in
+      let inside = in_table conn few less in
+      let later : Place = ended_place conn place in
+      let bare : IsTake conn [] made_call = subst (λ (l : List ℕ). IsTake conn l made_call) empty is in
+      let none = not_ended conn there in
       record {
         stands = record {
-          agrees = agrees_one old new taken later logs (λ calls told. subst (IsAt later) (sym (take_call [] taken (port_of calls) bare)) (record { conn = (stands.agrees calls told).conn; stage = refl }));
-          present = λ is_there. there;
-          below = λ is_there. less;
+          agrees = agrees_one old new made_call later logs (λ calls told. subst (IsAt later) (sym (take_call conn [] made_call (served_of calls) bare)) (record {
+            stages = λ other. shown_set place.stages conn Ended Ended (served_of calls).stages inside refl (stands.agrees calls told).stages other;
+            accepted = (stands.agrees calls told).accepted;
+            closed = (stands.agrees calls told).closed;
+          }));
+          room = length-set place.stages conn Ended ∙ stands.room;
+          present = λ other. stands.present other ∙ sym (keeps_set is_present place.stages conn Ended inside (sym there) other);
+          accepted = stands.accepted;
+          count = stands.count;
+          behind = λ other past. elsewhere place.stages conn other Ended inside (λ same. let no : ⊥ = omega arith in no) ∙ stands.behind other past;
+          closing = closes_to (closing.Due conn) (slice_set place.stages conn Ended)
+              (at_here place.stages conn Ended inside, λ other differ. ap is_done (elsewhere place.stages conn other Ended inside differ) ∙ none_done place.closing place.stages nothing stands.closing other);
           most = stands.most;
-          ended = λ more. absurd (not_waiting place.stage (there_by place.stage Open is_open refl) (stands.ended more).0);
+          at_once = stands.at_once;
+          ended = stands.ended;
         };
         steps = record {
-          told = tells_one old new taken place later (entry.Took (event.Closes place.conn) ∷ []) logs (λ calls told.
-              ap (link_journal later) (take_call [] taken (port_of calls) bare) ∙ ended place (port_of calls) is_open none (stands.agrees calls told));
-          went = take_went [] taken bare logs is_open;
+          told = tells_one old new made_call place later (entry.Took (event.Closes conn) ∷ []) logs (λ calls told.
+              ap (link_journal later) (take_call conn [] made_call (served_of calls) bare) ∙ ended place (served_of calls) conn none);
+          went = take_went conn [] made_call bare logs is_open_now was;
         };
-        whole = take_whole [] taken bare logs;
+        whole = take_whole conn [] made_call bare logs;
         next = record {
-          order = ((omega arith, phase_here place ∙ ap present_phase is_open), λ other. phase_changes place Ended other);
-          grammar = untold (event.Closes place.conn);
-          closing = gives_here later refl;
+          order = ((omega arith, ap phase_of is_open_now), λ other. phase_changes place conn Ended inside other);
+          grammar = untold (event.Closes conn);
+          closing = gives_here place.stages conn Ended inside refl;
         };
       }
 
-  pub take_fails : (fault : LinkFault) → TakesPiece old new (Err fault) → now ≡ connected → TakesNext conns old new now place place (Err fault)
-  take_fails Memory logs same = stays_takes Memory logs same tt
-  take_fails ReadFault logs same = absurd logs
-  take_fails WriteFault logs same = absurd logs
-  take_fails (Refused kind offset) logs same = absurd logs
+  pub take_fails : (conn : ℕ) (fault : LinkFault) → TakesPiece conn old new (Err fault) → TakesNext limits old new connections place place (Err fault)
+  take_fails conn Memory logs = fails_takes Memory tt (stays_waits logs)
+  take_fails conn ReadFault logs = absurd logs
+  take_fails conn WriteFault logs = absurd logs
+  take_fails conn (Refused kind offset) logs = absurd logs
 
--- without a call on the listener
-module _ (conns : ℕ) (told : Option (List ListenEntry)) (connected : Bool) (place : Place) (stands : Stands told connected conns place) where
-  pub end_takes : place.stage ≡ Waiting → place.conn ≡ conns → TakesNext conns told told connected place (record place { ends = place.ends + 1 }) (Ok event.Ends)
-  end_takes waits all = record {
-    stands = record { agrees = λ calls is. record { conn = (stands.agrees calls is).conn; stage = (stands.agrees calls is).stage }; present = stands.present; below = stands.below; most = stands.most; ended = λ more. (waits, all) };
-    steps = record {
-      told = tells_none told told place (record place { ends = place.ends + 1 }) (entry.Took event.Ends ∷ []) (logs_same told) (λ calls is. ended_more place (port_of calls));
-      went = calls_same conns told;
-    };
-    whole = λ whole. whole;
-    next = record { order = (tt, λ other. refl); grammar = untold event.Ends; closing = tt };
-  }
+  -- a connection that is open at the port was closed
+  closed_stands : (conn : ℕ) (stage : Stage) (after : Closing) → conn < length place.stages → is_present (stage_at place conn) ≡ true → is_present stage ≡ false → shown stage ≡ Closed → Logs old new (made.Closed conn ∷ [])
+      → IsClosing after (slice_set place.stages conn stage)
+      → Stands new (without conn connections) limits (record place { stages = slice_set place.stages conn stage; closed = place.closed + 1; closing = after })
+  unfolding after_call
+  closed_stands conn stage after inside there gone is_shown logs is_closing =
+      let less = present_less conn there in
+      let fewer = open_fewer connections conn (stands.present conn ∙ there) in
+      let count = stands.count in
+      let none = not_ended conn there in
+      record {
+        agrees = agrees_one old new (made.Closed conn) (record place { stages = slice_set place.stages conn stage; closed = place.closed + 1; closing = after }) logs (λ calls told. record {
+          stages = λ other. shown_set place.stages conn stage Closed (served_of calls).stages inside (sym is_shown) (stands.agrees calls told).stages other;
+          accepted = (stands.agrees calls told).accepted;
+          closed = ap (λ (n : ℕ). n + 1) (stands.agrees calls told).closed;
+        });
+        room = length-set place.stages conn stage ∙ stands.room;
+        present = present_closed connections place.stages conn stage inside (stands.present conn ∙ there) gone stands.present;
+        accepted = length-set connections conn false ∙ stands.accepted;
+        count = omega arith;
+        behind = λ other past. elsewhere place.stages conn other stage inside (λ same. let no : ⊥ = omega arith in no) ∙ stands.behind other past;
+        closing = is_closing;
+        most = stands.most;
+        at_once = let once = stands.at_once in omega arith;
+        ended = λ more. let no : ⊥ = omega arith in absurd no;
+      }
 
-  pub memory_takes : TakesNext conns told told connected place place (Err Memory)
-  memory_takes = stays_takes conns told told connected connected place stands Memory (logs_same told) refl tt
+  closed_whole : (conn : ℕ) → Logs old new (made.Closed conn ∷ []) → IsWhole old → IsWhole new
+  unfolding after_call
+  closed_whole conn logs whole = whole_one old new (made.Closed conn) logs (λ served empty. refl) whole
 
-  pub drop_takes : place.stage ≡ Broken → conns ≤ 4096 → TakesNext conns told told connected place (record place { stage = Dropping }) (Ok (event.Closes place.conn))
-  drop_takes is_broken few =
-      let there = there_by place.stage Broken is_broken refl in
-      let less = stands.below there in
-      let later : Place = record place { stage = Dropping } in
+  -- a connection to which a give failed is closed
+  pub drop_takes : (now : List Bool) (conn : ℕ) → is_broken (stage_at place conn) ≡ true → limits.conns ≤ 4096 → place.closing ≡ closing.Nothing → Logs old new (made.Closed conn ∷ []) → now ≡ without conn connections
+      → TakesNext limits old new now place (dropped_place conn place) (Ok (event.Closes conn))
+  unfolding after_call
+  drop_takes now conn broken few nothing logs is =
+      let is_now = broken_is (stage_at place conn) broken in
+      let there : is_present (stage_at place conn) ≡ true = ap is_present is_now in
+      let less = present_less conn there in
+      let most = stands.most in
+      let inside = in_table conn few less in
+      let none = not_ended conn there in
+      subst (λ (c : List Bool). TakesNext limits old new c place (dropped_place conn place) (Ok (event.Closes conn))) (sym is)
+      (record {
+        stands = closed_stands conn Dropped (closing.Made conn) inside there refl refl logs
+            (closes_to (closing.Made conn) (slice_set place.stages conn Dropped)
+            (at_here place.stages conn Dropped inside, λ other differ. ap is_done (elsewhere place.stages conn other Dropped inside differ) ∙ none_done place.closing place.stages nothing stands.closing other));
+        steps = record {
+          told = tells_one old new (made.Closed conn) place (dropped_place conn place) (entry.Took (event.Closes conn) ∷ []) logs (λ calls told.
+              dropped place (served_of calls) conn ((stands.agrees calls told).stages conn ∙ ap shown is_now) none);
+          went = went_one limits old new (made.Closed conn) logs (λ calls told. ap is_closable ((stands.agrees calls told).stages conn ∙ ap shown is_now));
+        };
+        whole = closed_whole conn logs;
+        next = record {
+          order = ((omega arith, ap phase_of is_now), λ other. phase_changes place conn Dropped inside other);
+          grammar = untold (event.Closes conn);
+          closing = gives_here place.stages conn Dropped inside refl;
+        };
+      })
+
+  -- what is to be closed is closed
+  due_stage : (conn : ℕ) → place.closing ≡ closing.Due conn → Closes (closing.Due conn) place.stages
+  due_stage conn is = (stands.closing.due conn is, stands.closing.due_alone conn is)
+
+  made_stage : (conn : ℕ) → place.closing ≡ closing.Made conn → Closes (closing.Made conn) place.stages
+  made_stage conn is = (stands.closing.made conn is, stands.closing.made_alone conn is)
+
+  pub due_below : (conn : ℕ) → place.closing ≡ closing.Due conn → limits.conns ≤ 4096 → conn < 4096
+  due_below conn is few = let less = present_less conn (ap is_present (due_stage conn is).0) in let most = stands.most in omega arith
+
+  pub due_present : (conn : ℕ) → place.closing ≡ closing.Due conn → is_open conn connections ≡ true
+  due_present conn is = stands.present conn ∙ ap is_present (due_stage conn is).0
+
+  pub due_settles : (now : List Bool) (conn : ℕ) → place.closing ≡ closing.Due conn → limits.conns ≤ 4096 → Logs old new (made.Closed conn ∷ []) → now ≡ without conn connections → Settles limits old new now place (closed_place conn place)
+  unfolding after_call
+  due_settles now conn due few logs is =
+      let there = due_stage conn due in
+      let less = present_less conn (ap is_present there.0) in
+      let inside = in_table conn few less in
+      subst (λ (c : List Bool). Settles limits old new c place (closed_place conn place)) (sym is)
+      (record {
+        stands = closed_stands conn Closed closing.Nothing inside (ap is_present there.0) refl refl logs
+            (closes_to closing.Nothing (slice_set place.stages conn Closed) (all_set is_done false place.stages conn Closed inside refl there.1));
+        steps = record {
+          told = tells_one old new (made.Closed conn) place (closed_place conn place) [] logs (λ calls told. closed place (served_of calls) conn ((stands.agrees calls told).stages conn ∙ ap shown there.0));
+          went = went_one limits old new (made.Closed conn) logs (λ calls told. ap is_closable ((stands.agrees calls told).stages conn ∙ ap shown there.0));
+        };
+        whole = closed_whole conn logs;
+        phases = keeps_set phase_of place.stages conn Closed inside (sym (ap phase_of there.0));
+        nothing = refl;
+      })
+
+-- without a call on the port
+module _ (limits : PortLimits) (told : Option (List PortEntry)) (connections : List Bool) (place : Place) (stands : Stands told connections limits place) where
+  pub end_takes_none : place.closed ≡ limits.conns → TakesNext limits told told connections place (record place { ends = place.ends + 1 }) (Ok event.Ends)
+  end_takes_none all =
+      let count = stands.count in
+      let most = stands.most in
       record {
         stands = record {
-          agrees = λ calls is. record { conn = (stands.agrees calls is).conn; stage = (stands.agrees calls is).stage ∙ ap shown is_broken };
-          present = λ is_there. stands.present there;
-          below = λ is_there. less;
+          agrees = λ calls is. record { stages = (stands.agrees calls is).stages; accepted = (stands.agrees calls is).accepted; closed = (stands.agrees calls is).closed };
+          room = stands.room;
+          present = stands.present;
+          accepted = stands.accepted;
+          count = stands.count;
+          behind = stands.behind;
+          closing = stands.closing;
           most = stands.most;
-          ended = λ more. absurd (not_waiting place.stage there (stands.ended more).0);
+          at_once = stands.at_once;
+          ended = λ more. (omega arith, omega arith);
         };
         steps = record {
-          told = tells_none told told place later (entry.Took (event.Closes place.conn) ∷ []) (logs_same told)
-              (λ calls is. dropped place (port_of calls) is_broken (no_ends place.ends stands.ended (λ at. not_waiting place.stage there at.0)) (stands.agrees calls is));
-          went = calls_same conns told;
+          told = tells_none told told place (record place { ends = place.ends + 1 }) (entry.Took event.Ends ∷ []) (logs_same told) (λ calls is. ended_more place (served_of calls));
+          went = calls_same limits told;
         };
         whole = λ whole. whole;
-        next = record {
-          order = ((omega arith, phase_here place ∙ ap present_phase is_broken), λ other. phase_changes place Dropping other);
-          grammar = untold (event.Closes place.conn);
-          closing = gives_here later refl;
-        };
+        next = record { order = (tt, λ other. refl); grammar = untold event.Ends; closing = tt };
       }
 
--- a close, and then the next connection
-pub close_then : (conns : ℕ) (old mid new : Option (List ListenEntry)) (now : Bool) (place later : Place) (result : Result LinkEvent LinkFault) → is_done place.stage ≡ true → StepsTo conns old mid place (closed_place place) []
-    → (IsWhole old → IsWhole mid) → TakesNext conns mid new now (closed_place place) later result → TakesNext conns old new now place later result
-close_then conns old mid new now place later result done steps whole takes = record {
+  pub memory_takes : TakesNext limits told told connections place place (Err Memory)
+  memory_takes = fails_takes limits told told connections place stands Memory tt (stays_waits limits told told connections place stands (logs_same told))
+
+  pub nothing_settles : place.closing ≡ closing.Nothing → Settles limits told told connections place place
+  nothing_settles is =
+      let waits = stays_waits limits told told connections place stands (logs_same told) in
+      record { stands = stands; steps = waits.steps; whole = waits.whole; phases = λ other. refl; nothing = is }
+
+  pub made_below : (conn : ℕ) → place.closing ≡ closing.Made conn → limits.conns ≤ 4096 → conn < 4096
+  made_below conn is few = in_case (cases_lt conn place.accepted)
+    where
+      in_case : (conn < place.accepted) ⊎ (place.accepted ≤ conn) → conn < 4096
+      in_case (inl less) = let most = stands.most in omega arith
+      in_case (inr past) =
+          let there = made_stage limits told told connections place stands conn is in
+          let no : Unopened ≡ Dropped = sym (stands.behind conn past) ∙ there.0 in cc
+
+  pub made_settles : (conn : ℕ) → place.closing ≡ closing.Made conn → conn < 4096 → Settles limits told told connections place (settled_place conn place)
+  made_settles conn is less =
+      let there = made_stage limits told told connections place stands conn is in
+      let room = stands.room in
+      let inside : conn < length place.stages = omega arith in
+      record {
+        stands = record {
+          agrees = λ calls is_told. record {
+            stages = λ other. (stands.agrees calls is_told).stages other ∙ sym (keeps_set shown place.stages conn Closed inside (sym (ap shown there.0)) other);
+            accepted = (stands.agrees calls is_told).accepted;
+            closed = (stands.agrees calls is_told).closed;
+          };
+          room = length-set place.stages conn Closed ∙ stands.room;
+          present = λ other. stands.present other ∙ sym (keeps_set is_present place.stages conn Closed inside (sym (ap is_present there.0)) other);
+          accepted = stands.accepted;
+          count = stands.count;
+          behind = λ other past. elsewhere place.stages conn other Closed inside (λ same.
+              let no : Unopened ≡ Dropped = sym (stands.behind other past) ∙ ap (λ (n : ℕ). stage_in place.stages n) same ∙ there.0 in cc) ∙ stands.behind other past;
+          closing = closes_to closing.Nothing (slice_set place.stages conn Closed) (all_set is_done false place.stages conn Closed inside refl there.1);
+          most = stands.most;
+          at_once = stands.at_once;
+          ended = stands.ended;
+        };
+        steps = record {
+          told = tells_none told told place (settled_place conn place) [] (logs_same told) (λ calls is_told. settled place (served_of calls) conn);
+          went = calls_same limits told;
+        };
+        whole = λ whole. whole;
+        phases = keeps_set phase_of place.stages conn Closed inside (sym (ap phase_of there.0));
+        nothing = refl;
+      }
+
+-- what was answered before is made, and then the next event is taken
+pub settle_then : (limits : PortLimits) (old mid new : Option (List PortEntry)) (between now : List Bool) (place mid_place later : Place) (result : Result LinkEvent LinkFault) → Settles limits old mid between place mid_place
+    → TakesNext limits mid new now mid_place later result → TakesNext limits old new now place later result
+settle_then limits old mid new between now place mid_place later result settles takes = record {
   stands = takes.stands;
   steps = record {
-    told = tells_then (told_at old place) (told_at mid (closed_place place)) (told_at new later) [] (taken result) steps.told takes.steps.told;
-    went = calls_on conns old mid new steps.went takes.steps.went;
+    told = tells_then (told_at old place) (told_at mid mid_place) (told_at new later) [] (taken result) settles.steps.told takes.steps.told;
+    went = calls_on limits old mid new settles.steps.went takes.steps.went;
   };
-  whole = λ is. takes.whole (whole is);
+  whole = λ is. takes.whole (settles.whole is);
   next = record {
-    order = subst (λ (phases : Phases). Enters phases (phases_at later) result) (fun_ext (λ other. phases_closed place other done)) takes.next.order;
+    order = subst (λ (phases : Phases). Enters phases (phases_at later) result) (fun_ext settles.phases) takes.next.order;
     grammar = takes.next.grammar;
     closing = takes.next.closing;
   };
 }
 
-pub open_cause : (before after : ℕ) (fault : IoFault) (answer : LinkFault) → answer ≡ read_fault_of fault → HasCause {T = Unit {0}} before after (Err fault) → HasOpenCause before after (Err answer)
-open_cause before after fault answer is cause = record {
-  later = cause.later;
-  read_fault = λ failed. cause.failed (failed_by fault answer is failed);
+-- a wait, and then the event that it told
+pub wait_then : (limits : PortLimits) (old mid new : Option (List PortEntry)) (between now : List Bool) (place later : Place) (result : Result LinkEvent LinkFault) → WaitsAt limits old mid between place
+    → TakesNext limits mid new now place later result → TakesNext limits old new now place later result
+wait_then limits old mid new between now place later result waits takes = record {
+  stands = takes.stands;
+  steps = record {
+    told = tells_then (told_at old place) (told_at mid place) (told_at new later) [] (taken result) waits.steps.told takes.steps.told;
+    went = calls_on limits old mid new waits.steps.went takes.steps.went;
+  };
+  whole = λ is. takes.whole (waits.whole is);
+  next = takes.next;
 }
+
+-- a wait that failed
+pub wait_fails : (limits : PortLimits) (old new : Option (List PortEntry)) (now : List Bool) (place : Place) (fault : LinkFault) → GoesBy (Some ComesUntold) (Err fault) → WaitsAt limits old new now place → TakesNext limits old new now place place (Err fault)
+wait_fails limits old new now place fault goes waits =
+    record { stands = waits.stands; steps = waits.steps; whole = waits.whole; next = record { order = λ other. refl; grammar = goes; closing = tt } }
+
+pub goes_so : (fault : IoFault) (answer : LinkFault) → answer ≡ read_fault_of fault → GoesBy (Some ComesUntold) (Err answer)
+goes_so io.Failed answer is = subst (λ (a : LinkFault). GoesBy (Some ComesUntold) (Err a)) (sym is) tt
+goes_so io.Memory answer is = subst (λ (a : LinkFault). GoesBy (Some ComesUntold) (Err a)) (sym is) tt
+
+-- a client may be accepted where one is ready
+pub ready_less : (limits : PortLimits) (place : Place) → may_accept limits place ≡ true → place.accepted < limits.conns
+ready_less limits place may = ltb-true place.accepted limits.conns (and_parts _ _ may).0

@@ -1,8 +1,10 @@
 pub mod Terms
 pub mod Stages
-pub mod Ports
+pub mod StageTables
+pub mod Served
 pub mod Standing
 pub mod Steps
+pub mod Taking
 pub mod Gives
 pub mod PortLinks
 pub mod CallLaws

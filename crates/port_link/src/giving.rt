@@ -1,29 +1,30 @@
-// A piece for the present connection of a port.
+// A piece for a connection of a port.
 ghost use Rattle.std.specs.Prelude.{◌≡◌, ◌<◌, ◌≤◌, true, length, Ok};
 ghost use Rattle.rx_base.specs.Faults.{Rose};
+ghost use Rattle.ports.specs.Connections.{is_open};
 ghost use Rattle.links.specs.Links.{IsGone};
-ghost use Rattle.port_link.specs.Stages.{is_present};
-ghost use Rattle.port_link.specs.Standing.{IsWhole, Stands};
+ghost use Rattle.port_link.specs.Stages.{is_given};
+ghost use Rattle.port_link.specs.Standing.{IsWhole, Stands, stage_at};
 ghost use Rattle.port_link.specs.Gives.{GivesTo, GivesPiece};
 
-use crate::place::{Place, Stage, stage_behind};
+use crate::place::{Place, PortLimits, Stage, stage_behind};
 use links::{Given, LinkFault};
+use ports::Port;
 use rx_base::{Conn, IoFault};
-use rx_io::Listener;
 
-// Gives bytes to the present connection, over as many calls as it wants.
-fn give_piece<N: Listener>(listener: &mut N, bytes: &[u8]) -> Result<Given, LinkFault>
-    requires present { N.present listener.old ≡ true }
+// Gives bytes to an open connection, over as many calls as it wants.
+fn give_piece<P: Port>(port: &mut P, conn: Conn, bytes: &[u8]) -> Result<Given, LinkFault>
+    requires connected { is_open conn (P.connections port.old) ≡ true }
     requires some { 0 < length bytes.now }
-    ensures calls { GivesTo (N.told listener.old) (N.told listener.new) bytes.now result }
-    ensures present { N.present listener.new ≡ true }
-    ensures gone { IsGone result → Rose (N.connection_faults listener.old) (N.connection_faults listener.new) }
-    ensures faults { N.faults listener.new ≡ N.faults listener.old }
-    ensures fixed { N.fixed listener.new ≡ N.fixed listener.old }
+    ensures calls { GivesTo conn (P.told port.old) (P.told port.new) bytes.now result }
+    ensures connections { P.connections port.new ≡ P.connections port.old }
+    ensures gone { IsGone result → Rose (P.connection_faults port.old) (P.connection_faults port.new) }
+    ensures faults { P.faults port.new ≡ P.faults port.old }
+    ensures fixed { P.fixed port.new ≡ P.fixed port.old }
 {
     let mut rest = bytes;
     'rest: loop {
-        match listener.give(rest) {
+        match port.give(conn, rest) {
             Ok(count) => {
                 if count == rest.len() {
                     return Ok(Given::All);
@@ -36,25 +37,29 @@ fn give_piece<N: Listener>(listener: &mut N, bytes: &[u8]) -> Result<Given, Link
     }
 }
 
-/// Gives a piece to the present connection. One whose close was answered behind a failed give gets no more.
-pub fn give_present<N: Listener>(
-    listener: &mut N,
+// Gives a piece to a connection. One that was closed, since a give to it had failed, gets no more.
+pub(crate) fn give_present<P: Port>(
+    port: &mut P,
     place: &mut Place,
-    conns: Conn,
+    limits: PortLimits,
+    conn: Conn,
     bytes: &[u8],
 ) -> Result<Given, LinkFault>
-    requires present { is_present place.old.stage ≡ true }
+    requires few { conn < 4096 }
+    requires given { is_given (stage_at place.old conn) ≡ true }
     requires some { 0 < length bytes.now }
-    requires stands { Stands (N.told listener.old) (N.present listener.old) conns place.old }
-    ensures gives { GivesPiece conns (N.told listener.old) (N.told listener.new) (N.present listener.new) place.old place.new bytes.now result }
-    ensures gone { IsGone result → Rose (N.connection_faults listener.old) (N.connection_faults listener.new) }
-    ensures faults { N.faults listener.new ≡ N.faults listener.old }
-    ensures fixed { N.fixed listener.new ≡ N.fixed listener.old }
+    requires stands { Stands (P.told port.old) (P.connections port.old) limits place.old }
+    requires whole { IsWhole (P.told port.old) }
+    ensures gives { GivesPiece limits conn (P.told port.old) (P.told port.new) (P.connections port.new) place.old place.new bytes.now result }
+    ensures gone { IsGone result → Rose (P.connection_faults port.old) (P.connection_faults port.new) }
+    ensures faults { P.faults port.new ≡ P.faults port.old }
+    ensures fixed { P.fixed port.new ≡ P.fixed port.old }
 {
-    if let Stage::Dropping = place.stage {
+    let stage = place.stages[conn as usize];
+    if let Stage::Dropped = stage {
         return Err(LinkFault::Memory);
     }
-    let answer = give_piece(listener, bytes);
-    place.stage = stage_behind(place.stage, &answer);
+    let answer = give_piece(port, conn, bytes);
+    place.stages[conn as usize] = stage_behind(stage, &answer);
     answer
 }

@@ -1,4 +1,4 @@
-// A link over a listener.
+// A link over a port.
 ghost use Rattle.std.specs.Prelude.{◌≡◌, ◌≤◌, true};
 ghost use Rattle.rx_base.specs.Faults.{Rose};
 ghost use Rattle.links.specs.Links.{IsGone};
@@ -6,29 +6,30 @@ ghost use Rattle.port_link.specs.Stages.{gones_behind};
 ghost use Rattle.port_link.specs.Standing.{IsWhole, Stands};
 
 use crate::giving::give_present;
-use crate::place::{Place, Stage};
+use crate::place::{Closing, Place, PortLimits, fresh_stages};
 use crate::taking::next_event;
 use links::{Given, Link, LinkEvent, LinkFault};
+use ports::Port;
 use rx_base::Conn;
-use rx_io::Listener;
 use std::alloc::Global;
 
-/// A link over a listener that was bound. Its connections are numbered from 0, in the order in which they are accepted, and are
-/// served one after another; after `conns` of them it ends. It gives to the present connection alone, and never answers
-/// `Refused` or `WriteFault`.
+/// A link over a port that was bound. Its connections are numbered from 0, in the order in which they are accepted, and as many
+/// of them as its limits say are served at the same time; after so many in all as they say it ends. It gives to each connection that isn't
+/// closed, and never answers `Refused` or `WriteFault`.
 #[derive(Drop)]
-pub struct PortLink<N: Listener> {
+pub struct PortLink<P: Port> {
     alloc: Global,
-    listener: N,
-    conns: Conn,
+    port: P,
+    limits: PortLimits,
     place: Place,
     handed: Option<(Conn, usize)>,
     takes: bool,
     gives: bool,
     gones: u64,
-    ghost few: { conns ≤ 4096 },
-    ghost stands: { Stands (N.told listener) (N.present listener) conns place },
-    ghost whole: { gives ≡ true → IsWhole (N.told listener) },
+    ghost some: { 1 ≤ limits.at_once },
+    ghost few: { limits.conns ≤ 4096 },
+    ghost stands: { Stands (P.told port) (P.connections port) limits place },
+    ghost whole: { gives ≡ true → IsWhole (P.told port) },
 }
 
 // One more, where a connection was gone.
@@ -41,29 +42,33 @@ fn gones_behind(gones: u64, answer: &Result<Given, LinkFault>) -> u64
     }
 }
 
-impl<N: Listener> PortLink<N> {
+impl<P: Port> PortLink<P> {
+    ghost use Rattle.std.specs.Prelude.{[]};
     ghost use Rattle.links.specs.Seen.{IsFreshLink};
-    ghost use Rattle.port_link.specs.PortLinks.{seen_of, listener_of, conns_of, told_nothing};
+    ghost use Rattle.port_link.specs.PortLinks.{seen_of, port_of, limits_of, told_nothing};
     ghost use Rattle.port_link.specs.Standing.{IsJustBound};
 
-    /// No connection was accepted. The listener was bound, and no connection was accepted since. It takes no memory; `alloc` is for
-    /// the pieces to come.
-    pub fn make(alloc: Global, listener: N, conns: Conn) -> PortLink<N>
-        requires some { 1 ≤ conns }
-        requires few { conns ≤ 4096 }
-        requires bound { IsJustBound (N.told listener) }
-        ensures shows { IsFreshLink (seen_of N.told N.faults result) }
-        ensures told { (seen_of N.told N.faults result).told ≡ told_nothing (N.told listener) }
-        ensures listener { listener_of result ≡ listener }
-        ensures conns { conns_of result ≡ conns }
+    /// No connection was accepted. The port was bound, and no connection was accepted since. It takes no memory; `alloc` is for the
+    /// pieces to come.
+    pub fn make(alloc: Global, port: P, limits: PortLimits) -> PortLink<P>
+        requires some { 1 ≤ limits.at_once }
+        requires few { limits.conns ≤ 4096 }
+        requires none { P.connections port ≡ [] }
+        requires bound { IsJustBound (P.told port) }
+        ensures shows { IsFreshLink (seen_of P.told P.faults result) }
+        ensures told { (seen_of P.told P.faults result).told ≡ told_nothing (P.told port) }
+        ensures port { port_of result ≡ port }
+        ensures limits { limits_of result ≡ limits }
     {
         PortLink {
             alloc,
-            listener,
-            conns,
+            port,
+            limits,
             place: Place {
-                conn: 0,
-                stage: Stage::Waiting,
+                stages: fresh_stages(),
+                accepted: 0,
+                closed: 0,
+                closing: Closing::Nothing,
                 ends: 0,
             },
             handed: None,
@@ -74,47 +79,49 @@ impl<N: Listener> PortLink<N> {
     }
 }
 
-impl<N: Listener> Link for PortLink<N> {
+impl<P: Port> Link for PortLink<P> {
     ghost use Rattle.std.specs.Prelude.{◌<◌, ◌^◌, length};
     ghost use Rattle.links.specs.Seen.{NextShows, GiveShows};
-    ghost use Rattle.port_link.specs.PortLinks.{seen_of, listener_of, PortWent};
+    ghost use Rattle.port_link.specs.PortLinks.{seen_of, port_of, PortWent};
     ghost use Rattle.port_link.specs.PortLaws.{port_sound, port_same, port_on};
 
-    ghost seen = { seen_of N.told N.faults };
+    ghost seen = { seen_of P.told P.faults };
 
-    ghost sound = { port_sound N.told N.faults };
+    ghost sound = { port_sound P.told P.faults };
 
-    ghost Went = { PortWent N.fixed N.told };
+    ghost Went = { PortWent P.fixed P.told };
 
-    ghost went_same = { port_same N.fixed N.told };
+    ghost went_same = { port_same P.fixed P.told };
 
-    ghost went_on = { port_on N.fixed N.told };
+    ghost went_on = { port_on P.fixed P.told };
 
-    /// Answers the next connection, or the next bytes of the present one, at most 4096. The end of its input is its close; so is a
-    /// take or a give that failed. The connection is closed when the event behind that is asked for. An accept that fails is
-    /// `ReadFault`.
+    /// Answers the close of a connection to which a give failed, if there is one. Else it waits for a client, where one may be
+    /// accepted, or for a connection that can be read of, and answers the next connection, or the next bytes of that one, at most
+    /// 4096. The end of its input is its close; so is a take that failed. A connection is closed when the event behind its close is
+    /// asked for. A wait or an accept that fails is `ReadFault`.
     fn next(&mut self) -> Result<LinkEvent, LinkFault>
-        requires { (seen_of N.told N.faults self.old).takes ≡ true }
-        ensures shows { NextShows (seen_of N.told N.faults self.old) (seen_of N.told N.faults self.new) result }
-        ensures went { PortWent N.fixed N.told self.old self.new }
+        requires { (seen_of P.told P.faults self.old).takes ≡ true }
+        ensures shows { NextShows (seen_of P.told P.faults self.old) (seen_of P.told P.faults self.new) result }
+        ensures went { PortWent P.fixed P.told self.old self.new }
     {
-        let answer = next_event(self.alloc, &mut self.listener, &mut self.place, self.conns);
+        let answer = next_event(self.alloc, &mut self.port, &mut self.place, self.limits);
         self.takes = answer.is_ok();
         answer
     }
 
-    /// Gives a piece to the present connection. Where a give fails, the connection is gone.
+    /// Gives a piece to a connection that isn't closed. Where a give fails, the connection is gone.
+    #[tactic(auto, using(crate::proofs::ShowLemmas::given_below))]
     fn give(&mut self, conn: Conn, bytes: &[u8]) -> Result<Given, LinkFault>
-        requires may { (seen_of N.told N.faults self.old).gives ≡ true }
-        requires connected { (seen_of N.told N.faults self.old).gives_to conn ≡ true }
+        requires may { (seen_of P.told P.faults self.old).gives ≡ true }
+        requires connected { (seen_of P.told P.faults self.old).gives_to conn ≡ true }
         requires some { 0 < length bytes.now }
         requires few { length bytes.now < 2 ^ 16 }
-        ensures shows { GiveShows (seen_of N.told N.faults self.old) (seen_of N.told N.faults self.new) conn bytes.now result }
-        ensures went { PortWent N.fixed N.told self.old self.new }
-        ensures gone { IsGone result → Rose (N.connection_faults (listener_of self.old)) (N.connection_faults (listener_of self.new)) }
+        ensures shows { GiveShows (seen_of P.told P.faults self.old) (seen_of P.told P.faults self.new) conn bytes.now result }
+        ensures went { PortWent P.fixed P.told self.old self.new }
+        ensures gone { IsGone result → Rose (P.connection_faults (port_of self.old)) (P.connection_faults (port_of self.new)) }
     {
         self.handed = Some((conn, bytes.len()));
-        let answer = give_present(&mut self.listener, &mut self.place, self.conns, bytes);
+        let answer = give_present(&mut self.port, &mut self.place, self.limits, conn, bytes);
         self.gones = gones_behind(self.gones, &answer);
         self.gives = answer.is_ok();
         answer

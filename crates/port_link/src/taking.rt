@@ -1,32 +1,42 @@
 // The next event of a port.
-ghost use Rattle.std.specs.Prelude.{◌≡◌, ◌≤◌, [], true};
-ghost use Rattle.port_link.specs.Stages.{is_done};
-ghost use Rattle.port_link.specs.Standing.{IsWhole, Stands};
-ghost use Rattle.port_link.specs.Steps.{StepsTo, TakesPiece, TakesNext, HasOpenCause, closed_place, read_fault_of};
+ghost use Rattle.std.specs.Prelude.{◌≡◌, ◌<◌, ◌≤◌, true, false, IfOk};
+ghost use Rattle.ports.specs.Connections.{is_open, IsReady};
+ghost use Rattle.port_link.specs.Stages.{is_broken};
+ghost use Rattle.port_link.specs.Standing.{Stands, WasReady, stage_at};
+ghost use Rattle.ports.specs.declared.port_calls.Ready.TheVariants.{Accepts, Reads};
+ghost use Rattle.port_link.specs.Steps.{Settles, TakesPiece, TakesNext, WaitsAt, HasOpenCause, NextGoes, read_fault_of};
+ghost use Rattle.port_link.specs.Taking.{may_accept, NoneBroken};
 
-use crate::place::{Place, Stage};
+use crate::place::{Closing, Place, PortLimits, Stage, first_broken};
 use links::{LinkEvent, LinkFault};
+use ports::{Port, Ready};
 use rx_base::{Bytes, Conn, IoFault};
-use rx_io::Listener;
 use std::alloc::Global;
 
-// Closes the present connection, of which nothing more is answered.
-fn close_present<N: Listener>(listener: &mut N, place: &mut Place, conns: Conn)
-    requires done { is_done place.old.stage ≡ true }
-    requires stands { Stands (N.told listener.old) (N.present listener.old) conns place.old }
-    ensures place { place.new ≡ closed_place place.old }
-    ensures stands { Stands (N.told listener.new) (N.present listener.new) conns place.new }
-    ensures steps { StepsTo conns (N.told listener.old) (N.told listener.new) place.old place.new [] }
-    ensures whole { IsWhole (N.told listener.old) → IsWhole (N.told listener.new) }
-    ensures faults { N.faults listener.new ≡ N.faults listener.old }
-    ensures fixed { N.fixed listener.new ≡ N.fixed listener.old }
+// Closes the connection whose close was answered last, if that wasn't done before.
+fn settle<P: Port>(port: &mut P, place: &mut Place, limits: PortLimits)
+    requires few { limits.conns ≤ 4096 }
+    requires stands { Stands (P.told port.old) (P.connections port.old) limits place.old }
+    ensures settles { Settles limits (P.told port.old) (P.told port.new) (P.connections port.new) place.old place.new }
+    ensures faults { P.faults port.new ≡ P.faults port.old }
+    ensures fixed { P.fixed port.new ≡ P.fixed port.old }
 {
-    listener.close();
-    place.conn += 1;
-    place.stage = Stage::Waiting;
+    match place.closing {
+        Closing::Nothing => {}
+        Closing::Due(conn) => {
+            port.close(conn);
+            place.stages[conn as usize] = Stage::Closed;
+            place.closed += 1;
+            place.closing = Closing::Nothing;
+        }
+        Closing::Made(conn) => {
+            place.stages[conn as usize] = Stage::Closed;
+            place.closing = Closing::Nothing;
+        }
+    }
 }
 
-// An accept that failed is a fault of reading.
+// A wait or an accept that failed is a fault of reading.
 fn read_fault(fault: IoFault) -> LinkFault
     ensures { result ≡ read_fault_of fault }
 {
@@ -36,48 +46,79 @@ fn read_fault(fault: IoFault) -> LinkFault
     }
 }
 
-// Accepts the next connection, or ends behind the last one.
-fn open_next<N: Listener>(
-    listener: &mut N,
-    place: &mut Place,
-    conns: Conn,
-) -> Result<LinkEvent, LinkFault>
-    requires waits { place.old.stage ≡ Stage.Waiting }
-    requires few { conns ≤ 4096 }
-    requires stands { Stands (N.told listener.old) (N.present listener.old) conns place.old }
-    ensures takes { TakesNext conns (N.told listener.old) (N.told listener.new) (N.present listener.new) place.old place.new result }
-    ensures cause { HasOpenCause (N.faults listener.old) (N.faults listener.new) result }
-    ensures fixed { N.fixed listener.new ≡ N.fixed listener.old }
+// Whether a client may be accepted.
+fn may_accept(place: &Place, limits: PortLimits) -> bool
+    ensures { result ≡ may_accept limits place.now }
 {
-    if place.conn == conns {
-        if place.ends == u64::MAX {
-            return Err(LinkFault::Memory);
-        }
-        place.ends += 1;
-        return Ok(LinkEvent::Ends);
+    place.accepted < limits.conns
+        && u64::from(place.accepted) < u64::from(place.closed) + u64::from(limits.at_once)
+}
+
+// Waits for a client, where one may be accepted, or an open connection.
+fn wait_ready<P: Port>(
+    port: &mut P,
+    place: &Place,
+    limits: PortLimits,
+    accepts: bool,
+) -> Result<Ready, LinkFault>
+    requires nothing { place.now.closing ≡ Closing.Nothing }
+    requires none { NoneBroken place.now }
+    requires some { accepts ≡ false → place.now.closed < place.now.accepted }
+    requires may { accepts ≡ may_accept limits place.now }
+    requires stands { Stands (P.told port.old) (P.connections port.old) limits place.now }
+    ensures ready { IfOk result (λ ready. IsReady accepts (P.connections port.new) ready) }
+    ensures was { IfOk result (λ ready. WasReady ready (P.told port.new)) }
+    ensures goes { NextGoes result }
+    ensures waits { WaitsAt limits (P.told port.old) (P.told port.new) (P.connections port.new) place.now }
+    ensures cause { HasOpenCause (P.faults port.old) (P.faults port.new) result }
+    ensures fixed { P.fixed port.new ≡ P.fixed port.old }
+{
+    match port.wait(accepts) {
+        Ok(ready) => Ok(ready),
+        Err(fault) => Err(read_fault(fault)),
     }
-    match listener.accept() {
+}
+
+// Accepts the next connection.
+fn open_next<P: Port>(
+    port: &mut P,
+    place: &mut Place,
+    limits: PortLimits,
+) -> Result<LinkEvent, LinkFault>
+    requires may { may_accept limits place.old ≡ true }
+    requires was { WasReady Accepts (P.told port.old) }
+    requires less { place.old.accepted < limits.conns }
+    requires few { limits.conns ≤ 4096 }
+    requires nothing { place.old.closing ≡ Closing.Nothing }
+    requires stands { Stands (P.told port.old) (P.connections port.old) limits place.old }
+    ensures takes { TakesNext limits (P.told port.old) (P.told port.new) (P.connections port.new) place.old place.new result }
+    ensures cause { HasOpenCause (P.faults port.old) (P.faults port.new) result }
+    ensures fixed { P.fixed port.new ≡ P.fixed port.old }
+{
+    match port.accept() {
         Ok(()) => {
-            place.stage = Stage::Open;
-            Ok(LinkEvent::Opens(place.conn))
+            let conn = place.accepted;
+            place.stages[conn as usize] = Stage::Open;
+            place.accepted += 1;
+            Ok(LinkEvent::Opens(conn))
         }
         Err(fault) => Err(read_fault(fault)),
     }
 }
 
-// Takes at most 4096 bytes of the present connection: none at the end of its input, or where the take failed. The room for them
-// is made before, so that none is lost.
-fn take_piece<N: Listener>(alloc: Global, listener: &mut N) -> Result<Vec<u8>, LinkFault>
-    requires { N.present listener.old ≡ true }
-    ensures calls { TakesPiece (N.told listener.old) (N.told listener.new) result }
-    ensures present { N.present listener.new ≡ true }
-    ensures faults { N.faults listener.new ≡ N.faults listener.old }
-    ensures fixed { N.fixed listener.new ≡ N.fixed listener.old }
+// Takes at most 4096 bytes of a connection: none at the end of its input, or where the take failed. The room for them is made
+// before, so that none is lost.
+fn take_piece<P: Port>(alloc: Global, port: &mut P, conn: Conn) -> Result<Vec<u8>, LinkFault>
+    requires { is_open conn (P.connections port.old) ≡ true }
+    ensures calls { TakesPiece conn (P.told port.old) (P.told port.new) result }
+    ensures connections { P.connections port.new ≡ P.connections port.old }
+    ensures faults { P.faults port.new ≡ P.faults port.old }
+    ensures fixed { P.fixed port.new ≡ P.fixed port.old }
 {
     let Ok(mut buf) = vec![in alloc; 0u8; 4096] else {
         return Err(LinkFault::Memory);
     };
-    match listener.take(buf.as_mut_slice()) {
+    match port.take(conn, buf.as_mut_slice()) {
         Ok(count) => {
             buf.truncate(count);
             Ok(buf)
@@ -87,70 +128,171 @@ fn take_piece<N: Listener>(alloc: Global, listener: &mut N) -> Result<Vec<u8>, L
     }
 }
 
-// Takes a piece of the present connection, or its close.
-fn take_next<N: Listener>(
+// Takes a piece of a connection, or its close.
+fn take_next<P: Port>(
     alloc: Global,
-    listener: &mut N,
+    port: &mut P,
     place: &mut Place,
-    conns: Conn,
+    limits: PortLimits,
+    conn: Conn,
 ) -> Result<LinkEvent, LinkFault>
-    requires opened { place.old.stage ≡ Stage.Open }
-    requires few { conns ≤ 4096 }
-    requires stands { Stands (N.told listener.old) (N.present listener.old) conns place.old }
-    ensures takes { TakesNext conns (N.told listener.old) (N.told listener.new) (N.present listener.new) place.old place.new result }
-    ensures cause { HasOpenCause (N.faults listener.old) (N.faults listener.new) result }
-    ensures fixed { N.fixed listener.new ≡ N.fixed listener.old }
+    requires connected { is_open conn (P.connections port.old) ≡ true }
+    requires was { WasReady (Reads conn) (P.told port.old) }
+    requires within { conn < 4096 }
+    requires nothing { place.old.closing ≡ Closing.Nothing }
+    requires none { NoneBroken place.old }
+    requires few { limits.conns ≤ 4096 }
+    requires stands { Stands (P.told port.old) (P.connections port.old) limits place.old }
+    ensures takes { TakesNext limits (P.told port.old) (P.told port.new) (P.connections port.new) place.old place.new result }
+    ensures cause { HasOpenCause (P.faults port.old) (P.faults port.new) result }
+    ensures fixed { P.fixed port.new ≡ P.fixed port.old }
 {
-    match take_piece(alloc, listener) {
+    match take_piece(alloc, port, conn) {
         Ok(bytes) => {
             if bytes.len() == 0 {
-                place.stage = Stage::Ended;
-                return Ok(LinkEvent::Closes(place.conn));
+                place.stages[conn as usize] = Stage::Ended;
+                place.closing = Closing::Due(conn);
+                return Ok(LinkEvent::Closes(conn));
             }
-            Ok(LinkEvent::Piece(place.conn, Bytes::from_vec(bytes)))
+            Ok(LinkEvent::Piece(conn, Bytes::from_vec(bytes)))
         }
         Err(fault) => Err(fault),
     }
 }
 
-// Closes the present connection, and then accepts the next one.
-fn close_and_open<N: Listener>(
-    listener: &mut N,
+// Accepts a client or takes of a connection, whichever is ready.
+fn serve_ready<P: Port>(
+    alloc: Global,
+    port: &mut P,
     place: &mut Place,
-    conns: Conn,
+    limits: PortLimits,
+    ready: Ready,
 ) -> Result<LinkEvent, LinkFault>
-    requires done { is_done place.old.stage ≡ true }
-    requires few { conns ≤ 4096 }
-    requires stands { Stands (N.told listener.old) (N.present listener.old) conns place.old }
-    ensures takes { TakesNext conns (N.told listener.old) (N.told listener.new) (N.present listener.new) place.old place.new result }
-    ensures cause { HasOpenCause (N.faults listener.old) (N.faults listener.new) result }
-    ensures fixed { N.fixed listener.new ≡ N.fixed listener.old }
+    requires is { IsReady (may_accept limits place.old) (P.connections port.old) ready }
+    requires was { WasReady ready (P.told port.old) }
+    requires few { limits.conns ≤ 4096 }
+    requires nothing { place.old.closing ≡ Closing.Nothing }
+    requires none { NoneBroken place.old }
+    requires stands { Stands (P.told port.old) (P.connections port.old) limits place.old }
+    ensures takes { TakesNext limits (P.told port.old) (P.told port.new) (P.connections port.new) place.old place.new result }
+    ensures cause { HasOpenCause (P.faults port.old) (P.faults port.new) result }
+    ensures fixed { P.fixed port.new ≡ P.fixed port.old }
 {
-    close_present(listener, place, conns);
-    open_next(listener, place, conns)
+    match ready {
+        Ready::Accepts => open_next(port, place, limits),
+        Ready::Reads(conn) => take_next(alloc, port, place, limits, conn),
+    }
+}
+
+// Waits until a client can be accepted or a connection be taken of, and does that.
+fn wait_next<P: Port>(
+    alloc: Global,
+    port: &mut P,
+    place: &mut Place,
+    limits: PortLimits,
+) -> Result<LinkEvent, LinkFault>
+    requires more { place.old.closed < limits.conns }
+    requires some { 1 ≤ limits.at_once }
+    requires few { limits.conns ≤ 4096 }
+    requires nothing { place.old.closing ≡ Closing.Nothing }
+    requires none { NoneBroken place.old }
+    requires stands { Stands (P.told port.old) (P.connections port.old) limits place.old }
+    ensures takes { TakesNext limits (P.told port.old) (P.told port.new) (P.connections port.new) place.old place.new result }
+    ensures cause { HasOpenCause (P.faults port.old) (P.faults port.new) result }
+    ensures fixed { P.fixed port.new ≡ P.fixed port.old }
+{
+    let accepts = may_accept(place, limits);
+    match wait_ready(port, place, limits, accepts) {
+        Ok(ready) => serve_ready(alloc, port, place, limits, ready),
+        Err(fault) => Err(fault),
+    }
+}
+
+// Closes a connection to which a give failed, and answers that.
+fn drop_broken<P: Port>(
+    port: &mut P,
+    place: &mut Place,
+    limits: PortLimits,
+    conn: Conn,
+) -> Result<LinkEvent, LinkFault>
+    requires broken { is_broken (stage_at place.old conn) ≡ true }
+    requires within { conn < 4096 }
+    requires few { limits.conns ≤ 4096 }
+    requires nothing { place.old.closing ≡ Closing.Nothing }
+    requires stands { Stands (P.told port.old) (P.connections port.old) limits place.old }
+    ensures takes { TakesNext limits (P.told port.old) (P.told port.new) (P.connections port.new) place.old place.new result }
+    ensures cause { HasOpenCause (P.faults port.old) (P.faults port.new) result }
+    ensures fixed { P.fixed port.new ≡ P.fixed port.old }
+{
+    port.close(conn);
+    place.stages[conn as usize] = Stage::Dropped;
+    place.closed += 1;
+    place.closing = Closing::Made(conn);
+    Ok(LinkEvent::Closes(conn))
+}
+
+// Ends where all connections were closed, and else waits for the next event.
+fn end_or_wait<P: Port>(
+    alloc: Global,
+    port: &mut P,
+    place: &mut Place,
+    limits: PortLimits,
+) -> Result<LinkEvent, LinkFault>
+    requires some { 1 ≤ limits.at_once }
+    requires few { limits.conns ≤ 4096 }
+    requires nothing { place.old.closing ≡ Closing.Nothing }
+    requires none { NoneBroken place.old }
+    requires stands { Stands (P.told port.old) (P.connections port.old) limits place.old }
+    ensures takes { TakesNext limits (P.told port.old) (P.told port.new) (P.connections port.new) place.old place.new result }
+    ensures cause { HasOpenCause (P.faults port.old) (P.faults port.new) result }
+    ensures fixed { P.fixed port.new ≡ P.fixed port.old }
+{
+    if place.closed == limits.conns {
+        if place.ends == u64::MAX {
+            return Err(LinkFault::Memory);
+        }
+        place.ends += 1;
+        return Ok(LinkEvent::Ends);
+    }
+    wait_next(alloc, port, place, limits)
+}
+
+// The next event where none was answered that is to be made. A connection to which a give failed is closed first; the link ends where
+// all connections were closed.
+fn answer_next<P: Port>(
+    alloc: Global,
+    port: &mut P,
+    place: &mut Place,
+    limits: PortLimits,
+) -> Result<LinkEvent, LinkFault>
+    requires some { 1 ≤ limits.at_once }
+    requires few { limits.conns ≤ 4096 }
+    requires nothing { place.old.closing ≡ Closing.Nothing }
+    requires stands { Stands (P.told port.old) (P.connections port.old) limits place.old }
+    ensures takes { TakesNext limits (P.told port.old) (P.told port.new) (P.connections port.new) place.old place.new result }
+    ensures cause { HasOpenCause (P.faults port.old) (P.faults port.new) result }
+    ensures fixed { P.fixed port.new ≡ P.fixed port.old }
+{
+    match first_broken(&place.stages) {
+        Some(conn) => drop_broken(port, place, limits, conn as Conn),
+        None => end_or_wait(alloc, port, place, limits),
+    }
 }
 
 /// The next event. A connection whose close was answered is closed first.
-pub fn next_event<N: Listener>(
+pub fn next_event<P: Port>(
     alloc: Global,
-    listener: &mut N,
+    port: &mut P,
     place: &mut Place,
-    conns: Conn,
+    limits: PortLimits,
 ) -> Result<LinkEvent, LinkFault>
-    requires few { conns ≤ 4096 }
-    requires stands { Stands (N.told listener.old) (N.present listener.old) conns place.old }
-    ensures takes { TakesNext conns (N.told listener.old) (N.told listener.new) (N.present listener.new) place.old place.new result }
-    ensures cause { HasOpenCause (N.faults listener.old) (N.faults listener.new) result }
-    ensures fixed { N.fixed listener.new ≡ N.fixed listener.old }
+    requires some { 1 ≤ limits.at_once }
+    requires few { limits.conns ≤ 4096 }
+    requires stands { Stands (P.told port.old) (P.connections port.old) limits place.old }
+    ensures takes { TakesNext limits (P.told port.old) (P.told port.new) (P.connections port.new) place.old place.new result }
+    ensures cause { HasOpenCause (P.faults port.old) (P.faults port.new) result }
+    ensures fixed { P.fixed port.new ≡ P.fixed port.old }
 {
-    match place.stage {
-        Stage::Waiting => open_next(listener, place, conns),
-        Stage::Open => take_next(alloc, listener, place, conns),
-        Stage::Broken => {
-            place.stage = Stage::Dropping;
-            Ok(LinkEvent::Closes(place.conn))
-        }
-        Stage::Ended => close_and_open(listener, place, conns),
-        Stage::Dropping => close_and_open(listener, place, conns),
-    }
+    settle(port, place, limits);
+    answer_next(alloc, port, place, limits)
 }

@@ -374,7 +374,7 @@ fn a_port_is_served_as_its_row_says(rt: HostRuntime) -> Result<(), Fail> {
         # The first take fails, or the second one, behind half a line, which is dropped.
         words=serve p 80 2 --record r --report t; clients=hi/|hi/; take=1; end=Finished 0 0 [] 64 5; replies=|hi/|; calls= bound 80 accepted failed Take closed accepted took 3 of 4096 gave 3 of 3 took 0 of 4096 closed; record=rx record 2 window 4 frame line/end 64 5/; report=rx report 1/end 0 taken 5 steps 64/
         words=serve p 80 2 --record r --report t; clients=hi/|hi/; moves=2; take=2; end=Finished 0 0 [] 64 5; replies=|hi/|; calls= bound 80 accepted took 2 of 4096 failed Take closed accepted took 2 of 4096 took 1 of 4096 gave 2 of 3 gave 1 of 1 took 0 of 4096 closed; record=rx record 2 window 4 frame line/end 64 5/; report=rx report 1/end 0 taken 5 steps 64/
-        # No file is loaded, and the listener isn't called.
+        # No file is loaded, and the port isn't called.
         words=serve q 80 2 --record r --report t; clients=hi/|hi/; end=FileFault 9 0 [] 0 0; replies=; calls=; record=none; report=none
     "#,
     )
@@ -397,31 +397,31 @@ fn a_guest_that_fails_serves_a_port(rt: HostRuntime) -> Result<(), Fail> {
 // Several clients of a port are served at the same time, in the order in which they are ready. The echo takes an open, a line and a close of each: 10, 18
 // and 10 instructions behind its first 6.
 #[test]
-fn a_crowd_is_served_as_its_row_says(rt: HostRuntime) -> Result<(), Fail> {
+fn clients_at_once_are_served_as_their_row_says(rt: HostRuntime) -> Result<(), Fail> {
     play_rows(
         rt.alloc(),
         r#"
         echo
         # Their requests come in turns.
-        words=serve p 80 2 --record r --report t --at-once 2; clients=hi/yo/|ok/; moves=3; ready=client client 1 0 1 0; end=Finished 0 0 [] 100 7; given=hi/yo/|ok/|; crowd= bound 80 any client accepted 0 any client accepted 1 open 1 took 1 3 of 4096 gave 1 3 of 3 open 0 took 0 3 of 4096 gave 0 3 of 3 open 1 took 1 0 of 4096 closed 1 open 0 took 0 3 of 4096 gave 0 3 of 3 open 0 took 0 0 of 4096 closed 0; calls=; replies=; record=rx record 2 window 4 frame line/end 100 7/; report=rx report 1/end 0 taken 7 steps 100/
+        words=serve p 80 2 --record r --report t --at-once 2; clients=hi/yo/|ok/; moves=3; ready=client client 1 0 1 0; end=Finished 0 0 [] 100 7; given=hi/yo/|ok/|; port= bound 80 any client accepted 0 any client accepted 1 open 1 took 1 3 of 4096 gave 1 3 of 3 open 0 took 0 3 of 4096 gave 0 3 of 3 open 1 took 1 0 of 4096 closed 1 open 0 took 0 3 of 4096 gave 0 3 of 3 open 0 took 0 0 of 4096 closed 0; record=rx record 2 window 4 frame line/end 100 7/; report=rx report 1/end 0 taken 7 steps 100/
         # The first one is silent until the other has gone.
-        words=serve p 80 2 --record r --report t --at-once 256; clients=hi/|ok/yo/; moves=3; ready=client client 1 1 1; end=Finished 0 0 [] 100 7; given=hi/|ok/yo/|; crowd= bound 80 any client accepted 0 any client accepted 1 open 1 took 1 3 of 4096 gave 1 3 of 3 open 1 took 1 3 of 4096 gave 1 3 of 3 open 1 took 1 0 of 4096 closed 1 open 0 took 0 3 of 4096 gave 0 3 of 3 open 0 took 0 0 of 4096 closed 0; record=rx record 2 window 4 frame line/end 100 7/; report=rx report 1/end 0 taken 7 steps 100/
+        words=serve p 80 2 --record r --report t --at-once 256; clients=hi/|ok/yo/; moves=3; ready=client client 1 1 1; end=Finished 0 0 [] 100 7; given=hi/|ok/yo/|; port= bound 80 any client accepted 0 any client accepted 1 open 1 took 1 3 of 4096 gave 1 3 of 3 open 1 took 1 3 of 4096 gave 1 3 of 3 open 1 took 1 0 of 4096 closed 1 open 0 took 0 3 of 4096 gave 0 3 of 3 open 0 took 0 0 of 4096 closed 0; record=rx record 2 window 4 frame line/end 100 7/; report=rx report 1/end 0 taken 7 steps 100/
         # A give to one fails, or its second call does, or a take of it: it is gone, and the other one is served on.
-        words=serve p 80 2 --record r --report t --at-once 2; clients=hi/yo/|ok/; moves=3; give=1; ready=client client 1 0 0; end=Finished 0 0 [] 100 7; given=hi/yo/||; crowd= bound 80 any client accepted 0 any client accepted 1 open 1 took 1 3 of 4096 failed Give(1) closed 1 open 0 took 0 3 of 4096 gave 0 3 of 3 open 0 took 0 3 of 4096 gave 0 3 of 3 open 0 took 0 0 of 4096 closed 0; record=rx record 2 window 4 frame line/end 100 7/; report=rx report 1/end 0 taken 7 steps 100/
-        words=serve p 80 2 --record r --report t --at-once 2; clients=hi/|ok/; moves=2; give=2; ready=client client 1 1 0 0; end=Finished 0 0 [] 82 6; given=hi/|ok|; crowd= bound 80 any client accepted 0 any client accepted 1 open 1 took 1 2 of 4096 open 1 took 1 1 of 4096 gave 1 2 of 3 failed Give(1) closed 1 open 0 took 0 2 of 4096 open 0 took 0 1 of 4096 gave 0 2 of 3 gave 0 1 of 1 open 0 took 0 0 of 4096 closed 0; record=rx record 2 window 4 frame line/end 82 6/; report=rx report 1/end 0 taken 6 steps 82/
-        words=serve p 80 2 --record r --report t --at-once 2; clients=hi/yo/|ok/; moves=3; take=1; ready=client client 1 0 0; end=Finished 0 0 [] 82 6; given=hi/yo/||; crowd= bound 80 any client accepted 0 any client accepted 1 open 1 failed Take(1) closed 1 open 0 took 0 3 of 4096 gave 0 3 of 3 open 0 took 0 3 of 4096 gave 0 3 of 3 open 0 took 0 0 of 4096 closed 0; record=rx record 2 window 4 frame line/end 82 6/; report=rx report 1/end 0 taken 6 steps 82/
+        words=serve p 80 2 --record r --report t --at-once 2; clients=hi/yo/|ok/; moves=3; give=1; ready=client client 1 0 0; end=Finished 0 0 [] 100 7; given=hi/yo/||; port= bound 80 any client accepted 0 any client accepted 1 open 1 took 1 3 of 4096 failed Give(1) closed 1 open 0 took 0 3 of 4096 gave 0 3 of 3 open 0 took 0 3 of 4096 gave 0 3 of 3 open 0 took 0 0 of 4096 closed 0; record=rx record 2 window 4 frame line/end 100 7/; report=rx report 1/end 0 taken 7 steps 100/
+        words=serve p 80 2 --record r --report t --at-once 2; clients=hi/|ok/; moves=2; give=2; ready=client client 1 1 0 0; end=Finished 0 0 [] 82 6; given=hi/|ok|; port= bound 80 any client accepted 0 any client accepted 1 open 1 took 1 2 of 4096 open 1 took 1 1 of 4096 gave 1 2 of 3 failed Give(1) closed 1 open 0 took 0 2 of 4096 open 0 took 0 1 of 4096 gave 0 2 of 3 gave 0 1 of 1 open 0 took 0 0 of 4096 closed 0; record=rx record 2 window 4 frame line/end 82 6/; report=rx report 1/end 0 taken 6 steps 82/
+        words=serve p 80 2 --record r --report t --at-once 2; clients=hi/yo/|ok/; moves=3; take=1; ready=client client 1 0 0; end=Finished 0 0 [] 82 6; given=hi/yo/||; port= bound 80 any client accepted 0 any client accepted 1 open 1 failed Take(1) closed 1 open 0 took 0 3 of 4096 gave 0 3 of 3 open 0 took 0 3 of 4096 gave 0 3 of 3 open 0 took 0 0 of 4096 closed 0; record=rx record 2 window 4 frame line/end 82 6/; report=rx report 1/end 0 taken 6 steps 82/
         # No third client is waited for while two are open.
-        words=serve p 80 3 --record r --report t --at-once 2; clients=a/|b/|c/; ready=client client client; end=Finished 0 0 [] 120 9; given=a/|b/|c/|; crowd= bound 80 any client accepted 0 any client accepted 1 open 0 took 0 2 of 4096 gave 0 2 of 2 open 0 took 0 0 of 4096 closed 0 any client accepted 2 open 1 took 1 2 of 4096 gave 1 2 of 2 open 1 took 1 0 of 4096 closed 1 open 2 took 2 2 of 4096 gave 2 2 of 2 open 2 took 2 0 of 4096 closed 2; record=rx record 2 window 4 frame line/end 120 9/; report=rx report 1/end 0 taken 9 steps 120/
+        words=serve p 80 3 --record r --report t --at-once 2; clients=a/|b/|c/; ready=client client client; end=Finished 0 0 [] 120 9; given=a/|b/|c/|; port= bound 80 any client accepted 0 any client accepted 1 open 0 took 0 2 of 4096 gave 0 2 of 2 open 0 took 0 0 of 4096 closed 0 any client accepted 2 open 1 took 1 2 of 4096 gave 1 2 of 2 open 1 took 1 0 of 4096 closed 1 open 2 took 2 2 of 4096 gave 2 2 of 2 open 2 took 2 0 of 4096 closed 2; record=rx record 2 window 4 frame line/end 120 9/; report=rx report 1/end 0 taken 9 steps 120/
         # The bind fails, or a wait, or an accept.
-        words=serve p 80 2 --record r --report t --at-once 2; clients=a/|b/; bind=1; end=ReadFault 7 0 [] 0 0; given=; crowd= failed Bind; record=rx record 2 window 4 frame line/; report=rx report 1/
-        words=serve p 80 2 --record r --report t --at-once 2; clients=a/|b/; wait=1; end=ReadFault 7 0 [] 6 0; given=; crowd= bound 80 failed Wait; record=rx record 2 window 4 frame line/; report=rx report 1/
-        words=serve p 80 2 --record r --report t --at-once 2; clients=a/|b/; wait=3; end=ReadFault 7 0 [] 26 2; given=||; crowd= bound 80 any client accepted 0 any client accepted 1 failed Wait; record=rx record 2 window 4 frame line/; report=rx report 1/
-        words=serve p 80 2 --record r --report t --at-once 2; clients=a/|b/; accept=2; end=ReadFault 7 0 [] 16 1; given=|; crowd= bound 80 any client accepted 0 any client failed Accept; record=rx record 2 window 4 frame line/; report=rx report 1/
-        # One at a time is served over the listener. Nothing is called where no file is loaded, nor by words of no command.
-        words=serve p 80 2 --record r --report t --at-once 1; clients=hi/|there/; end=Finished 0 0 [] 82 6; replies=hi/|there/|; crowd=; given=
-        words=serve q 80 2 --record r --report t --at-once 2; clients=hi/; end=FileFault 9 0 [] 0 0; calls=; crowd=; record=none; report=none
-        words=serve p 80 2 --record r --report t --at-once 0; clients=hi/; end=BadWords 2 0 [] 0 0; calls=; crowd=; record=none; report=none
-        words=serve p 80 2 --record r --report t --at-once 257; clients=hi/; end=BadWords 2 0 [] 0 0; calls=; crowd=; record=none; report=none
+        words=serve p 80 2 --record r --report t --at-once 2; clients=a/|b/; bind=1; end=ReadFault 7 0 [] 0 0; given=; port= failed Bind; record=rx record 2 window 4 frame line/; report=rx report 1/
+        words=serve p 80 2 --record r --report t --at-once 2; clients=a/|b/; wait=1; end=ReadFault 7 0 [] 6 0; given=; port= bound 80 failed Wait; record=rx record 2 window 4 frame line/; report=rx report 1/
+        words=serve p 80 2 --record r --report t --at-once 2; clients=a/|b/; wait=3; end=ReadFault 7 0 [] 26 2; given=||; port= bound 80 any client accepted 0 any client accepted 1 failed Wait; record=rx record 2 window 4 frame line/; report=rx report 1/
+        words=serve p 80 2 --record r --report t --at-once 2; clients=a/|b/; accept=2; end=ReadFault 7 0 [] 16 1; given=|; port= bound 80 any client accepted 0 any client failed Accept; record=rx record 2 window 4 frame line/; report=rx report 1/
+        # One at a time waits for a client or for the one that is open. Nothing is called where no file is loaded, nor by words of no command.
+        words=serve p 80 2 --record r --report t --at-once 1; clients=hi/|there/; end=Finished 0 0 [] 82 6; given=hi/|there/|; port= bound 80 any client accepted 0 open 0 took 0 3 of 4096 gave 0 3 of 3 open 0 took 0 0 of 4096 closed 0 any client accepted 1 open 1 took 1 6 of 4096 gave 1 6 of 6 open 1 took 1 0 of 4096 closed 1
+        words=serve q 80 2 --record r --report t --at-once 2; clients=hi/; end=FileFault 9 0 [] 0 0; calls=; port=; record=none; report=none
+        words=serve p 80 2 --record r --report t --at-once 0; clients=hi/; end=BadWords 2 0 [] 0 0; calls=; port=; record=none; report=none
+        words=serve p 80 2 --record r --report t --at-once 257; clients=hi/; end=BadWords 2 0 [] 0 0; calls=; port=; record=none; report=none
     "#,
     )
 }
@@ -429,12 +429,12 @@ fn a_crowd_is_served_as_its_row_says(rt: HostRuntime) -> Result<(), Fail> {
 // Overflow fails at the long line of the first of two clients, its third item, and is served on with padding for four items, of which the other's line is
 // one. The instructions are as many as over a port, since no item costs more or fewer by its place.
 #[test]
-fn a_guest_that_fails_serves_a_crowd(rt: HostRuntime) -> Result<(), Fail> {
+fn a_guest_that_fails_serves_clients_at_once(rt: HostRuntime) -> Result<(), Fail> {
     play_rows(
         rt.alloc(),
         r#"
         overflow
-        words=serve p 80 2 --record r --report t --at-once 2; clients=xxxxxxxxxxxxxxxxxxxxxxxxxxxxxxxxxxxxxxx/|yyyyyyyyyyyyyyyyyyyyyyyyyyyyyyyyyyyyyyy/; ready=client client 0 1 0 1; end=Finished 0 4 [] 620 6; given=xxxxxxxxxxxxxxxxxxxxxxxxxxxxxxxxxxxxxxx/|yyyyyyyyyyyyyyyyyyyyyyyyyyyyyyyyyyyyyyy/|; crowd= bound 80 any client accepted 0 any client accepted 1 open 0 took 0 40 of 4096 gave 0 40 of 40 open 1 took 1 40 of 4096 gave 1 40 of 40 open 0 took 0 0 of 4096 closed 0 open 1 took 1 0 of 4096 closed 1; record=rx record 2 window 4 frame line/m 00012100 - 00000010/m 00012310 - 00000010/m 00012100 - 00000010/m 00012310 - 00000010/end 620 6/; report=rx report 1/failure 0 point 3 cause AssertFailed 1 at 000100ac/try 0 checkpoint 2 env pad result survived/end 0 taken 6 steps 620/
+        words=serve p 80 2 --record r --report t --at-once 2; clients=xxxxxxxxxxxxxxxxxxxxxxxxxxxxxxxxxxxxxxx/|yyyyyyyyyyyyyyyyyyyyyyyyyyyyyyyyyyyyyyy/; ready=client client 0 1 0 1; end=Finished 0 4 [] 620 6; given=xxxxxxxxxxxxxxxxxxxxxxxxxxxxxxxxxxxxxxx/|yyyyyyyyyyyyyyyyyyyyyyyyyyyyyyyyyyyyyyy/|; port= bound 80 any client accepted 0 any client accepted 1 open 0 took 0 40 of 4096 gave 0 40 of 40 open 1 took 1 40 of 4096 gave 1 40 of 40 open 0 took 0 0 of 4096 closed 0 open 1 took 1 0 of 4096 closed 1; record=rx record 2 window 4 frame line/m 00012100 - 00000010/m 00012310 - 00000010/m 00012100 - 00000010/m 00012310 - 00000010/end 620 6/; report=rx report 1/failure 0 point 3 cause AssertFailed 1 at 000100ac/try 0 checkpoint 2 env pad result survived/end 0 taken 6 steps 620/
     "#,
     )
 }

@@ -35,7 +35,7 @@ use std::marker::Brand;
 use std::process::ExitCode;
 use std::sync::ledger::{Blank, Ledger};
 use std_teller::StdTeller;
-use tcp_edge::{TcpCrowdEdge, TcpListenerEdge};
+use tcp_edge::TcpPortEdge;
 
 // The status where memory ran out, and where the words are those of no command.
 const NO_MEMORY: u8 = 10;
@@ -86,8 +86,7 @@ fn run<L: Ledger>(
     let mut files = DiskFiles::make(rt, alloc, through);
     let mut input = StdSource::make(rt);
     let mut output = StdSink::make(rt);
-    let mut listener = TcpListenerEdge::make(rt, patience);
-    let mut crowd = TcpCrowdEdge::make(rt, alloc, patience);
+    let mut port = TcpPortEdge::make(rt, alloc, patience);
     let mut steps = Steps::<L>::start(blank);
     run_rx(
         alloc,
@@ -95,8 +94,7 @@ fn run<L: Ledger>(
         &mut files,
         &mut input,
         &mut output,
-        &mut listener,
-        &mut crowd,
+        &mut port,
         &mut steps,
         teller,
     )

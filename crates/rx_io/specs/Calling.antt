@@ -1,7 +1,8 @@
 -- What calls on named files add to the list of calls that they tell.
 use Rattle.std.specs.Prelude.{◌≡◌, List, [], ◌∷◌, ◌++◌, Option, Some, None, Result, Ok, Err}
 use Rattle.rx_base.specs.declared.fault.LoadFault.TheVariants as load
-use Rattle.rx_io.specs.Terms.{IoFault, Failed, Memory, LoadFault, TooLarge, FileCall}
+use Rattle.rx_base.specs.declared.fault.IoFault.TheVariants.{Failed, Memory}
+use Rattle.rx_io.specs.Terms.{IoFault, LoadFault, TooLarge, FileCall}
 
 -- these calls stand behind those that were told
 abbrev pub Calls : Option (List FileCall) → Option (List FileCall) → List FileCall → Type 0

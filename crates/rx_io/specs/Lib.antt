@@ -5,10 +5,6 @@ pub mod Sources
 pub mod Sinks
 pub mod Shelves
 pub mod Kept
-pub mod Listening
-pub mod Connections
-pub mod ListenPlans
-pub mod MemoryListeners
 pub mod Reading
 pub mod Ahead
 pub mod Laws

@@ -1,7 +1,6 @@
 -- What the calls on named files do to what the files tell.
 use Rattle.std.specs.Prelude.{◌≡◌, ◌≢◌, ◌⊎◌, ℕ, ◌<◌, ◌≤◌, List, [], ◌++◌, length, Option, Some, None, Result, Ok, Err, IsSomeAnd, unwrap_or, Vec}
-use Rattle.rx_base.specs.declared.fault.LoadFault.TheVariants.{Failed, Memory}
-use Rattle.rx_io.specs.Terms.{Global, IoFault, LoadFault, TooLarge}
+use Rattle.rx_io.specs.Terms.{Global, IoFault, LoadFault, Failed, Memory, TooLarge}
 
 -- the bytes of each name that is there
 abbrev pub Contents : Type 0

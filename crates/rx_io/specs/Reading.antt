@@ -1,7 +1,6 @@
 -- What is read of a reader whose bytes are known.
 use Rattle.std.specs.Prelude.{◌≡◌, ℕ, ◌<◌, List, length, Option, IfSome, Result, Ok, Err, Vec}
-use Rattle.rx_base.specs.declared.fault.LoadFault.TheVariants.{Failed, Memory}
-use Rattle.rx_io.specs.Terms.{Global, LoadFault, TooLarge}
+use Rattle.rx_io.specs.Terms.{Global, LoadFault, Failed, Memory, TooLarge}
 
 -- all bytes, or there are more than the limit
 abbrev pub ReadsWhole : Option (List ℕ) → ℕ → Result (Vec ℕ Global) LoadFault → Type 0

@@ -1,6 +1,7 @@
 -- What the sources in memory tell.
 use Rattle.std.specs.Prelude.{ℕ, min, List, [], length, take, drop, Option, None, Some}
-use Rattle.rx_io.specs.Terms.{Stream, Plan}
+use Rattle.rx_base.specs.Outside.{Stream}
+use Rattle.rx_io.specs.Terms.{Plan}
 use Rattle.rx_io.specs.declared.tame_source.TameSource.{TameSource}
 use Rattle.rx_io.specs.declared.memory_source.MemorySource.{MemorySource}
 

@@ -1,7 +1,7 @@
 // Objects outside that are lent: no call changes which object the reference is to.
 ghost use Rattle.std.specs.Borrow.{GName};
 
-use crate::{Files, Listener, Sink, Source};
+use crate::{Files, Sink, Source};
 use rx_base::{IoFault, LoadFault};
 use std::alloc::Global;
 
@@ -58,39 +58,5 @@ impl<T: Files> Files for &mut T {
 
     fn add(&mut self, name: &str, bytes: &[u8]) -> Result<(), IoFault> {
         Files::add(&mut **self, name, bytes)
-    }
-}
-
-impl<T: Listener> Listener for &mut T {
-    ghost told = { λ s. T.told s.now };
-
-    ghost present = { λ s. T.present s.now };
-
-    ghost faults = { λ s. T.faults s.now };
-
-    ghost connection_faults = { λ s. T.connection_faults s.now };
-
-    ghost Fixed = { GName × T.Fixed };
-
-    ghost fixed = { λ s. (s.ghost_name, T.fixed s.now) };
-
-    fn bind(&mut self, port: u16) -> Result<(), IoFault> {
-        Listener::bind(&mut **self, port)
-    }
-
-    fn accept(&mut self) -> Result<(), IoFault> {
-        Listener::accept(&mut **self)
-    }
-
-    fn take(&mut self, buf: &mut [u8]) -> Result<usize, IoFault> {
-        Listener::take(&mut **self, buf)
-    }
-
-    fn give(&mut self, bytes: &[u8]) -> Result<usize, IoFault> {
-        Listener::give(&mut **self, bytes)
-    }
-
-    fn close(&mut self) {
-        Listener::close(&mut **self)
     }
 }

@@ -6,9 +6,8 @@ use Rattle.run_history.specs.declared.answer.Answer.TheVariants as answer
 use Rattle.schedule_file.proofs.Same.{written_is_read}
 use Rattle.schedule_file.specs.Laws.{OneReading}
 use Rattle.replay.specs.Laws.{HasSession}
-use Rattle.over_trunk.specs.Laws.{IsWithin, IsAsRecorded, IsConverted, ConvertsToItself, SameBytesAreReplayed, SessionIsConverted}
+use Rattle.routes.specs.Laws.{IsWithin, IsAsRecorded, IsConverted, ConvertsToItself, SameBytesAreReplayed, SessionIsConverted}
 use Rattle.rx_serve.proofs.Terms.{List, None, Ok, Option, Some, [], ap, append-nil, arith, inl, inr, length, map, refl, subst, sym, take, ℕ, ◌++◌, ◌<◌, ◌∙◌, ◌≡◌, ◌≤◌, take-append-drop, none-some, same_Some, All, Err, IsSomeAnd, Stream, Contents, Image, IsImage, refusal, Answer, journal_of, IsEnd, items_in, NoneFailed, noted, Recorded, line_of, IsChoice, IsRecord, record_of, text_of, AreAsks, unnoted_of, keeping_for, bounds_of, ConvertsTrunk, ReplaysTrunk, WritesSends, ConvertValue, ReplayValue, RunValue, End, program_limit, Outside, Writes, options_of, rule_of, rules_of_run, window_of, trunk_of, replayed, HasServed, HasBeenReplayed, HasRecord, HasRecording, HasReplayCause, window_in, LeavesText, HasSameOutside, IsReplayedBy, RecordsAreConverted, RecordsAreReplayed, SecondVersionStays}
-use Rattle.rx_serve.proofs.RouteLemmas.{to_trunk}
 use Rattle.rx_serve.proofs.ConvertLemmas.{as_replay}
 use Rattle.rx_serve.proofs.ChoiceRanges.{choices_fine}
 use Rattle.rx_serve.proofs.NotingLemmas.{few_counts}
@@ -108,7 +107,7 @@ module _ (value : RunValue) (replaying : ReplayValue) (files files_later again :
       (subst (λ (i : Image). ReplaysTrunk i has.recorded (Some input_again) new_again.input old_again.output new_again.output answered has.counted) same.1 has.replays) in
       let both =
       law (rules_of_run value) (keeping_for (options_of value)) served.image input input_again new.input new_again.input old.output new.output old_again.output new_again.output (record { stop = served.why; recorded = end.recorded; tail = end.tail; taken = end.taken; steps = end.steps }) answered
-      (noted (Some []) (Some []) (Some NoneFailed)) (noted (Some served.noted.choices) (Some served.noted.episodes) (Some (unnoted_of served.noted.left))) served.noted.counted has.counted left (to_trunk _ _ _ _ _ _ _ _ _ _ _ served.noted.serves) replays has_session within outside.bytes in
+      (noted (Some []) (Some []) (Some NoneFailed)) (noted (Some served.noted.choices) (Some served.noted.episodes) (Some (unnoted_of served.noted.left))) served.noted.counted has.counted left served.noted.serves replays has_session within outside.bytes in
       (as_replayed again replaying answered both.0, both.1)
 
   -- a conversion of it has its text
@@ -121,7 +120,7 @@ module _ (value : RunValue) (replaying : ReplayValue) (files files_later again :
       (subst (λ (i : Image). ConvertsTrunk i recorded (Some input_again) later text counted) same.1 converts) in
       let both =
       law (rules_of_run value) (keeping_for (options_of value)) served.image input input_again new.input later old.output new.output (record { stop = served.why; recorded = end.recorded; tail = end.tail; taken = end.taken; steps = end.steps }) text
-      (noted (Some []) (Some []) (Some NoneFailed)) (noted (Some served.noted.choices) (Some served.noted.episodes) (Some (unnoted_of served.noted.left))) served.noted.counted counted left (to_trunk _ _ _ _ _ _ _ _ _ _ _ served.noted.serves) own has_session within outside.bytes in
+      (noted (Some []) (Some []) (Some NoneFailed)) (noted (Some served.noted.choices) (Some served.noted.episodes) (Some (unnoted_of served.noted.left))) served.noted.counted counted left served.noted.serves own has_session within outside.bytes in
       (both.0, λ bytes is. both.1 bytes is ∙ ap (λ choices. text_of (record_of value.window value.frame choices end.steps end.taken)) (sym all_choices))
 
   -- which the record's file has

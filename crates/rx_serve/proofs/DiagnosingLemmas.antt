@@ -1,9 +1,8 @@
 -- What `diagnose` leaves, from what its parts leave.
 use Rattle.std.specs.Prelude.{true, false}
 use Rattle.file_notes.proofs.BesideLemmas.{beside_here, beside_of, beside_other, beside_told, stands_beside, writes_beside}
-use Rattle.rx_serve.proofs.Terms.{Bool, List, None, Ok, Option, Some, [], ap, append-nil, arith, inl, inr, length, refl, subst, suc, sym, take, ℕ, ◌++◌, ◌∙◌, ◌∷◌, ◌≡◌, ◌≤◌, same_Some, Err, MatchOption, if◌then◌else◌, option_map, ◌≢◌, ◌⊎◌, IoFault, HasCause, Stream, FileCall, Calls, Contents, Choice, Heap, Image, Answer, Stop, holds_at_end, IsEnd, answer_of, Rules, Episode, Try, NoteList, list_episodes, NoneFailed, noted, Keeping, TellsMore, diagnosis_text, head_text, rest_text, calls_then, front_behind, IsThird, StandsBeside, AddsAlone, CallsFront, starts_of, Left, unnoted_of, Stands, all_kept, keeping_for, AreAllTables, Outcome, story_of, rules_by, IsBegun, SessionState, WatchesTrunk, BeginWith, NotedTablesAreTold, DiagnoseValue, RunValue, End, HasFaults, Outside, faults, outside, HasImage, status_of, options_of, rule_of, rules_of_run, window_of, Route, Trunk, ClosesFiles, IsFilesAnswer, ServesNoted, StartsFiles, WatchesNoted, names_of, report_form, CallsEnding, CallsServed, before_session, CallsClosing, CallsDiagnosed, ClosesDiagnosis, HasDiagnosed, HasDiagnosis, HasText, IsKept, StartsDiagnosis, before_diagnosed}
+use Rattle.rx_serve.proofs.Terms.{Bool, List, None, Ok, Option, Some, [], ap, append-nil, arith, inl, inr, length, refl, subst, suc, sym, take, ℕ, ◌++◌, ◌∙◌, ◌∷◌, ◌≡◌, ◌≤◌, same_Some, Err, MatchOption, if◌then◌else◌, option_map, ◌≢◌, ◌⊎◌, IoFault, HasCause, Stream, FileCall, Calls, Contents, Choice, Heap, Image, Answer, Stop, holds_at_end, IsEnd, answer_of, Rules, Episode, Try, NoteList, list_episodes, NoneFailed, noted, Keeping, TellsMore, diagnosis_text, head_text, rest_text, calls_then, front_behind, IsThird, StandsBeside, AddsAlone, CallsFront, starts_of, Left, unnoted_of, Stands, all_kept, keeping_for, AreAllTables, Outcome, story_of, rules_by, IsBegun, SessionState, Route, Trunk, Watches, BeginWith, NotedTablesAreTold, DiagnoseValue, RunValue, End, HasFaults, Outside, faults, outside, HasImage, status_of, options_of, rule_of, rules_of_run, window_of, ClosesFiles, IsFilesAnswer, ServesNoted, StartsFiles, WatchesNoted, names_of, report_form, CallsEnding, CallsServed, before_session, CallsClosing, CallsDiagnosed, ClosesDiagnosis, HasDiagnosed, HasDiagnosis, HasText, IsKept, StartsDiagnosis, before_diagnosed}
 use Rattle.rx_serve.proofs.NotingLemmas.{closes_same}
-use Rattle.rx_serve.proofs.RouteLemmas.{to_trunk}
 use Rattle.rx_base.specs.declared.fault.IoFault.TheVariants as fault
 use Rattle.run_history.specs.declared.answer.Answer.TheVariants as answer
 use Rattle.rx_serve.proofs.RunLemmas.{rose_within, run_ends}
@@ -215,8 +214,8 @@ pub begin_with : NotedTablesAreTold → {rules : Rules} {keeping : Keeping} {ima
 begin_with law {rules = rules} {keeping = keeping} {image = image} input input_now output output_now {outcome = outcome} tables s told is =
     let before = noted (Some []) (Some []) (Some NoneFailed) in
     let now = noted (Some s.choices) (Some s.episodes) (Some (unnoted_of s.left)) in
-    let watched : WatchesTrunk rules keeping image input input_now output output_now outcome before now s.counted (Some []) (Some tables) =
-    record { serves = to_trunk rules keeping image input input_now output output_now outcome before now s.counted s.serves; watched = told } in
+    let watched : Watches (Trunk input input_now output output_now) rules keeping image outcome before now s.counted (Some []) (Some tables) =
+    record { serves = s.serves; watched = told } in
     holds_at_end outcome.stop is (law rules keeping image input input_now output output_now outcome before now s.counted s.episodes tables watched refl refl)
 
 begin_length : (episodes : List Episode) (tables : List (List Try)) → BeginWith episodes tables → length episodes ≡ length tables

@@ -5,7 +5,7 @@ use Rattle.rx_base.specs.declared.fault.IoFault.TheVariants as fault
 use Rattle.run_history.specs.declared.answer.Answer.TheVariants as answer
 use Rattle.trunk_text.specs.declared.turning.Ended.TheVariants as ended
 use Rattle.session_following.specs.declared.unfollowed.Unfollowed.TheVariants as unfollowed
-use Rattle.rx_serve.proofs.Terms.{List, None, Option, Some, inl, inr, refl, subst, sym, ℕ, ◌-◌, ◌∙◌, ◌≡◌, Result, IoFault, ListenEntry, Binds, CrowdBinds, number_cases, Ended, Image, Answer, Stop, is_end_answer, IsEnd, answer_of, Handed, Unfollowed, DrillEnds, DiagnoseValue, ResumeValue, RunValue, ServeValue, asm, convert, diagnose, drill, frame, replay, resume, run, run_in, serve, standby, unframe, End, Outside, HasLoadCause, HasAsmCause, window_of, Port, Route, Several, trunk_of, IsFilesAnswer, HasNotBegun, HasServed, EndsOver, Heard, IsBindAnswer, ServeEnds, limits_of, DiagnoseEnds, HasHandoverCause, ResumeEnds, ResumesSession, unreleased_answer, turned_answer, RunEnds, OnlyBadWordsAreRefused}
+use Rattle.rx_serve.proofs.Terms.{List, None, Option, Some, inl, inr, refl, subst, sym, ◌-◌, ◌∙◌, ◌≡◌, IoFault, PortEntry, Ended, Image, Answer, Stop, is_end_answer, IsEnd, answer_of, Handed, Unfollowed, Route, DrillEnds, DiagnoseValue, ResumeValue, RunValue, ServeValue, asm, convert, diagnose, drill, frame, replay, resume, run, run_in, serve, standby, unframe, End, Outside, HasLoadCause, HasAsmCause, window_of, trunk_of, IsFilesAnswer, HasNotBegun, HasServed, IsBindAnswer, ServeEnds, DiagnoseEnds, HasHandoverCause, ResumeEnds, ResumesSession, unreleased_answer, turned_answer, RunEnds, OnlyBadWordsAreRefused}
 use Rattle.rx_serve.proofs.ReplayLemmas.{replay_not_refused}
 use Rattle.rx_serve.proofs.ConvertLemmas.{convert_not_refused}
 use Rattle.rx_serve.proofs.StandbyLemmas.{standby_not_refused}
@@ -42,17 +42,10 @@ run_not_refused value old new end (inl begun) is = run_not_refused_begun value o
 run_not_refused value old new end (inr served) is = run_not_refused_served value (trunk_of old new) old new end served is
 
 -- nor is a `serve`
-over_not_refused : {Call : Type 0} (value : ServeValue) (binds : Option (List Call) → Option (List Call) → ℕ → Result (Unit {0}) IoFault → Type 0) (route : Option (List Call) → Option (List Call) → Route)
-    (calls calls_later : Option (List Call)) (old new : Outside) (end : End) → EndsOver value binds route calls calls_later old new end → end.answer ≡ answer.BadWords → ⊥
-over_not_refused value binds route calls calls_later old new end (inl begun) is = run_not_refused_begun value.session old new end begun.0 is
-over_not_refused value binds route calls calls_later old new end (inr (inl unbound)) is = bind_not_refused unbound.fault end.answer unbound.answered is
-over_not_refused value binds route calls calls_later old new end (inr (inr port)) is = run_not_refused_served value.session _ old new end port.served is
-
-serve_not_refused : (value : ServeValue) (before later : Heard) (old new : Outside) (end : End) → ServeEnds value before later old new end → end.answer ≡ answer.BadWords → ⊥
-serve_not_refused value before later old new end ends is = elim (number_cases value.at_once 1) [
-  | inl one ↦ over_not_refused value Binds (Port value.conns) before.listener later.listener old new end (ends.one one) is
-  | inr several ↦ over_not_refused value CrowdBinds (Several (limits_of value)) before.crowd later.crowd old new end (ends.several several) is
-]
+serve_not_refused : (value : ServeValue) (calls calls_later : Option (List PortEntry)) (old new : Outside) (end : End) → ServeEnds value calls calls_later old new end → end.answer ≡ answer.BadWords → ⊥
+serve_not_refused value calls calls_later old new end (inl begun) is = run_not_refused_begun value.session old new end begun.0 is
+serve_not_refused value calls calls_later old new end (inr (inl unbound)) is = bind_not_refused unbound.fault end.answer unbound.answered is
+serve_not_refused value calls calls_later old new end (inr (inr port)) is = run_not_refused_served value.session _ old new end port.served is
 
 -- nor is a `diagnose`
 diagnose_not_refused : (value : DiagnoseValue) (old new : Outside) (end : End) → DiagnoseEnds value old new end → end.answer ≡ answer.BadWords → ⊥
@@ -96,15 +89,15 @@ turned_not_refused ended.Limit is = cc
 turned_not_refused ended.Memory is = cc
 
 pub only_bad_words : OnlyBadWordsAreRefused
-only_bad_words None before later old new end ends is = refl
-only_bad_words (Some (run value)) before later old new end ends is = absurd (run_not_refused value old new end ends is)
-only_bad_words (Some (asm value)) before later old new end ends is = absurd (subst (HasAsmCause old.files value.source) is ends.cause)
-only_bad_words (Some (replay value)) before later old new end ends is = absurd (replay_not_refused value old new end.answer ends.replays is)
-only_bad_words (Some (convert value)) before later old new end ends is = absurd (convert_not_refused value old new end.answer ends.converts is)
-only_bad_words (Some (standby value)) before later old new end ends is = absurd (standby_not_refused value old new end ends is)
-only_bad_words (Some (resume value)) before later old new end ends is = absurd (resume_not_refused value old new end ends is)
-only_bad_words (Some (serve value)) before later old new end ends is = absurd (serve_not_refused value before later old new end ends is)
-only_bad_words (Some (diagnose value)) before later old new end ends is = absurd (diagnose_not_refused value old new end ends is)
-only_bad_words (Some (drill value)) before later old new end ends is = absurd (subst (DrillEnds value.seed value.count (new.counter - old.counter) old.output new.output) is ends.drilled)
-only_bad_words (Some frame) before later old new end ends is = absurd (turned_not_refused ends.ended (sym ends.answered ∙ is))
-only_bad_words (Some unframe) before later old new end ends is = absurd (turned_not_refused ends.ended (sym ends.answered ∙ is))
+only_bad_words None calls calls_later old new end ends is = refl
+only_bad_words (Some (run value)) calls calls_later old new end ends is = absurd (run_not_refused value old new end ends is)
+only_bad_words (Some (asm value)) calls calls_later old new end ends is = absurd (subst (HasAsmCause old.files value.source) is ends.cause)
+only_bad_words (Some (replay value)) calls calls_later old new end ends is = absurd (replay_not_refused value old new end.answer ends.replays is)
+only_bad_words (Some (convert value)) calls calls_later old new end ends is = absurd (convert_not_refused value old new end.answer ends.converts is)
+only_bad_words (Some (standby value)) calls calls_later old new end ends is = absurd (standby_not_refused value old new end ends is)
+only_bad_words (Some (resume value)) calls calls_later old new end ends is = absurd (resume_not_refused value old new end ends is)
+only_bad_words (Some (serve value)) calls calls_later old new end ends is = absurd (serve_not_refused value calls calls_later old new end ends is)
+only_bad_words (Some (diagnose value)) calls calls_later old new end ends is = absurd (diagnose_not_refused value old new end ends is)
+only_bad_words (Some (drill value)) calls calls_later old new end ends is = absurd (subst (DrillEnds value.seed value.count (new.counter - old.counter) old.output new.output) is ends.drilled)
+only_bad_words (Some frame) calls calls_later old new end ends is = absurd (turned_not_refused ends.ended (sym ends.answered ∙ is))
+only_bad_words (Some unframe) calls calls_later old new end ends is = absurd (turned_not_refused ends.ended (sym ends.answered ∙ is))

@@ -1,8 +1,7 @@
 -- A served run has few instructions: at most the budget and one for each item that it took, and as many for the wait for
 -- the next one. And it takes no more items than there are.
-use Rattle.run_history.specs.Served.{Limits}
 use Rattle.run_history.proofs.Serves.{serves_to}
-use Rattle.rx_serve.proofs.Terms.{List, None, Option, Some, ap, arith, length, refl, sym, ℕ, ◌*◌, ◌+◌, ◌<◌, ◌∙◌, ◌≡◌, ◌≤◌, none-some, slice_get_within, slice_get, Item, Choice, Image, repeated_keeps, allocated_keeps, received_keeps, allocated, Machine, State, start, start_machine, after, does, Override, Path, Served, env_at, origin, planned_next, ByChoice, ByEnd, ByItem, ByItself, BySend, Moved, moved}
+use Rattle.rx_serve.proofs.Terms.{List, None, Option, Some, ap, arith, length, refl, sym, ℕ, ◌*◌, ◌+◌, ◌<◌, ◌∙◌, ◌≡◌, ◌≤◌, none-some, slice_get_within, slice_get, Item, Choice, Image, repeated_keeps, allocated_keeps, received_keeps, allocated, Machine, State, start, after, does, Limits, Override, Path, Served, env_at, origin, planned_next, ByChoice, ByEnd, ByItem, ByItself, BySend, Moved, moved}
 
 -- what one instruction does to the counts: it is one more since the last item, or took an item, or ended the program
 data Counts (s t : State) : Type 0 where

@@ -7,9 +7,8 @@ use Rattle.run_history.specs.Run.{run}
 use Rattle.session_history.specs.Owing.{OwesNothing}
 use Rattle.session_history.specs.Ends.{EndsBy}
 use Rattle.session_history.specs.Passing.{passed_in}
-use Rattle.over_crowd.specs.Calls as crowd
-use Rattle.over_crowd.specs.Serving as gathered
-use Rattle.rx_serve.proofs.Terms.{IfSome, List, None, Option, Some, [], ap, append-nil, arith, drop, length, refl, subst, suc, sym, true, zero, ℕ, ◌++◌, ◌∙◌, ◌≡◌, ◌≤◌, length-take-le, take-append-drop, none-some, option_and_then_some, same_Some, Item, IsDrained, Stream, Prefix, sent_to, ListenEntry, Entry, Coming, CrowdEntry, Limits, Choice, payload, Image, Answer, next_parts, Chooses, Effect, Emits, Ends, Fails, Goes, State, Wants, start, Run, after, effect, next, output, SessionEnd, Stop, at_its_end, came_to, holds_at_end, is_end_answer, passed_all, received_at_end, HasPassedAll, IsAccount, Session, journal_of, AtEnd, EndsAt, HasComeTo, IsEnd, answer_of, end_answer, AreGiven, events_of, Rules, entries_of, Episode, Unnoted, noted, Keeping, HasNoted, IsOutcome, Telling, Carries, StopsTrunk, given_to, EndsAfter, GoesOverPort, GoesOverCrowd, End, GoesOver, IsDone, IsServed, Passed, PassedCalls, PassedOver, PassedTrunk, Port, Route, Serves, Several, Trunk, Headline, LastExits, received_items}
+use Rattle.session_history.specs.declared.ends.SessionEnd.{SessionEnd}
+use Rattle.rx_serve.proofs.Terms.{IfSome, List, None, Option, Some, [], ap, append-nil, arith, drop, length, refl, subst, suc, sym, true, zero, ℕ, ◌++◌, ◌∙◌, ◌≡◌, ◌≤◌, length-take-le, take-append-drop, none-some, option_and_then_some, same_Some, Item, IsDrained, Stream, Prefix, sent_to, Entry, Coming, PortEntry, PortLimits, Choice, payload, Image, Answer, next_parts, Chooses, Effect, Emits, Ends, Fails, Goes, State, Wants, start, Run, after, effect, next, output, Stop, at_its_end, came_to, holds_at_end, is_end_answer, passed_all, received_at_end, HasPassedAll, IsAccount, Session, journal_of, AtEnd, EndsAt, HasComeTo, IsEnd, answer_of, end_answer, AreGiven, events_of, Rules, entries_of, Episode, Unnoted, noted, Keeping, HasNoted, IsOutcome, Telling, EndsAfter, GoesOverPort, given_to, GoesOver, Port, Route, Serves, Trunk, Carries, StopsTrunk, End, IsDone, IsServed, Passed, PassedCalls, PassedOver, PassedTrunk, Headline, LastExits, received_items}
 
 ended_of : Option State → Option ℕ
 ended_of None = None
@@ -103,25 +102,14 @@ passed_trunk rules image (Some before) later session end account all carries = r
 }
 
 -- and given to the connections of a port
-passed_port : (conns : ℕ) (rules : Rules) (image : Image) (calls calls_later : Option (List ListenEntry)) (session : Session) (end : Answer) → IsAccount rules image session → (IsEnd end → HasPassedAll rules session)
-    → GoesOverPort conns rules calls calls_later session → IfSome calls (λ before. PassedCalls given_to rules session end before calls_later)
-passed_port conns rules image None later session end account all goes = tt
-passed_port conns rules image (Some before) None session end account all goes = absurd goes
-passed_port conns rules image (Some before) (Some later) session end account all goes = record {
+passed_port : (limits : PortLimits) (rules : Rules) (image : Image) (calls calls_later : Option (List PortEntry)) (session : Session) (end : Answer) → IsAccount rules image session → (IsEnd end → HasPassedAll rules session)
+    → GoesOverPort limits rules calls calls_later session → IfSome calls (λ before. PassedCalls rules session end before calls_later)
+passed_port limits rules image None later session end account all goes = tt
+passed_port limits rules image (Some before) None session end account all goes = absurd goes
+passed_port limits rules image (Some before) (Some later) session end account all goes = record {
   calls = goes.calls;
   made = ap Some goes.grew;
   passed = passed_by rules image session end (λ conn. given_to conn goes.calls) goes.moved.given account all;
-}
-
--- of several at the same time too
-passed_several : (limits : Limits) (rules : Rules) (image : Image) (calls calls_later : Option (List CrowdEntry)) (session : Session) (end : Answer) → IsAccount rules image session → (IsEnd end → HasPassedAll rules session)
-    → GoesOverCrowd limits rules calls calls_later session → IfSome calls (λ before. PassedCalls crowd.given_to rules session end before calls_later)
-passed_several limits rules image None later session end account all goes = tt
-passed_several limits rules image (Some before) None session end account all goes = absurd goes
-passed_several limits rules image (Some before) (Some later) session end account all goes = record {
-  calls = goes.calls;
-  made = ap Some goes.grew;
-  passed = passed_by rules image session end (λ conn. crowd.given_to conn goes.calls) goes.moved.given account all;
 }
 
 -- at Finished the source has no byte left
@@ -130,24 +118,14 @@ drained None later events stops = tt
 drained (Some stream) later events stops = stops.1
 
 -- and each connection of a port was accepted and closed
-served_all : (conns : ℕ) (rules : Rules) (calls calls_later : Option (List ListenEntry)) (session : Session) → session.came ≡ Some session_end.Finished → GoesOverPort conns rules calls calls_later session
-    → IfSome calls (λ before. IsServed (EndsAfter conns) before calls_later)
-served_all conns rules None later session came goes = tt
-served_all conns rules (Some before) None session came goes = absurd goes
-served_all conns rules (Some before) (Some later) session came goes = record {
+served_all : (limits : PortLimits) (rules : Rules) (calls calls_later : Option (List PortEntry)) (session : Session) → session.came ≡ Some session_end.Finished → GoesOverPort limits rules calls calls_later session
+    → IfSome calls (λ before. IsServed limits.conns before calls_later)
+served_all limits rules None later session came goes = tt
+served_all limits rules (Some before) None session came goes = absurd goes
+served_all limits rules (Some before) (Some later) session came goes = record {
   calls = goes.calls;
   made = ap Some goes.grew;
-  ends = subst (λ (end : Option SessionEnd). IfSome end (EndsAfter conns goes.calls)) came goes.ends;
-}
-
-served_several : (limits : Limits) (rules : Rules) (calls calls_later : Option (List CrowdEntry)) (session : Session) → session.came ≡ Some session_end.Finished → GoesOverCrowd limits rules calls calls_later session
-    → IfSome calls (λ before. IsServed (gathered.EndsAfter limits.conns) before calls_later)
-served_several limits rules None later session came goes = tt
-served_several limits rules (Some before) None session came goes = absurd goes
-served_several limits rules (Some before) (Some later) session came goes = record {
-  calls = goes.calls;
-  made = ap Some goes.grew;
-  ends = subst (λ (end : Option SessionEnd). IfSome end (gathered.EndsAfter limits.conns goes.calls)) came goes.ends;
+  ends = subst (λ (end : Option SessionEnd). IfSome end (EndsAfter limits.conns goes.calls)) came goes.ends;
 }
 
 -- of the answers of the allocator of a run the first ones stand in the record, and the others are the tail
@@ -203,14 +181,12 @@ headline_by rules keeping image route why end recording told coming telling same
 passed_over : (route : Route) (rules : Rules) (image : Image) (coming : Option Coming) (session : Session) (why : Stop) (end : Answer) → GoesOver route rules coming session why → IsAccount rules image session
     → (IsEnd end → HasPassedAll rules session) → PassedOver route rules session end
 passed_over (Trunk source source_later sink sink_later) rules image coming session why end goes account all = passed_trunk rules image sink sink_later session end account all goes.carried
-passed_over (Port conns calls calls_later) rules image coming session why end goes account all = passed_port conns rules image calls calls_later session end account all goes.1
-passed_over (Several limits calls calls_later) rules image coming session why end goes account all = passed_several limits rules image calls calls_later session end account all goes.1
+passed_over (Port limits calls calls_later) rules image coming session why end goes account all = passed_port limits rules image calls calls_later session end account all goes.1
 
 done_over : (route : Route) (rules : Rules) (coming : Option Coming) (session : Session) (why : Stop) → GoesOver route rules coming session why → session.came ≡ Some session_end.Finished → IsDone route
 done_over (Trunk source source_later sink sink_later) rules coming session why goes came =
     drained source source_later _ (subst (λ (end : Option SessionEnd). IfSome end (StopsTrunk source source_later (events_of rules.bounds (journal_of session)))) came goes.stops)
-done_over (Port conns calls calls_later) rules coming session why goes came = served_all conns rules calls calls_later session came goes.1
-done_over (Several limits calls calls_later) rules coming session why goes came = served_several limits rules calls calls_later session came goes.1
+done_over (Port limits calls calls_later) rules coming session why goes came = served_all limits rules calls calls_later session came goes.1
 
 pub headline : (rules : Rules) (keeping : Keeping) (image : Image) (route : Route) (why : Stop) (end : End) (recording : List Choice) (told : List Episode) (before now : Option Unnoted)
     → (IsEnd end.answer → end.answer ≡ answer_of why) → (counted : ℕ)

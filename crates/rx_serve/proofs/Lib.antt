@@ -7,7 +7,7 @@ pub mod ComparingLemmas
 pub mod NamesLemmas
 pub mod NotingLemmas
 pub mod CallingLemmas
-pub mod RouteLemmas
+pub mod BindLemmas
 pub mod HeadlineLemmas
 pub mod GuardLemmas
 pub mod RunLemmas
@@ -23,8 +23,8 @@ mod ChoiceRanges
 mod CommandLemmas
 mod EndsLemmas
 pub mod SessionLaws
+mod Opening
 mod PortOrder
-mod CrowdOrder
 mod PortSends
 mod ServeLaws
 pub mod Lemmas

@@ -2,7 +2,7 @@
 use Rattle.run_history.specs.declared.answer.Answer.TheVariants as answer
 use Rattle.trunk_text.specs.declared.turning.Ended.TheVariants as ended
 use Rattle.trunk_text.specs.Turns.{Moved}
-use Rattle.rx_serve.proofs.Terms.{List, None, Option, Some, [], arith, inl, refl, rules, subst, sym, ◌++◌, ◌-◌, ◌≡◌, All, framing, Turned, Way, unframing, Answer, DrillEnds, CommandValue, asm, convert, diagnose, drill, frame, replay, resume, run, serve, standby, unframe, End, Outside, HasNoSession, CallsConvert, replayed, Heard, HasReplayCause, HasTakeoverCause, HasHandoverCause, TurnsInput}
+use Rattle.rx_serve.proofs.Terms.{List, None, Option, Some, [], arith, inl, refl, rules, subst, sym, ◌-◌, ◌≡◌, PortEntry, framing, Turned, Way, unframing, Answer, DrillEnds, CommandValue, asm, convert, diagnose, drill, frame, replay, resume, run, serve, standby, unframe, End, Outside, HasNoSession, CallsConvert, replayed, HasReplayCause, HasTakeoverCause, HasHandoverCause, TurnsInput}
 use Rattle.rx_serve.specs.Commands.{Ends}
 
 nothing_moved : (old : Outside) → Moved old.input old.input old.output old.output [] []
@@ -20,7 +20,7 @@ nothing_turned way old end part is nothing = record {
   nothing = nothing;
 }
 
-pub memory_ends : (asked : Option CommandValue) (before : Heard) (old : Outside) (end : End) → (asked ≡ None → ⊥) → end.answer ≡ answer.Memory → HasNoSession end → end.difference ≡ None → Ends asked before before old old end
+pub memory_ends : (asked : Option CommandValue) (before : Option (List PortEntry)) (old : Outside) (end : End) → (asked ≡ None → ⊥) → end.answer ≡ answer.Memory → HasNoSession end → end.difference ≡ None → Ends asked before before old old end
 memory_ends None before old end some is nothing none = absurd (some refl)
 memory_ends (Some (run value)) before old end some is nothing none = search (rules, is, nothing)
 memory_ends (Some (asm value)) before old end some is nothing none = search (rules, is, nothing)

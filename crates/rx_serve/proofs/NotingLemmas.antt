@@ -1,7 +1,7 @@
 -- What stands in a session's files at its end, and that the counts of it fit into a record.
 use Rattle.rx_base.specs.declared.fault.IoFault.TheVariants as fault
 use Rattle.run_history.specs.declared.answer.Answer.TheVariants as answer
-use Rattle.rx_serve.proofs.Terms.{Bool, List, None, Ok, Option, Some, [], arith, inl, inr, refl, subst, sym, ℕ, ◌*◌, ◌+◌, ◌<◌, ◌^◌, ◌∙◌, ◌≡◌, ◌≤◌, IoFault, MAX_ITEMS, few_in_all, Stream, FileCall, Contents, Choice, Heap, Image, Answer, Stop, is_end_answer, Session, journal_of, IsEnd, answer_of, Rules, Episode, Try, NoneFailed, Shown, noted, few_items, Keeping, Form, whole_texts, AreAsks, InRecord, InReport, Left, Nothing, unnoted_of, Names, Stands, Options, AreInRange, keeping_for, rules_of, IsHandedLast, IsNoteStop, Outcome, SessionState, HasServedTrunk, RunValue, Outside, outside, status_of, Route, Watches, ClosesFiles, EndsFiles, HaveTexts, IsFilesAnswer, ServesNoted, StartsFiles, WatchesNoted, names_of, report_form}
+use Rattle.rx_serve.proofs.Terms.{Bool, List, None, Ok, Option, Some, [], arith, inl, inr, refl, subst, sym, ℕ, ◌*◌, ◌+◌, ◌<◌, ◌^◌, ◌∙◌, ◌≡◌, ◌≤◌, IoFault, MAX_ITEMS, few_in_all, Stream, FileCall, Contents, Choice, Heap, Image, Answer, Stop, is_end_answer, Session, journal_of, IsEnd, answer_of, Rules, Episode, Try, NoneFailed, Shown, noted, few_items, Keeping, Form, whole_texts, AreAsks, InRecord, InReport, Left, Nothing, unnoted_of, Names, Stands, Options, AreInRange, keeping_for, rules_of, IsHandedLast, IsNoteStop, Outcome, SessionState, HasServedOver, Route, Trunk, Watches, RunValue, Outside, outside, status_of, ClosesFiles, EndsFiles, HaveTexts, IsFilesAnswer, ServesNoted, StartsFiles, WatchesNoted, names_of, report_form}
 use Rattle.rx_serve.proofs.FewSteps.{few_steps}
 use Rattle.session_history.specs.declared.ends.SessionBreak.TheVariants as session_break
 use Rattle.session_history.specs.declared.ends.Stop.TheVariants as stop
@@ -159,8 +159,8 @@ few_counts options ranges permits {image = image} noted =
 module _ {R : Type 0} where
   -- what a session left, of what the notes show by other names
   pub served_at : {rules : Rules} {source source_later : Option Stream} {sink sink_later : Option (List ℕ)} {shown shown_now other other_now : Shown} {counted : ℕ} {tables_before tables : Option (List (List Try))} {old new : SessionState R} {answered : Answer}
-      → shown ≡ other → shown_now ≡ other_now → HasServedTrunk rules source source_later sink sink_later shown shown_now counted tables_before tables old new answered
-      → HasServedTrunk rules source source_later sink sink_later other other_now counted tables_before tables old new answered
+      → shown ≡ other → shown_now ≡ other_now → HasServedOver (Trunk source source_later sink sink_later) rules shown shown_now counted tables_before tables old new answered
+      → HasServedOver (Trunk source source_later sink sink_later) rules other other_now counted tables_before tables old new answered
   served_at {rules = rules} {source = source} {source_later = source_later} {sink = sink} {sink_later = sink_later} {shown_now = shown_now} {other = other} {counted = counted} {tables_before = tables_before} {tables = tables} {old = old} {new = new} {answered = answered} same same_now served =
-      subst (λ (s : Shown). HasServedTrunk rules source source_later sink sink_later other s counted tables_before tables old new answered) same_now
-      (subst (λ (s : Shown). HasServedTrunk rules source source_later sink sink_later s shown_now counted tables_before tables old new answered) same served)
+      subst (λ (s : Shown). HasServedOver (Trunk source source_later sink sink_later) rules other s counted tables_before tables old new answered) same_now
+      (subst (λ (s : Shown). HasServedOver (Trunk source source_later sink sink_later) rules s shown_now counted tables_before tables old new answered) same served)

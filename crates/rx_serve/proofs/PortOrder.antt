@@ -1,113 +1,40 @@
 -- No connection of a port is opened that was closed before.
-use Rattle.std.proofs.Common.{◌==◌, if◌then◌else◌, ◌⊎◌}
+use Rattle.std.proofs.Common.{◌==◌, if◌then◌else◌}
 use Rattle.links.specs.declared.journal.Entry.TheVariants as entry
 use Rattle.links.specs.declared.journal.LinkEvent.TheVariants as event
+use Rattle.links.proofs.Journaled.{events_in-append}
+use Rattle.ports.specs.declared.port_calls.PortEntry.TheVariants as made
+use Rattle.ports.specs.declared.port_calls.FailedCall.TheVariants as call
 use Rattle.port_link.specs.declared.place.Stage.{Stage}
-use Rattle.port_link.specs.Stages.{broken}
-use Rattle.rx_io.specs.declared.listener_calls.ListenCall.TheVariants as call
-use Rattle.rx_io.specs.declared.listener_calls.ListenEntry.TheVariants as listen
-use Rattle.port_link.specs.declared.place.Place.{Place}
-use Rattle.port_link.specs.declared.place.Stage.TheVariants.{Broken, Dropping, Ended, Open, Waiting}
-use Rattle.port_link.specs.Ports.{AreCalls, IsCall, Port, after_call, closed_entries, entries_of, fresh_port, gives_all, gives_part, port_after, takes_bytes, with_part}
-use Rattle.port_link.specs.Standing.{link_journal, with_close, with_ends}
-use Rattle.rx_serve.proofs.Terms.{Bool, List, [], ap, append-nil, arith, false, inl, inr, length, nat_lt, refl, subst, suc, sym, true, zero, ℕ, ◌++◌, ◌+◌, ◌<◌, ◌∙◌, ◌∷◌, ◌≡◌, ne_eqb, or_from, or_parts, ListenEntry, Entry, LinkEvent, events_in-append, events_in, OpensOnce, closes}
+use Rattle.port_link.specs.declared.place.Stage.TheVariants.{Broken, Closed, Dropped, Ended, Open, Unopened}
+use Rattle.port_link.specs.Stages.{broken, is_present}
+use Rattle.port_link.specs.Served.{AreCalls, IsCall, Served, after_call, closed_entries, entries_of, fresh_served, gives_all, gives_part, is_closable, served_after, takes_bytes, with_part, with_stage}
+use Rattle.port_link.specs.Standing.{with_ends}
+use Rattle.rx_serve.proofs.Terms.{Bool, List, [], ap, append-nil, arith, false, inl, inr, length, nat_lt, refl, subst, suc, sym, true, zero, ℕ, ◌++◌, ◌+◌, ◌<◌, ◌∙◌, ◌∷◌, ◌≡◌, ◌≤◌, cases_lt, ne_eqb, Entry, LinkEvent, events_in, PortEntry, PortLimits, OpensOnce, closes}
+use Rattle.rx_serve.proofs.Opening.{closes_no_more, closes_other, none_mid, once_more, opened_conn}
 
--- ---- one event more
-
-abbrev head_or : {A : Type 0} → A → List A → A
-head_or other [] = other
-head_or other (x ∷ xs) = x
-
-abbrev behind_head : {A : Type 0} → List A → List A
-behind_head [] = []
-behind_head (x ∷ xs) = xs
-
-pub none_mid : {A : Type 0} (before after : List A) (x : A) → [] ≡ before ++ x ∷ after → ⊥
-none_mid [] after x same = cc
-none_mid (b ∷ before) after x same = cc
-
--- a place in a list that has one more at its end is there, or before
-split_last : {A : Type 0} (xs before after : List A) (last x : A) → xs ++ last ∷ [] ≡ before ++ x ∷ after → ((xs ≡ before) × (last ≡ x)) ⊎ ((rest : List A) × (xs ≡ before ++ x ∷ rest))
-split_last [] [] after last x same = inl (refl, ap (head_or last) same)
-split_last [] (b ∷ before) after last x same = absurd (none_mid before after x (ap behind_head same))
-split_last (a ∷ xs) [] after last x same = inr (xs, ap (λ y. y ∷ xs) (ap (head_or a) same))
-split_last (a ∷ xs) (b ∷ before) after last x same =
-    let first : a ≡ b = ap (head_or a) same in
-    elim (split_last xs before after last x (ap behind_head same)) [
-      | inl (is, at) ↦ inl (ap (λ y. y ∷ xs) first ∙ ap (λ ys. b ∷ ys) is, at)
-      | inr (rest, is) ↦ inr (rest, ap (λ y. y ∷ xs) first ∙ ap (λ ys. b ∷ ys) is)
-    ]
-
-pub once_more : (events : List LinkEvent) (one : LinkEvent) → OpensOnce events → ((conn : ℕ) → one ≡ event.Opens conn → closes conn events ≡ false) → OpensOnce (events ++ one ∷ [])
-once_more events one once fresh before after conn same = elim (split_last events before after one (event.Opens conn) same) [
-  | inl (is, opens) ↦ subst (λ (list : List LinkEvent). closes conn list ≡ false) is (fresh conn opens)
-  | inr (rest, is) ↦ once before rest conn is
-]
-
-pub closes_no_more : (conn : ℕ) (events : List LinkEvent) (one : LinkEvent) → closes conn (one ∷ []) ≡ false → closes conn events ≡ false → closes conn (events ++ one ∷ []) ≡ false
-closes_no_more conn [] one none closed = none
-closes_no_more conn (event.Opens c ∷ events) one none closed = closes_no_more conn events one none closed
-closes_no_more conn (event.Piece c bytes ∷ events) one none closed = closes_no_more conn events one none closed
-closes_no_more conn (event.Closes c ∷ events) one none closed =
-    let parts = or_parts (c == conn) (closes conn events) closed in
-    or_from (c == conn) (closes conn (events ++ one ∷ [])) parts.0 (closes_no_more conn events one none parts.1)
-closes_no_more conn (event.Settles ∷ events) one none closed = closes_no_more conn events one none closed
-closes_no_more conn (event.Ends ∷ events) one none closed = closes_no_more conn events one none closed
-
--- ---- a port's connections, one after another
-
--- Events open each connection once. None behind the present one was closed; nor was the next one, where none is present.
-record InTurn (conn : ℕ) (stage : Stage) (events : List LinkEvent) : Type 0 where
+-- events open each connection once, and none of those that come behind so many was closed
+record InNumber (accepted : ℕ) (events : List LinkEvent) : Type 0 where
   once : OpensOnce events
-  behind : (other : ℕ) → conn < other → closes other events ≡ false
-  waits : stage ≡ Waiting → closes conn events ≡ false
+  behind : (other : ℕ) → accepted ≤ other → closes other events ≡ false
 
-abbrev pub opened_conn : ℕ → LinkEvent → ℕ
-opened_conn other (event.Opens conn) = conn
-opened_conn other (event.Piece conn bytes) = other
-opened_conn other (event.Closes conn) = other
-opened_conn other event.Settles = other
-opened_conn other event.Ends = other
-
-turn_opens : (conn : ℕ) (stage : Stage) (events : List LinkEvent) → stage ≡ Waiting → InTurn conn stage events → InTurn conn Open (events ++ event.Opens conn ∷ [])
-turn_opens conn stage events is turn = record {
-  once = once_more events (event.Opens conn) turn.once (λ other same. subst (λ (n : ℕ). closes n events ≡ false) (ap (opened_conn conn) same) (turn.waits is));
-  behind = λ other less. closes_no_more other events (event.Opens conn) refl (turn.behind other less);
-  waits = λ waits. cc;
+number_opens : (accepted : ℕ) (events : List LinkEvent) → InNumber accepted events → InNumber (accepted + 1) (events ++ event.Opens accepted ∷ [])
+number_opens accepted events numbered = record {
+  once = once_more events (event.Opens accepted) numbered.once (λ other same. subst (λ (n : ℕ). closes n events ≡ false) (ap (opened_conn accepted) same) (numbered.behind accepted (omega arith)));
+  behind = λ other less. closes_no_more other events (event.Opens accepted) refl (numbered.behind other (omega arith));
 }
 
-turn_piece : (conn : ℕ) (stage : Stage) (events : List LinkEvent) (bytes : List ℕ) → InTurn conn stage events → InTurn conn stage (events ++ event.Piece conn bytes ∷ [])
-turn_piece conn stage events bytes turn = record {
-  once = once_more events (event.Piece conn bytes) turn.once (λ other same. cc);
-  behind = λ other less. closes_no_more other events (event.Piece conn bytes) refl (turn.behind other less);
-  waits = λ waits. closes_no_more conn events (event.Piece conn bytes) refl (turn.waits waits);
+number_piece : (accepted conn : ℕ) (events : List LinkEvent) (bytes : List ℕ) → InNumber accepted events → InNumber accepted (events ++ event.Piece conn bytes ∷ [])
+number_piece accepted conn events bytes numbered = record {
+  once = once_more events (event.Piece conn bytes) numbered.once (λ other same. cc);
+  behind = λ other less. closes_no_more other events (event.Piece conn bytes) refl (numbered.behind other less);
 }
 
-pub closes_other : (conn other : ℕ) → conn < other → closes other (event.Closes conn ∷ []) ≡ false
-closes_other conn other less = or_from (conn == other) false (ne_eqb conn other (λ same. omega arith)) refl
-
-turn_closes : (conn : ℕ) (stage later : Stage) (events : List LinkEvent) → (later ≡ Waiting → ⊥) → InTurn conn stage events → InTurn conn later (events ++ event.Closes conn ∷ [])
-turn_closes conn stage later events not turn = record {
-  once = once_more events (event.Closes conn) turn.once (λ other same. cc);
-  behind = λ other less. closes_no_more other events (event.Closes conn) (closes_other conn other less) (turn.behind other less);
-  waits = λ waits. absurd (not waits);
+number_closes : (accepted conn : ℕ) (events : List LinkEvent) → conn < accepted → InNumber accepted events → InNumber accepted (events ++ event.Closes conn ∷ [])
+number_closes accepted conn events few numbered = record {
+  once = once_more events (event.Closes conn) numbered.once (λ other same. cc);
+  behind = λ other less. closes_no_more other events (event.Closes conn) (closes_other conn other (omega arith)) (numbered.behind other less);
 }
-
-turn_next : (conn : ℕ) (stage : Stage) (events : List LinkEvent) → InTurn conn stage events → InTurn (conn + 1) Waiting events
-turn_next conn stage events turn = record {
-  once = turn.once;
-  behind = λ other less. turn.behind other (omega arith);
-  waits = λ waits. turn.behind (conn + 1) (omega arith);
-}
-
-turn_broken : (conn : ℕ) (stage : Stage) (events : List LinkEvent) → InTurn conn stage events → InTurn conn (broken stage) events
-turn_broken conn Waiting events turn = turn
-turn_broken conn Open events turn = record { once = turn.once; behind = turn.behind; waits = λ waits. cc }
-turn_broken conn Ended events turn = turn
-turn_broken conn Broken events turn = turn
-turn_broken conn Dropping events turn = turn
-
--- ---- what calls make of it
 
 gave_events : (entries : List Entry) (conn : ℕ) (bytes : List ℕ) (gone : Bool) → events_in (entries ++ entry.Gave conn bytes gone ∷ []) ≡ events_in entries
 gave_events entries conn bytes gone = events_in-append entries (entry.Gave conn bytes gone ∷ []) ∙ append-nil (events_in entries)
@@ -116,66 +43,118 @@ part_events : (entries : List Entry) (conn : ℕ) (part : List ℕ) → events_i
 part_events entries conn [] = refl
 part_events entries conn (byte ∷ part) = gave_events entries conn (byte ∷ part) false
 
-abbrev PortInTurn : Port → Type 0
-PortInTurn port = InTurn port.conn port.stage (events_in (entries_of port))
+-- nothing was answered of the connections behind so many
+abbrev AreFresh : ℕ → (ℕ → Stage) → Type 0
+AreFresh accepted stages = (other : ℕ) → accepted ≤ other → stages other ≡ Unopened
 
-took_turn : (bytes : List ℕ) (port : Port) → PortInTurn port → PortInTurn (takes_bytes bytes port)
-took_turn [] port turn =
-    subst (λ (list : List LinkEvent). InTurn port.conn Ended list) (sym (events_in-append (entries_of port) (entry.Took (event.Closes port.conn) ∷ [])))
-    (turn_closes port.conn port.stage Ended (events_in (entries_of port)) (λ waits. cc) turn)
-took_turn (byte ∷ bytes) port turn =
-    subst (λ (list : List LinkEvent). InTurn port.conn port.stage list) (sym (events_in-append (entries_of port) (entry.Took (event.Piece port.conn (byte ∷ bytes)) ∷ [])))
-    (turn_piece port.conn port.stage (events_in (entries_of port)) (byte ∷ bytes) turn)
+record IsNumbered (served : Served) : Type 0 where
+  events : InNumber served.accepted (events_in (entries_of served))
+  fresh : AreFresh served.accepted served.stages
 
-gave_turn : (cut : Bool) (bytes : List ℕ) (port : Port) → PortInTurn port → PortInTurn (if cut then gives_part bytes port else gives_all bytes port)
-gave_turn true bytes port turn =
-    subst (λ (list : List LinkEvent). InTurn port.conn port.stage list) (part_events port.entries port.conn port.part ∙ sym (part_events port.entries port.conn (port.part ++ bytes))) turn
-gave_turn false bytes port turn =
-    subst (λ (list : List LinkEvent). InTurn port.conn port.stage list) (part_events port.entries port.conn port.part ∙ sym (gave_events port.entries port.conn (port.part ++ bytes) false)) turn
+-- one of which something was answered is one of those
+among : (accepted conn : ℕ) (stages : ℕ → Stage) → AreFresh accepted stages → (stages conn ≡ Unopened → ⊥) → conn < accepted
+among accepted conn stages fresh some = elim (cases_lt conn accepted) [
+  | inl less ↦ less
+  | inr past ↦ absurd (some (fresh conn past))
+]
 
-closed_turn : (stage : Stage) (conn : ℕ) (entries : List Entry) → InTurn conn stage (events_in entries) → InTurn (conn + 1) Waiting (events_in (closed_entries stage conn entries))
-closed_turn Waiting conn entries turn = turn_next conn Waiting (events_in entries) turn
-closed_turn Open conn entries turn = turn_next conn Open (events_in entries) turn
-closed_turn Ended conn entries turn = turn_next conn Ended (events_in entries) turn
-closed_turn Broken conn entries turn =
-    turn_next conn Ended (events_in (entries ++ entry.Took (event.Closes conn) ∷ []))
-    (subst (λ (list : List LinkEvent). InTurn conn Ended list) (sym (events_in-append entries (entry.Took (event.Closes conn) ∷ []))) (turn_closes conn Broken Ended (events_in entries) (λ waits. cc) turn))
-closed_turn Dropping conn entries turn = turn_next conn Dropping (events_in entries) turn
+open_among : (stage : Stage) → stage ≡ Open → stage ≡ Unopened → ⊥
+open_among stage opened is = let same : Open ≡ Unopened = sym opened ∙ is in cc
 
-after_turn : (conns : ℕ) (port : Port) (made : ListenEntry) → IsCall conns port made → PortInTurn port → PortInTurn (after_call port made)
+present_among : (stage : Stage) → is_present stage ≡ true → stage ≡ Unopened → ⊥
+present_among stage there is = let same : false ≡ true = sym (ap is_present is) ∙ there in cc
+
+closable_among : (stage : Stage) → is_closable stage ≡ true → stage ≡ Unopened → ⊥
+closable_among stage there is = let same : false ≡ true = sym (ap is_closable is) ∙ there in cc
+
+other_stage : (test : Bool) (stage rest : Stage) → test ≡ false → rest ≡ Unopened → (if test then stage else rest) ≡ Unopened
+other_stage true stage rest is none = cc
+other_stage false stage rest is none = none
+
+fresh_with : (accepted conn : ℕ) (stage : Stage) (stages : ℕ → Stage) → conn < accepted → AreFresh accepted stages → AreFresh accepted (with_stage conn stage stages)
+fresh_with accepted conn stage stages few fresh other past = other_stage (other == conn) stage (stages other) (ne_eqb other conn (λ same. omega arith)) (fresh other past)
+
+-- ---- what calls make of it
+
+number_event : (accepted : ℕ) (entries : List Entry) (taken : LinkEvent) → events_in (entry.Took taken ∷ []) ≡ taken ∷ [] → InNumber accepted (events_in entries ++ taken ∷ []) → InNumber accepted (events_in (entries ++ entry.Took taken ∷ []))
+number_event accepted entries taken one numbered =
+    subst (λ (list : List LinkEvent). InNumber accepted list) (sym (events_in-append entries (entry.Took taken ∷ []) ∙ ap (λ (list : List LinkEvent). events_in entries ++ list) one)) numbered
+
+took_numbered : (conn : ℕ) (bytes : List ℕ) (served : Served) → conn < served.accepted → IsNumbered served → IsNumbered (takes_bytes conn bytes served)
+took_numbered conn [] served few numbered = record {
+  events = number_event served.accepted (entries_of served) (event.Closes conn) refl (number_closes served.accepted conn (events_in (entries_of served)) few numbered.events);
+  fresh = fresh_with served.accepted conn Ended served.stages few numbered.fresh;
+}
+took_numbered conn (byte ∷ bytes) served few numbered = record {
+  events = number_event served.accepted (entries_of served) (event.Piece conn (byte ∷ bytes)) refl (number_piece served.accepted conn (events_in (entries_of served)) (byte ∷ bytes) numbered.events);
+  fresh = numbered.fresh;
+}
+
+part_numbered : (conn : ℕ) (bytes : List ℕ) (served : Served) → IsNumbered served → IsNumbered (gives_part conn bytes served)
+part_numbered conn [] served numbered = numbered
+part_numbered conn (byte ∷ bytes) served numbered = record {
+  events = subst (λ (list : List LinkEvent). InNumber served.accepted list) (part_events served.entries served.to served.part ∙ sym (part_events served.entries conn (served.part ++ byte ∷ bytes))) numbered.events;
+  fresh = numbered.fresh;
+}
+
+gave_numbered : (conn : ℕ) (cut : Bool) (bytes : List ℕ) (served : Served) → IsNumbered served → IsNumbered (if cut then gives_part conn bytes served else gives_all conn bytes served)
+gave_numbered conn true bytes served numbered = part_numbered conn bytes served numbered
+gave_numbered conn false bytes served numbered = record {
+  events = subst (λ (list : List LinkEvent). InNumber served.accepted list) (part_events served.entries served.to served.part ∙ sym (gave_events served.entries conn (served.part ++ bytes) false)) numbered.events;
+  fresh = numbered.fresh;
+}
+
+closed_numbered : (accepted conn : ℕ) (stage : Stage) (entries : List Entry) → conn < accepted → InNumber accepted (events_in entries) → InNumber accepted (events_in (closed_entries stage conn entries))
+closed_numbered accepted conn Broken entries few numbered = number_event accepted entries (event.Closes conn) refl (number_closes accepted conn (events_in entries) few numbered)
+closed_numbered accepted conn Unopened entries few numbered = numbered
+closed_numbered accepted conn Open entries few numbered = numbered
+closed_numbered accepted conn Ended entries few numbered = numbered
+closed_numbered accepted conn Dropped entries few numbered = numbered
+closed_numbered accepted conn Closed entries few numbered = numbered
+
+opened_numbered : (conn : ℕ) (served : Served) → conn ≡ served.accepted → IsNumbered served → InNumber (served.accepted + 1) (events_in (entries_of served ++ entry.Took (event.Opens conn) ∷ []))
+opened_numbered conn served is numbered =
+    number_event (served.accepted + 1) (entries_of served) (event.Opens conn) refl
+    (subst (λ (n : ℕ). InNumber (served.accepted + 1) (events_in (entries_of served) ++ event.Opens n ∷ [])) (sym is) (number_opens served.accepted (events_in (entries_of served)) numbered.events))
+
+after_numbered : (limits : PortLimits) (served : Served) (next : PortEntry) → IsCall limits served next → IsNumbered served → IsNumbered (after_call served next)
 unfolding after_call
-after_turn conns port (listen.Bound number) is turn = absurd is
-after_turn conns port listen.Accepted is turn =
-    subst (λ (list : List LinkEvent). InTurn port.conn Open list) (sym (events_in-append (entries_of port) (entry.Took (event.Opens port.conn) ∷ [])))
-    (turn_opens port.conn port.stage (events_in (entries_of port)) is.0 turn)
-after_turn conns port (listen.Took bytes room) is turn = took_turn bytes port turn
-after_turn conns port (listen.Gave bytes offered) is turn = gave_turn (nat_lt (length bytes) offered) bytes port turn
-after_turn conns port listen.Closed is turn = closed_turn port.stage port.conn (entries_of port) turn
-after_turn conns port (listen.Failed call.Bind) is turn = absurd is
-after_turn conns port (listen.Failed call.Accept) is turn = turn
-after_turn conns port (listen.Failed call.Take) is turn = took_turn [] port turn
-after_turn conns port (listen.Failed call.Give) is turn =
-    subst (λ (list : List LinkEvent). InTurn port.conn (broken port.stage) list) (part_events port.entries port.conn port.part ∙ sym (gave_events port.entries port.conn (port.part ++ []) true))
-    (turn_broken port.conn port.stage (events_in (entries_of port)) turn)
+after_numbered limits served (made.Bound number) is numbered = absurd is
+after_numbered limits served (made.Waited may_accept ready) is numbered = record { events = numbered.events; fresh = numbered.fresh }
+after_numbered limits served (made.Accepted conn) is numbered =
+    let here = is.0 in record {
+      events = opened_numbered conn served here numbered;
+      fresh = λ other past. fresh_with (served.accepted + 1) conn Open served.stages (omega arith) (λ one less. numbered.fresh one (omega arith)) other past;
+    }
+after_numbered limits served (made.Took conn bytes room) is numbered =
+    took_numbered conn bytes served (among served.accepted conn served.stages numbered.fresh (open_among (served.stages conn) is.0)) numbered
+after_numbered limits served (made.Gave conn bytes offered) is numbered = gave_numbered conn (nat_lt (length bytes) offered) bytes served numbered
+after_numbered limits served (made.Closed conn) is numbered =
+    let few = among served.accepted conn served.stages numbered.fresh (closable_among (served.stages conn) is) in record {
+      events = closed_numbered served.accepted conn (served.stages conn) (entries_of served) few numbered.events;
+      fresh = fresh_with served.accepted conn Closed served.stages few numbered.fresh;
+    }
+after_numbered limits served (made.Failed call.Bind) is numbered = absurd is
+after_numbered limits served (made.Failed call.Wait) is numbered = record { events = numbered.events; fresh = numbered.fresh }
+after_numbered limits served (made.Failed call.Accept) is numbered = record { events = numbered.events; fresh = numbered.fresh }
+after_numbered limits served (made.Failed (call.Take conn)) is numbered =
+    took_numbered conn [] served (among served.accepted conn served.stages numbered.fresh (open_among (served.stages conn) is.0)) numbered
+after_numbered limits served (made.Failed (call.Give conn)) is numbered =
+    let few = among served.accepted conn served.stages numbered.fresh (present_among (served.stages conn) is.0) in record {
+      events = subst (λ (list : List LinkEvent). InNumber served.accepted list) (part_events served.entries served.to served.part ∙ sym (gave_events served.entries conn (served.part ++ []) true)) numbered.events;
+      fresh = fresh_with served.accepted conn (broken (served.stages conn)) served.stages few numbered.fresh;
+    }
 
-calls_turn : (conns : ℕ) (port : Port) (calls : List ListenEntry) → AreCalls conns port calls → PortInTurn port → PortInTurn (port_after port calls)
-unfolding port_after AreCalls
-calls_turn conns port [] are turn = turn
-calls_turn conns port (made ∷ calls) are turn = calls_turn conns (after_call port made) calls are.1 (after_turn conns port made are.0 turn)
+calls_numbered : (limits : PortLimits) (served : Served) (calls : List PortEntry) → AreCalls limits served calls → IsNumbered served → IsNumbered (served_after served calls)
+unfolding served_after AreCalls
+calls_numbered limits served [] are numbered = numbered
+calls_numbered limits served (next ∷ calls) are numbered = calls_numbered limits (after_call served next) calls are.1 (after_numbered limits served next are.0 numbered)
 
-fresh_turn : PortInTurn fresh_port
-fresh_turn = record { once = none; behind = λ other less. refl; waits = λ waits. refl }
+fresh_numbered : IsNumbered fresh_served
+fresh_numbered = record { events = record { once = none; behind = λ other less. refl }; fresh = λ other past. refl }
   where
     none : OpensOnce []
     none before after conn same = absurd (none_mid before after (event.Opens conn) same)
-
-close_once : (stage : Stage) (conn : ℕ) (entries : List Entry) → OpensOnce (events_in entries) → OpensOnce (events_in (with_close stage conn entries))
-close_once Waiting conn entries once = once
-close_once Open conn entries once = once
-close_once Ended conn entries once = once
-close_once Broken conn entries once = once
-close_once Dropping conn entries once =
-    subst OpensOnce (sym (events_in-append entries (entry.Took (event.Closes conn) ∷ []))) (once_more (events_in entries) (event.Closes conn) once (λ other same. cc))
 
 ends_once : (ends : ℕ) (entries : List Entry) → OpensOnce (events_in entries) → OpensOnce (events_in (with_ends ends entries))
 ends_once zero entries once = once
@@ -183,9 +162,5 @@ ends_once (suc n) entries once =
     subst OpensOnce (sym (events_in-append (with_ends n entries) (entry.Took event.Ends ∷ []) ∙ append-nil (events_in (with_ends n entries)))) (ends_once n entries once)
 
 -- so is it in the journal of a link
-pub opens_once : (conns : ℕ) (place : Place) (calls : List ListenEntry) → AreCalls conns fresh_port calls → OpensOnce (events_in (link_journal place (port_after fresh_port calls)))
-unfolding link_journal
-opens_once conns place calls are =
-    let port : Port = port_after fresh_port calls in
-    let turn = calls_turn conns fresh_port calls are fresh_turn in
-    ends_once place.ends (with_close place.stage port.conn (entries_of port)) (close_once place.stage port.conn (entries_of port) turn.once)
+pub opens_once : (limits : PortLimits) (ends : ℕ) (calls : List PortEntry) → AreCalls limits fresh_served calls → OpensOnce (events_in (with_ends ends (entries_of (served_after fresh_served calls))))
+opens_once limits ends calls are = ends_once ends (entries_of (served_after fresh_served calls)) (calls_numbered limits fresh_served calls are fresh_numbered).events.once

@@ -4,12 +4,9 @@ use Rattle.links.specs.declared.journal.Entry.TheVariants as entry
 use Rattle.session_history.specs.declared.ends.SessionBreak.TheVariants as session_break
 use Rattle.session_history.specs.declared.ends.Stop.TheVariants as stop
 use Rattle.session_history.specs.Ends.{EndsBy}
-use Rattle.over_port.proofs.CallLemmas.{given_is}
 use Rattle.links.proofs.Moved.{gave}
-use Rattle.over_crowd.specs.Calls as crowd
-use Rattle.over_crowd.proofs.CallLemmas as crowd_lemmas
-use Rattle.rx_serve.proofs.Terms.{List, Some, [], ap, false, map, refl, subst, sym, ℕ, ◌++◌, ◌∙◌, ◌∷◌, ◌≡◌, flat_map, Send, sent_to, ListenEntry, Entry, ComesUntold, Piece, events_in, pieces_in, CrowdEntry, Limits, Image, output, Stop, at_its_end, Session, journal_of, OpensOnce, PassesAtOnce, SentIsPassed, piece_of, IsEnd, IsEnded, OwesNothingAtEnd, answer_of, nothing_before, Rules, is_gone, given_to, CalledPort, CalledCrowd}
-use Rattle.rx_serve.proofs.CrowdOrder.{several_open_once}
+use Rattle.routes.proofs.PortCallLemmas.{given_is}
+use Rattle.rx_serve.proofs.Terms.{List, Some, [], ap, false, map, refl, subst, sym, ℕ, ◌++◌, ◌∙◌, ◌∷◌, ◌≡◌, flat_map, Send, sent_to, Entry, ComesUntold, Piece, events_in, pieces_in, PortEntry, PortLimits, Image, output, Stop, at_its_end, Session, journal_of, OpensOnce, PassesAtOnce, SentIsPassed, piece_of, IsEnd, IsEnded, OwesNothingAtEnd, answer_of, nothing_before, Rules, is_gone, CalledPort, given_to}
 use Rattle.rx_serve.proofs.PortOrder.{opens_once}
 
 abbrev piece_for : ℕ → Piece → List ℕ
@@ -53,21 +50,11 @@ all_passed law rules image why session once alone end is holds first none conn =
           opens_once = once;
         }
 
-pub all_given : SentIsPassed → (conns : ℕ) (rules : Rules) (image : Image) (why : Stop) (old new : List ListenEntry) (session : Session) (called : CalledPort conns rules old new session)
+pub all_given : SentIsPassed → (limits : PortLimits) (rules : Rules) (image : Image) (why : Stop) (old new : List PortEntry) (session : Session) (called : CalledPort limits rules old new session)
     → rules.bounds.before ≡ nothing_before → IsEnd (answer_of why) → IsEnded rules image (Some ComesUntold) session why → rules.hold ≡ 0 → session.earlier ≡ [] → ((conn : ℕ) → is_gone conn (journal_of session) ≡ false)
     → (conn : ℕ) → given_to conn called.calls ≡ output session.survivor.now.state conn
-all_given law conns rules image why old new session called alone end is holds first none conn =
-    given_is conns conn called.made.place called.calls called.are ∙ ap (gave conn) (sym called.made.entries_are) ∙ all_passed law rules image why session once alone end is holds first none conn
+all_given law limits rules image why old new session called alone end is holds first none conn =
+    given_is limits conn called.made.ends called.calls called.are ∙ ap (gave conn) (sym called.made.entries_are) ∙ all_passed law rules image why session once alone end is holds first none conn
   where
     once : OpensOnce (events_in (journal_of session))
-    once = subst (λ (entries : List Entry). OpensOnce (events_in entries)) (sym called.made.entries_are) (opens_once conns called.made.place called.calls called.are)
-
--- and of several at the same time
-pub several_given : SentIsPassed → (limits : Limits) (rules : Rules) (image : Image) (why : Stop) (old new : List CrowdEntry) (session : Session) (called : CalledCrowd limits rules old new session)
-    → rules.bounds.before ≡ nothing_before → IsEnd (answer_of why) → IsEnded rules image (Some ComesUntold) session why → rules.hold ≡ 0 → session.earlier ≡ [] → ((conn : ℕ) → is_gone conn (journal_of session) ≡ false)
-    → (conn : ℕ) → crowd.given_to conn called.calls ≡ output session.survivor.now.state conn
-several_given law limits rules image why old new session called alone end is holds first none conn =
-    crowd_lemmas.given_is limits conn called.made.ends called.calls called.are ∙ ap (gave conn) (sym called.made.entries_are) ∙ all_passed law rules image why session once alone end is holds first none conn
-  where
-    once : OpensOnce (events_in (journal_of session))
-    once = subst (λ (entries : List Entry). OpensOnce (events_in entries)) (sym called.made.entries_are) (several_open_once limits called.made.ends called.calls called.are)
+    once = subst (λ (entries : List Entry). OpensOnce (events_in entries)) (sym called.made.entries_are) (opens_once limits called.made.ends called.calls called.are)

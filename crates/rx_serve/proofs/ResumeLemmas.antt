@@ -7,12 +7,12 @@ use Rattle.schedule_file.specs.Lines as recording
 use Rattle.schedule_file.specs.declared.recorded.Unfinished.{Unfinished as Read}
 use Rattle.session_following.specs.declared.unfollowed.Unfollowed.TheVariants as unfollowed
 use Rattle.run_history.specs.declared.answer.Answer.TheVariants as answer
-use Rattle.rx_serve.proofs.Terms.{Bool, List, None, Ok, Option, Some, [], ap, append-nil, arith, drop, false, inl, inr, length, refl, rules, subst, suc, sym, take, true, ℕ, ◌*◌, ◌++◌, ◌+◌, ◌<◌, ◌^◌, ◌∙◌, ◌∷◌, ◌≡◌, ◌≤◌, length-take-le, take-append-drop, All-cons, All, AllPairs, Err, IsSome, Result, if◌then◌else◌, slice_index_or, ◌==◌, MAX_ITEMS, few_in_all, Rose, Stream, FileCall, Calls, Contents, LinkEvent, Choice, Heap, Image, Answer, Path, Stop, Session, journal_of, HasAnswerCause, IsEnd, answer_of, Rules, Episode, Try, NoneFailed, Shown, noted, rules_behind, Handed, adopted_try, few_items, Keeping, Form, VERSION, calls_then, whole_texts, whole_texts_behind, AreAsks, AddsAlone, Left, Nothing, unnoted_of, AreTwo, Names, Stands, StandsBehind, report_text, told_text, HasBoth, all_kept, nothing_kept, Options, begun_rules, AreInRange, keeping_for, rules_of, Outcome, rules_by, IsBegun, SessionState, Unfollowed, MayBeHanded, UnnotedBy, stop_as, ResumesBy, ResumesTrunk, StopsFollowing, answer_as, trunk_counts, RunValue, End, Faults, HasFaults, Outside, faults, outside, status_of, options_of, rule_of, rules_of_run, Route, trunk_of, ClosesFiles, EndsFiles, HaveTexts, IsFilesAnswer, ServesNotedBehind, StandsFrom, names_of, report_form, CallsEnding, CallsServedBehind, AreHandedOver, FourTexts, HasResumed, StartsTakenOver, StopsNoted, before_taken, ResumesNoted, ServesOnNoted, resumed_answer}
+use Rattle.routes.specs.OverTrunk.{trunk_counts}
+use Rattle.rx_serve.proofs.Terms.{Bool, List, None, Ok, Option, Some, [], ap, append-nil, arith, drop, false, inl, inr, length, refl, rules, subst, suc, sym, take, true, ℕ, ◌*◌, ◌++◌, ◌+◌, ◌<◌, ◌^◌, ◌∙◌, ◌∷◌, ◌≡◌, ◌≤◌, length-take-le, take-append-drop, All-cons, All, AllPairs, Err, IsSome, Result, if◌then◌else◌, slice_index_or, ◌==◌, MAX_ITEMS, few_in_all, Rose, Stream, FileCall, Calls, Contents, LinkEvent, Choice, Heap, Image, Answer, Path, Stop, Session, journal_of, HasAnswerCause, IsEnd, answer_of, Rules, Episode, Try, NoneFailed, Shown, noted, rules_behind, Handed, adopted_try, few_items, Keeping, Form, VERSION, calls_then, whole_texts, whole_texts_behind, AreAsks, AddsAlone, Left, Nothing, unnoted_of, Names, Stands, StandsBehind, HasBoth, nothing_kept, Options, begun_rules, AreInRange, keeping_for, rules_of, Outcome, rules_by, IsBegun, SessionState, Unfollowed, MayBeHanded, UnnotedBy, stop_as, ResumesBy, ResumesTrunk, StopsFollowing, answer_as, Route, RunValue, End, Faults, HasFaults, Outside, faults, outside, status_of, options_of, rule_of, rules_of_run, trunk_of, ClosesFiles, EndsFiles, HaveTexts, ServesNotedBehind, StandsFrom, names_of, report_form, CallsEnding, CallsServedBehind, AreHandedOver, FourTexts, HasResumed, StartsTakenOver, StopsNoted, before_taken, ResumesNoted, ServesOnNoted, resumed_answer}
 use Rattle.rx_serve.proofs.FewSteps.{few_steps}
 use Rattle.rx_serve.proofs.GuardLemmas.{keeps_to_blocks}
 use Rattle.rx_serve.proofs.HeadlineLemmas.{headline}
 use Rattle.rx_serve.proofs.NotingLemmas.{closes_same, file_stop, note_is_no_end, whole_at}
-use Rattle.rx_serve.proofs.RouteLemmas.{watched_trunk}
 
 -- ---- what was handed over
 
@@ -112,7 +112,7 @@ serves_on {rules = rules} {keeping = keeping} {image = image} value handed old n
     λ list told part. ResumesTrunk rules handed keeping image old.input new.input old.output new.output outcome (noted (Some list) (Some told) (Some (unnoted_of part))) (noted (Some choices) (Some episodes) (Some (unnoted_of left))) counted tables_before tables in
     let all : Resumes [] [] Nothing =
     subst (λ part. Resumes [] [] part) none_left (subst (λ told. Resumes [] told left_before) none_told (subst (λ list. Resumes list episodes_before left_before) none resumes)) in
-    let watched = watched_trunk (rules_behind rules handed all.events all.released) keeping image _ _ _ _ outcome _ _ counted _ _ all.watches in
+    let watched = all.watches in
     record {
       events = all.events;
       released = all.released;

@@ -1,7 +1,7 @@
 -- What `run` leaves, from what its parts leave.
 use Rattle.run_history.specs.declared.answer.Answer.TheVariants as answer
 use Rattle.rx_base.specs.declared.fault.IoFault.TheVariants as fault
-use Rattle.rx_serve.proofs.Terms.{Bool, List, None, Ok, Option, arith, inl, inr, refl, subst, sym, ℕ, ◌+◌, ◌<◌, ◌^◌, ◌∙◌, ◌≡◌, ◌≤◌, Err, IoFault, MAX_ITEMS, Rose, FileCall, Contents, Choice, Heap, Image, Answer, Stop, answer_of, Rules, Try, Keeping, TellsMore, CallsFront, Options, begun_rules, AreInRange, keeping_for, rules_of, AreAllTables, Outcome, story_of, IsReadyToServe, rules_by, IsBegun, SessionState, RunValue, End, IsUntouched, Outside, HasImage, HasLoadCause, options_of, rule_of, rules_of_run, window_of, HasNoSession, Route, ClosesFiles, IsFilesAnswer, ServesNoted, StartsFiles, WatchesNoted, CallsServed, before_session, HasBegun, StartsPartly, HasNotBegun, HasServed}
+use Rattle.rx_serve.proofs.Terms.{Bool, List, None, Ok, Option, arith, inl, inr, refl, subst, sym, ℕ, ◌+◌, ◌<◌, ◌^◌, ◌∙◌, ◌≡◌, ◌≤◌, Err, IoFault, MAX_ITEMS, Rose, FileCall, Contents, Choice, Heap, Image, Answer, Stop, answer_of, Rules, Try, Keeping, TellsMore, CallsFront, Options, begun_rules, AreInRange, keeping_for, rules_of, AreAllTables, Outcome, story_of, IsReadyToServe, rules_by, IsBegun, SessionState, Route, RunValue, End, IsUntouched, Outside, HasImage, HasLoadCause, options_of, rule_of, rules_of_run, window_of, HasNoSession, ClosesFiles, IsFilesAnswer, ServesNoted, StartsFiles, WatchesNoted, CallsServed, before_session, HasBegun, StartsPartly, HasNotBegun, HasServed}
 use Rattle.rx_serve.proofs.GuardLemmas.{keeps_to_blocks}
 use Rattle.rx_serve.proofs.HeadlineLemmas.{headline}
 use Rattle.rx_serve.proofs.NotingLemmas.{closes_same, closes_whole, few_counts, whole_at}

@@ -1,9 +1,8 @@
 -- What the laws of sessions say of a `serve`.
 use Rattle.rx_base.specs.declared.fault.IoFault.TheVariants as fault
 use Rattle.run_history.specs.declared.answer.Answer.TheVariants as answer
-use Rattle.over_crowd.specs.Calls as crowd
-use Rattle.rx_serve.proofs.Terms.{List, None, Option, Some, [], ap, append_assoc, false, inl, inr, refl, subst, sym, ℕ, ◌++◌, ◌∙◌, ◌≡◌, Result, ◌≢◌, IoFault, ListenEntry, Binds, Entry, LinkEvent, ComesUntold, Coming, events_in, CrowdEntry, CrowdBinds, Limits, number_cases, Image, Answer, Stop, events_in-given, given_broken, Session, journal_of, IsComplete, NoOtherAnswer, SentIsPassed, IsEnd, IsEnded, answer_of, before_end, AreGiven, AreHeeded, heeded, nothing_before, Rules, entries_of, is_gone, given_to, CalledPort, GoesOverPort, CalledCrowd, GoesOverCrowd, RunValue, ServeValue, End, Outside, HasLoadCause, rules_of_run, window_of, GoesOver, Port, Route, Several, Trunk, IsFilesAnswer, HasServed, EndsOver, IsBindAnswer, limits_of, AllSendsAreGiven, GivesAll, GivesOver, GoodClientsAreServed, NoServeIsRefused, OfClients}
-use Rattle.rx_serve.proofs.PortSends.{all_given, several_given}
+use Rattle.rx_serve.proofs.Terms.{List, None, Option, Some, [], ap, append_assoc, false, inl, inr, refl, subst, sym, ℕ, ◌++◌, ◌∙◌, ◌≡◌, ◌≢◌, IoFault, Entry, LinkEvent, ComesUntold, Coming, events_in, PortEntry, PortLimits, Image, Answer, Stop, events_in-given, given_broken, Session, journal_of, IsComplete, NoOtherAnswer, SentIsPassed, IsEnd, IsEnded, answer_of, before_end, AreGiven, AreHeeded, heeded, nothing_before, Rules, entries_of, is_gone, CalledPort, GoesOverPort, GoesOver, Port, Route, Trunk, RunValue, End, Outside, HasLoadCause, rules_of_run, window_of, IsFilesAnswer, HasServed, IsBindAnswer, AllSendsAreGiven, GivesAll, GivesOver, GoodClientsAreServed, NoServeIsRefused, OfClients}
+use Rattle.rx_serve.proofs.PortSends.{all_given}
 use Rattle.session_history.proofs.PortCauses.{no_refusal}
 use Rattle.rx_serve.proofs.NotingLemmas.{closes_other, closes_same}
 use Rattle.rx_serve.proofs.SessionLaws.{complete_note}
@@ -24,8 +23,7 @@ not_refusal kind offset fault.Memory note = cc
 -- over a port no event is told to come
 comes_untold : (route : Route) (rules : Rules) (coming : Option Coming) (session : Session) (why : Stop) → OfClients route → GoesOver route rules coming session why → coming ≡ Some ComesUntold
 comes_untold (Trunk source source_later sink sink_later) rules coming session why clients goes = absurd clients
-comes_untold (Port conns calls calls_later) rules coming session why clients goes = goes.0
-comes_untold (Several limits calls calls_later) rules coming session why clients goes = goes.0
+comes_untold (Port limits calls calls_later) rules coming session why clients goes = goes.0
 
 -- the end of a session over a port
 module _ {value : RunValue} {route : Route} {old new : Outside} {end : End} (clients : OfClients route) (served : HasServed value route old new end) where
@@ -55,28 +53,19 @@ pub good_clients_are_served : NoOtherAnswer → GoodClientsAreServed
 good_clients_are_served law value route old new end served clients heeds = good_clients clients served law heeds
 
 -- all that was sent was given, by the calls that were made
-given_over : SentIsPassed → (conns : ℕ) (rules : Rules) {image : Image} {why : Stop} {calls : List ListenEntry} (later : Option (List ListenEntry)) {session : Session} → GoesOverPort conns rules (Some calls) later session
-    → rules.bounds.before ≡ nothing_before → IsEnd (answer_of why) → IsEnded rules image (Some ComesUntold) session why → rules.hold ≡ 0 → session.earlier ≡ [] → ((conn : ℕ) → is_gone conn (journal_of session) ≡ false) → GivesAll given_to calls later session.survivor.now.state
-given_over law conns rules None goes alone end is holds first none = absurd goes
-given_over law conns rules {image = image} {why = why} {calls = calls} (Some later) {session = session} goes alone end is holds first none =
-    let called : CalledPort conns rules calls later session = goes in
-    record { calls = called.calls; made = ap Some called.grew; all = all_given law conns rules image why calls later session called alone end is holds first none }
-
-several_over : SentIsPassed → (limits : Limits) (rules : Rules) {image : Image} {why : Stop} {calls : List CrowdEntry} (later : Option (List CrowdEntry)) {session : Session} → GoesOverCrowd limits rules (Some calls) later session
-    → rules.bounds.before ≡ nothing_before → IsEnd (answer_of why) → IsEnded rules image (Some ComesUntold) session why → rules.hold ≡ 0 → session.earlier ≡ [] → ((conn : ℕ) → is_gone conn (journal_of session) ≡ false) → GivesAll crowd.given_to calls later session.survivor.now.state
-several_over law limits rules None goes alone end is holds first none = absurd goes
-several_over law limits rules {image = image} {why = why} {calls = calls} (Some later) {session = session} goes alone end is holds first none =
-    let called : CalledCrowd limits rules calls later session = goes in
-    record { calls = called.calls; made = ap Some called.grew; all = several_given law limits rules image why calls later session called alone end is holds first none }
+given_over : SentIsPassed → (limits : PortLimits) (rules : Rules) {image : Image} {why : Stop} {calls : List PortEntry} (later : Option (List PortEntry)) {session : Session} → GoesOverPort limits rules (Some calls) later session
+    → rules.bounds.before ≡ nothing_before → IsEnd (answer_of why) → IsEnded rules image (Some ComesUntold) session why → rules.hold ≡ 0 → session.earlier ≡ [] → ((conn : ℕ) → is_gone conn (journal_of session) ≡ false) → GivesAll calls later session.survivor.now.state
+given_over law limits rules None goes alone end is holds first none = absurd goes
+given_over law limits rules {image = image} {why = why} {calls = calls} (Some later) {session = session} goes alone end is holds first none =
+    let called : CalledPort limits rules calls later session = goes in
+    record { calls = called.calls; made = ap Some called.grew; all = all_given law limits rules image why calls later session called alone end is holds first none }
 
 -- as far as the calls are told
 gives_over : SentIsPassed → (route : Route) (rules : Rules) (coming : Option Coming) {image : Image} {why : Stop} {session : Session} → GoesOver route rules coming session why
     → rules.bounds.before ≡ nothing_before → IsEnd (answer_of why) → IsEnded rules image (Some ComesUntold) session why → rules.hold ≡ 0 → session.earlier ≡ [] → ((conn : ℕ) → is_gone conn (journal_of session) ≡ false) → GivesOver route session.survivor.now.state
 gives_over law (Trunk source source_later sink sink_later) rules coming goes alone end is holds first none = tt
-gives_over law (Port conns None later) rules coming goes alone end is holds first none = tt
-gives_over law (Port conns (Some calls) later) rules coming goes alone end is holds first none = given_over law conns rules later goes.1 alone end is holds first none
-gives_over law (Several limits None later) rules coming goes alone end is holds first none = tt
-gives_over law (Several limits (Some calls) later) rules coming goes alone end is holds first none = several_over law limits rules later goes.1 alone end is holds first none
+gives_over law (Port limits None later) rules coming goes alone end is holds first none = tt
+gives_over law (Port limits (Some calls) later) rules coming goes alone end is holds first none = given_over law limits rules later goes.1 alone end is holds first none
 
 pub all_sends_are_given : SentIsPassed → AllSendsAreGiven
 all_sends_are_given law value route old new end served clients at_end holds first none =
@@ -92,21 +81,13 @@ bind_not_write : (why : IoFault) (end : Answer) → IsBindAnswer why end → end
 bind_not_write fault.Failed end is write = let other : answer.ReadFault ≡ answer.WriteFault = sym is ∙ write in cc
 bind_not_write fault.Memory end is write = let other : answer.Memory ≡ answer.WriteFault = sym is ∙ write in cc
 
-over_not_refused : {Call : Type 0} (value : ServeValue) (binds : Option (List Call) → Option (List Call) → ℕ → Result (Unit {0}) IoFault → Type 0) (route : Option (List Call) → Option (List Call) → Route)
-    → ((calls calls_later : Option (List Call)) → OfClients (route calls calls_later)) → (calls calls_later : Option (List Call)) (old new : Outside) (end : End) → EndsOver value binds route calls calls_later old new end
-    → ((kind offset : ℕ) → end.answer ≢ answer.InputRefused kind offset) × (end.answer ≢ answer.WriteFault)
-over_not_refused value binds route clients calls calls_later old new end (inl begun) = (
+pub no_serve_is_refused : NoServeIsRefused
+no_serve_is_refused value calls calls_later old new end (inl begun) = (
   λ kind offset refused. subst (HasLoadCause old.files value.session.program (window_of value.session)) refused begun.0.cause,
   λ write. subst (HasLoadCause old.files value.session.program (window_of value.session)) write begun.0.cause,
 )
-over_not_refused value binds route clients calls calls_later old new end (inr (inl unbound)) = (
+no_serve_is_refused value calls calls_later old new end (inr (inl unbound)) = (
   λ kind offset. bind_not_refused kind offset unbound.fault end.answer unbound.answered,
   bind_not_write unbound.fault end.answer unbound.answered,
 )
-over_not_refused value binds route clients calls calls_later old new end (inr (inr port)) = (served_not_refused (clients port.bound calls_later) port.served, port.never_write_fault)
-
-pub no_serve_is_refused : NoServeIsRefused
-no_serve_is_refused value before later old new end ends = elim (number_cases value.at_once 1) [
-  | inl one ↦ over_not_refused value Binds (Port value.conns) (λ calls calls_later. tt) before.listener later.listener old new end (ends.one one)
-  | inr several ↦ over_not_refused value CrowdBinds (Several (limits_of value)) (λ calls calls_later. tt) before.crowd later.crowd old new end (ends.several several)
-]
+no_serve_is_refused value calls calls_later old new end (inr (inr port)) = (served_not_refused tt port.served, port.never_write_fault)

@@ -1,7 +1,7 @@
 -- The three files that `standby` loads, and what they are read as.
 use Rattle.run_history.specs.declared.answer.Answer.TheVariants as answer
 use Rattle.schedule_file.specs.declared.recorded.Line.{Line}
-use Rattle.rx_serve.proofs.Terms.{Global, List, Option, [], ap, arith, length, length-append, subst, ℕ, ◌++◌, ◌+◌, ◌∷◌, ◌≡◌, ◌≤◌, Err, Result, Vec, FileCall, Loaded, Calls, Contents, Answer, Recorded, end_line, head_line, line_text, lines_text, IsReading, calls_then, front_all, front_behind, front_first, CallsFront, StandbyValue, counts_limit, program_limit, record_limit, HasFile, LoadsFile, CallsAnswer, LoadsTexts, OfCounts, OfProgram, OfRecord, loading}
+use Rattle.rx_serve.proofs.Terms.{Global, List, Option, [], ap, arith, length, length-append, subst, ℕ, ◌++◌, ◌+◌, ◌∷◌, ◌≡◌, ◌≤◌, Err, Result, Vec, FileCall, Loaded, Calls, Contents, Answer, Recorded, end_line, head_line, line_text, lines_text, IsReading, calls_then, front_behind, front_first, CallsFront, StandbyValue, counts_limit, program_limit, record_limit, HasFile, LoadsFile, CallsAnswer, LoadsTexts, OfCounts, OfProgram, OfRecord, loading}
 use Rattle.rx_serve.proofs.CallingLemmas.{load_front}
 
 -- ---- what was loaded

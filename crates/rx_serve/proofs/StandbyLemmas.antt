@@ -7,7 +7,7 @@ use Rattle.standby.specs.declared.kept.Kept.{Kept}
 use Rattle.standby.specs.Following.{BreaksBy, kept_to}
 use Rattle.standby.specs.Missing.{AllGiven, IsShort}
 use Rattle.standby.specs.Serving.{EndsBy, WasServed, plain_limits}
-use Rattle.rx_serve.proofs.Terms.{List, None, Ok, Option, Some, [], ap, arith, inl, inr, length, map, refl, rules, subst, sym, ℕ, ◌*◌, ◌++◌, ◌+◌, ◌-◌, ◌<◌, ◌^◌, ◌∙◌, ◌∷◌, ◌≡◌, ◌≤◌, Err, ◌⊎◌, IoFault, MAX_ITEMS, few_in_all, HasCause, Rose, Stream, Send, sent_to, FileCall, Added, Calls, Contents, Entry, Counts, events_in, pieces_in, Choice, Image, Answer, HasAnswerCause, IsEnd, items_in, few_items, Recorded, choice_line, choice_lines, end_line, head_line, line_of, lines_text, IsRecord, count_of, calls_then, front_behind, CallsFront, CallsUpTo, starts_of, Difference, bounds_of, BreaksOffTrunk, ServesOnTrunk, StandbyValue, End, Faults, HasFaults, Outside, faults, outside, HasNoSession, IsFilesAnswer, HasTakeoverCause, loading, AreCovered, CallsRecording, ClosesRecording, EndsRecording, HasRecorded, HasTakenUp, IsBrokenOff, IsFirstShort, IsNotServed, IsServedOn, StandbyEnds, StartsRecording, TakesOver}
+use Rattle.rx_serve.proofs.Terms.{List, None, Ok, Option, Some, [], ap, arith, inl, inr, length, map, refl, subst, sym, ℕ, ◌*◌, ◌++◌, ◌+◌, ◌-◌, ◌<◌, ◌^◌, ◌∙◌, ◌∷◌, ◌≡◌, ◌≤◌, Err, ◌⊎◌, IoFault, MAX_ITEMS, few_in_all, HasCause, Rose, Stream, Send, sent_to, FileCall, Added, Calls, Contents, Entry, Counts, events_in, pieces_in, Choice, Image, Answer, HasAnswerCause, IsEnd, items_in, few_items, Recorded, choice_line, choice_lines, end_line, head_line, line_of, lines_text, IsRecord, count_of, CallsFront, Difference, bounds_of, BreaksOffTrunk, ServesOnTrunk, StandbyValue, End, Faults, HasFaults, Outside, faults, outside, HasNoSession, IsFilesAnswer, HasTakeoverCause, AreCovered, CallsRecording, ClosesRecording, EndsRecording, HasRecorded, IsBrokenOff, IsFirstShort, StandbyEnds, StartsRecording, TakesOver}
 use Rattle.rx_serve.proofs.FewSteps.{few_behind, few_taken}
 use Rattle.rx_serve.proofs.NotingLemmas.{not_read, not_write, note_is_no_end}
 use Rattle.rx_serve.proofs.RunLemmas.{rose_within}

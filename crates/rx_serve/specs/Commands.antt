@@ -1,7 +1,7 @@
 -- What each command leaves.
-use Rattle.std.specs.Prelude.{◌≡◌, ◌≢◌, ◌⊎◌, ℕ, Option, Some, None}
+use Rattle.std.specs.Prelude.{◌≡◌, ◌⊎◌, ℕ, List, Option, Some, None}
 use Rattle.run_history.specs.declared.answer.Answer.TheVariants as answer
-use Rattle.rx_serve.specs.Terms.{ListenEntry, framing, unframing, CallsFront, AsmValue, CommandValue, ConvertValue, ReplayValue, RunValue, asm, convert, diagnose, drill, frame, replay, resume, run, serve, standby, unframe}
+use Rattle.rx_serve.specs.Terms.{PortEntry, framing, unframing, CallsFront, AsmValue, CommandValue, ConvertValue, ReplayValue, RunValue, asm, convert, diagnose, drill, frame, replay, resume, run, serve, standby, unframe}
 use Rattle.rx_serve.specs.declared.ending.End.{End}
 use Rattle.rx_serve.specs.Assembly.{Assembles, HasAsmCause}
 use Rattle.rx_serve.specs.Calling.{CallsAsm, CallsConvert, replaying}
@@ -13,7 +13,7 @@ use Rattle.rx_serve.specs.Replaying.{ReplaysFile, TellsFile}
 use Rattle.rx_serve.specs.Resuming.{ResumeEnds}
 use Rattle.rx_serve.specs.Route.{trunk_of}
 use Rattle.rx_serve.specs.Running.{HasNotBegun, HasServed}
-use Rattle.rx_serve.specs.Serving.{Heard, ServeEnds, heard_at}
+use Rattle.rx_serve.specs.Serving.{ServeEnds}
 use Rattle.rx_serve.specs.Diagnosing.{DiagnoseEnds}
 use Rattle.rx_serve.specs.StandingBy.{StandbyEnds}
 use Rattle.rx_serve.specs.TextFrames.{TurnsInput}
@@ -53,30 +53,25 @@ pub record IsRefused (old new : Outside) (end : End) : Type 0 where
   pub same : new ≡ old
   pub nothing : HasNoSession end
 
--- What the words leave, by the command that they ask for: a line for each command. The calls on the listener and on the crowd are those of `serve` alone.
-abbrev pub Ends : Option CommandValue → Heard → Heard → Outside → Outside → End → Type 0
-Ends None before later old new end = IsRefused old new end
-Ends (Some (run value)) before later old new end = RunEnds value old new end
-Ends (Some (asm value)) before later old new end = AsmEnds value old new end
-Ends (Some (replay value)) before later old new end = ReplayEnds value old new end
-Ends (Some (convert value)) before later old new end = ConvertEnds value old new end
-Ends (Some (standby value)) before later old new end = StandbyEnds value old new end
-Ends (Some (resume value)) before later old new end = ResumeEnds value old new end
-Ends (Some (serve value)) before later old new end = ServeEnds value before later old new end
-Ends (Some (diagnose value)) before later old new end = DiagnoseEnds value old new end
-Ends (Some (drill value)) before later old new end = DrillLeaves value old new end
-Ends (Some frame) before later old new end = TurnsInput framing old new end
-Ends (Some unframe) before later old new end = TurnsInput unframing old new end
+-- What the words leave, by the command that they ask for: a line for each command. The calls on the port are those of `serve` alone.
+abbrev pub Ends : Option CommandValue → Option (List PortEntry) → Option (List PortEntry) → Outside → Outside → End → Type 0
+Ends None calls calls_later old new end = IsRefused old new end
+Ends (Some (run value)) calls calls_later old new end = RunEnds value old new end
+Ends (Some (asm value)) calls calls_later old new end = AsmEnds value old new end
+Ends (Some (replay value)) calls calls_later old new end = ReplayEnds value old new end
+Ends (Some (convert value)) calls calls_later old new end = ConvertEnds value old new end
+Ends (Some (standby value)) calls calls_later old new end = StandbyEnds value old new end
+Ends (Some (resume value)) calls calls_later old new end = ResumeEnds value old new end
+Ends (Some (serve value)) calls calls_later old new end = ServeEnds value calls calls_later old new end
+Ends (Some (diagnose value)) calls calls_later old new end = DiagnoseEnds value old new end
+Ends (Some (drill value)) calls calls_later old new end = DrillLeaves value old new end
+Ends (Some frame) calls calls_later old new end = TurnsInput framing old new end
+Ends (Some unframe) calls calls_later old new end = TurnsInput unframing old new end
 
--- the words ask for the command that listens, and serves one client after another
+-- the words ask for the command that listens
 abbrev pub Listens : Option CommandValue → Type 0
-Listens (Some (serve value)) = value.at_once ≡ 1
+Listens (Some (serve value)) = Unit {0}
 Listens _ = ⊥
-
--- or several at the same time, out of a crowd
-abbrev pub Gathers : Option CommandValue → Type 0
-Gathers (Some (serve value)) = value.at_once ≢ 1
-Gathers _ = ⊥
 
 -- the words ask for a recorded run to be done again
 abbrev pub Replays : Option CommandValue → Type 0
@@ -85,7 +80,7 @@ Replays (Some (convert value)) = Unit {0}
 Replays (Some (standby value)) = Unit {0}
 Replays _ = ⊥
 
--- where a command's events come from, of three counts of faults: that of the input, that of the listener, and that of the crowd
-abbrev pub heard_by : Option CommandValue → ℕ → ℕ → ℕ → ℕ
-heard_by (Some (serve value)) input listener crowd = heard_at value.at_once listener crowd
-heard_by _ input listener crowd = input
+-- where a command's events come from, of two counts of faults: that of the input, and that of the port
+abbrev pub heard_by : Option CommandValue → ℕ → ℕ → ℕ
+heard_by (Some (serve value)) input port = port
+heard_by _ input port = input

@@ -1,5 +1,5 @@
 -- The command `diagnose`: a session of a program as of `run`, and a diagnosis of each of its failures in a file of its own.
-use Rattle.std.specs.Prelude.{◌≡◌, ◌≢◌, ◌⊎◌, ℕ, ◌≤◌, true, List, [], ◌∷◌, ◌++◌, take, All, Option, None, Some, Result, Ok, Err}
+use Rattle.std.specs.Prelude.{◌≡◌, ◌⊎◌, ℕ, ◌≤◌, true, List, [], ◌∷◌, ◌++◌, take, All, Option, None, Some, Result, Ok, Err}
 use Rattle.rx_serve.specs.Terms.{IoFault, Prefix, FileCall, Added, Calls, Contents, Image, Answer, IsEnd, answer_of, Episode, Try, NoteList, list_episodes, diagnosis_text, head_text, rest_text, StandsBeside, CallsFront, is_addition, starts_of, Writes, all_kept, nothing_kept, AreAllTables, story_of, BeginWith, DiagnoseValue}
 use Rattle.rx_serve.specs.declared.ending.End.{End}
 use Rattle.rx_serve.specs.Calling.{IsEnding, before_session}

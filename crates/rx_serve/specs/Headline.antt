@@ -2,9 +2,9 @@
 use Rattle.std.specs.Prelude.{◌≡◌, ℕ, ◌+◌, ◌≤◌, List, [], ◌++◌, length, Some}
 use Rattle.run_history.specs.declared.answer.Answer.TheVariants as answer
 use Rattle.run_history.specs.Run.{run}
-use Rattle.rx_serve.specs.Terms.{Item, Choice, Image, Ends, State, start, Run, effect, Session, journal_of, IsEnd, items_in, Rules}
+use Rattle.rx_serve.specs.Terms.{Item, Choice, Image, Ends, State, start, Run, effect, Session, journal_of, IsEnd, items_in, Rules, Route}
 use Rattle.rx_serve.specs.declared.ending.End.{End}
-use Rattle.rx_serve.specs.Route.{IsDone, PassedOver, Route}
+use Rattle.rx_serve.specs.Route.{IsDone, PassedOver}
 
 -- the items that a session received: those of the events that it heeded
 abbrev pub received_items : Rules → Session → List Item

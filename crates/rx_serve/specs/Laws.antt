@@ -1,9 +1,8 @@
 -- What holds of a `run` and of a `serve`, and of a `replay` and a `convert` of the record that a `run` left.
 use Rattle.std.specs.Prelude.{[], ◌≡◌, ◌≢◌, ◌++◌, ℕ, false, List, Option, Some, None, IfSome}
-use Rattle.rx_serve.specs.Terms.{Stream, Contents, Answer, State, output, Stop, journal_of, IsComplete, IsEnd, answer_of, AreHeeded, is_gone, Recorded, VERSION, AreAllHeeded, WritesSends, given_to, CommandValue, ConvertValue, ReplayValue, RunValue, ServeValue}
+use Rattle.rx_serve.specs.Terms.{Stream, Contents, PortEntry, Answer, State, output, Stop, journal_of, IsComplete, IsEnd, answer_of, AreHeeded, is_gone, Recorded, VERSION, AreAllHeeded, given_to, WritesSends, Port, Route, Trunk, CommandValue, ConvertValue, ReplayValue, RunValue, ServeValue}
 use Rattle.rx_serve.specs.Settings.{rules_of_run}
 use Rattle.command_line.specs.Ranges.{AreInRange}
-use Rattle.over_crowd.specs.Calls as crowd
 use Rattle.run_history.specs.declared.answer.Answer.TheVariants as answer
 use Rattle.rx_serve.specs.declared.ending.End.{End}
 use Rattle.rx_serve.specs.Calling.{replayed}
@@ -12,8 +11,8 @@ use Rattle.rx_serve.specs.Commands.{ConvertEnds, ReplayEnds, Ends}
 use Rattle.rx_serve.specs.Limits.{record_limit}
 use Rattle.rx_serve.specs.Loading.{IsTooLarge}
 use Rattle.rx_serve.specs.Outside.{Outside}
-use Rattle.rx_serve.specs.Route.{Port, Route, Several, Trunk, trunk_of}
-use Rattle.rx_serve.specs.Serving.{Heard, ServeEnds}
+use Rattle.rx_serve.specs.Route.{trunk_of}
+use Rattle.rx_serve.specs.Serving.{ServeEnds}
 use Rattle.rx_serve.specs.Replaying.{HasRecord}
 
 -- A `replay` has what a `run` had: the same bytes as its program, as its record those that the run left, and the same input from its first byte.
@@ -60,7 +59,7 @@ RecordsAreConverted =
 
 -- BadWords is answered to words of no command alone.
 abbrev pub OnlyBadWordsAreRefused : Type 0
-OnlyBadWordsAreRefused = (asked : Option CommandValue) (before later : Heard) (old new : Outside) (end : End) → Ends asked before later old new end → end.answer ≡ answer.BadWords → asked ≡ None
+OnlyBadWordsAreRefused = (asked : Option CommandValue) (calls calls_later : Option (List PortEntry)) (old new : Outside) (end : End) → Ends asked calls calls_later old new end → end.answer ≡ answer.BadWords → asked ≡ None
 
 -- Where the input of a `run` has the frames of events that the session heeds, each of them, no answer says that the input is refused: at Finished
 -- every item was taken; else the program ended itself or failed, or there was a fault or want of memory.
@@ -79,14 +78,13 @@ AllSendsAreWritten =
 -- No answer of a `serve` says that its input is refused, nor that a give failed.
 abbrev pub NoServeIsRefused : Type 0
 NoServeIsRefused =
-    (value : ServeValue) (before later : Heard) (old new : Outside) (end : End) → ServeEnds value before later old new end →
+    (value : ServeValue) (calls calls_later : Option (List PortEntry)) (old new : Outside) (end : End) → ServeEnds value calls calls_later old new end →
     ((kind offset : ℕ) → end.answer ≢ answer.InputRefused kind offset) × (end.answer ≢ answer.WriteFault)
 
 -- what was served are the clients of a port
 abbrev pub OfClients : Route → Type 0
 OfClients (Trunk source source_later sink sink_later) = ⊥
-OfClients (Port conns calls calls_later) = Unit {0}
-OfClients (Several limits calls calls_later) = Unit {0}
+OfClients (Port limits calls calls_later) = Unit {0}
 
 -- Where no limit refuses an event that came from the clients of a port, no answer of its session says so: at Finished every item was taken; else the
 -- program ended itself or failed, or there was a fault or want of memory.
@@ -97,16 +95,15 @@ GoodClientsAreServed =
     (why : Stop) × (end.answer ≡ answer_of why) × IsComplete (rules_of_run value.session) served.noted.serves.telling.account why
 
 -- for each connection the gives among the calls that were made behind those before took all that a run sends there
-pub record GivesAll {Call : Type 0} (given : ℕ → List Call → List ℕ) (before : List Call) (later : Option (List Call)) (state : State) : Type 0 where
-  pub calls : List Call
+pub record GivesAll (before : List PortEntry) (later : Option (List PortEntry)) (state : State) : Type 0 where
+  pub calls : List PortEntry
   pub made : later ≡ Some (before ++ calls)
-  pub all : (conn : ℕ) → given conn calls ≡ output state conn
+  pub all : (conn : ℕ) → given_to conn calls ≡ output state conn
 
 -- as far as they are told
 abbrev pub GivesOver : Route → State → Type 0
 GivesOver (Trunk source source_later sink sink_later) state = Unit {0}
-GivesOver (Port conns calls calls_later) state = IfSome calls (λ before. GivesAll given_to before calls_later state)
-GivesOver (Several limits calls calls_later) state = IfSome calls (λ before. GivesAll crowd.given_to before calls_later state)
+GivesOver (Port limits calls calls_later) state = IfSome calls (λ before. GivesAll before calls_later state)
 
 -- So it is at an end of a `serve` that needed no recovery and found no client gone.
 abbrev pub AllSendsAreGiven : Type 0

@@ -7,9 +7,8 @@ use Rattle.rx_base.specs.declared.fault.IoFault.TheVariants as fault
 use Rattle.run_report.specs.declared.form.Form.TheVariants as form
 use Rattle.run_report.specs.Report as report
 use Rattle.schedule_file.specs.Lines as recording
-use Rattle.rx_serve.specs.Terms.{IoFault, Contents, Choice, Image, Answer, IsEnd, Rules, Episode, Try, NoneFailed, noted, Keeping, TellsMore, Form, VERSION, record_of, text_of, AreAsks, Left, unnoted_of, Names, Stands, StandsBehind, report_text, AddsBoth, StartsBoth, AreAllTables, Outcome, story_of, RunValue}
+use Rattle.rx_serve.specs.Terms.{IoFault, Contents, Choice, Image, Answer, IsEnd, Rules, Episode, Try, NoneFailed, noted, Keeping, TellsMore, Form, VERSION, record_of, text_of, AreAsks, Left, unnoted_of, Names, Stands, StandsBehind, report_text, AddsBoth, StartsBoth, AreAllTables, Outcome, story_of, Route, Serves, RunValue}
 use Rattle.rx_serve.specs.Outside.{Outside}
-use Rattle.rx_serve.specs.Route.{Route, Serves}
 use Rattle.rx_serve.specs.Status.{status_of}
 
 -- a fault of a session's files, as its answer

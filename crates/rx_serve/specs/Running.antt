@@ -1,6 +1,6 @@
 -- What a session of a program leaves, or what stands in place of one.
 use Rattle.std.specs.Prelude.{List, [], ◌++◌, Option, Ok}
-use Rattle.rx_serve.specs.Terms.{FileCall, Contents, Image, Stop, IsEnd, answer_of, Rules, Episode, CallsFront, keeping_for, RunValue}
+use Rattle.rx_serve.specs.Terms.{FileCall, Contents, Image, Stop, IsEnd, answer_of, Rules, Episode, CallsFront, keeping_for, Route, RunValue}
 use Rattle.rx_serve.specs.declared.ending.End.{End}
 use Rattle.rx_serve.specs.Beginning.{StartsPartly}
 use Rattle.rx_serve.specs.Calling.{CallsServedBehind, before_session}
@@ -10,7 +10,6 @@ use Rattle.rx_serve.specs.Headline.{Headline}
 use Rattle.rx_serve.specs.Loading.{HasImage, HasLoadCause}
 use Rattle.rx_serve.specs.Noting.{StartsFiles, ServesNotedBehind, ClosesFiles, HaveTexts}
 use Rattle.rx_serve.specs.Outside.{Outside, IsUntouched}
-use Rattle.rx_serve.specs.Route.{Route}
 use Rattle.rx_serve.specs.Settings.{window_of, options_of, rules_of_run}
 
 -- no session began: the program has no image, or its files can't be started, or memory ran out. Nothing was read, passed or run

@@ -1,5 +1,5 @@
 -- The command `standby`: a recorded run is followed, clients get what they miss, and the run goes on with a record of its own.
-use Rattle.std.specs.Prelude.{◌≡◌, ◌⊎◌, ℕ, ◌+◌, ◌<◌, ◌≤◌, List, [], ◌∷◌, ◌++◌, length, Option, None, Some, Result, Ok, Err}
+use Rattle.std.specs.Prelude.{◌≡◌, ◌⊎◌, ℕ, ◌+◌, ◌<◌, ◌≤◌, List, [], ◌∷◌, ◌++◌, length, Option, None, Result, Ok, Err}
 use Rattle.file_notes.specs.Writing as files
 use Rattle.run_history.specs.declared.answer.Answer.TheVariants as answer
 use Rattle.rx_serve.specs.Terms.{IoFault, Stream, Prefix, Send, sent_to, FileCall, Added, Calls, Contents, Entry, Choice, Image, Answer, IsEnd, Recorded, VERSION, choice_lines, end_line, head_line, record_of, text_of, count_of, CallsFront, starts_of, BreaksOffTrunk, FollowsTrunk, ServesOnTrunk, StandbyValue}

@@ -1,5 +1,5 @@
 -- What the parts of `resume` leave: its beginning, and its session with its notes.
-use Rattle.std.specs.Prelude.{◌≡◌, ◌⊎◌, List, Option, option_map, Result, Ok, Err}
+use Rattle.std.specs.Prelude.{◌≡◌, List, Option, option_map, Result, Ok, Err}
 use Rattle.rx_serve.specs.Terms.{Contents, LinkEvent, Image, Answer, Path, Stop, answer_of, Rules, Episode, HasFollowed, rules_behind, Handed, Keeping, Names, keeping_for, Outcome, outcome_of, IsBegun, SessionState, Unfollowed, ResumeValue, RunValue}
 use Rattle.rx_serve.specs.declared.resuming_files.Handover.{Handover}
 use Rattle.rx_serve.specs.Noting.{ServesNotedBehind}

@@ -9,16 +9,13 @@ pub use Rattle.rx_base.specs.Prefix.{Prefix}
 pub use Rattle.rx_base.specs.Sends.{Send, sent_to}
 pub use Rattle.rx_io.specs.declared.file_calls.FileCall.{FileCall}
 pub use Rattle.rx_io.specs.declared.file_calls.FileCall.TheVariants.{Added, Loaded, Started}
-pub use Rattle.rx_io.specs.declared.listener_calls.ListenEntry.{ListenEntry}
 pub use Rattle.rx_io.specs.Calling.{Calls}
-pub use Rattle.rx_io.specs.Listening.{Binds}
 pub use Rattle.rx_io.specs.Named.{Contents, Holds}
 pub use Rattle.links.specs.declared.journal.Entry.{Entry}
 pub use Rattle.links.specs.declared.journal.LinkEvent.{LinkEvent}
 pub use Rattle.links.specs.Links.{ComesUntold, Coming, Counts, Piece, events_in, pieces_in}
-pub use Rattle.crowd.specs.declared.crowd_calls.CrowdEntry.{CrowdEntry}
-pub use Rattle.crowd.specs.Crowding.{CrowdBinds}
-pub use Rattle.crowd_link.specs.declared.place.Limits.{Limits}
+pub use Rattle.ports.specs.declared.port_calls.PortEntry.{PortEntry}
+pub use Rattle.port_link.specs.declared.place.PortLimits.{PortLimits}
 pub use Rattle.block_book.specs.declared.choice.Choice.{Choice}
 pub use Rattle.block_book.specs.Heap.{Heap}
 pub use Rattle.trunk_wire.specs.Pieces.{payload}
@@ -37,15 +34,14 @@ pub use Rattle.run_history.specs.Machine.{Chooses, Effect, Emits, Ends, Fails, G
 unfoldable pub use Rattle.run_history.specs.Machine.{start, start_machine}
 pub use Rattle.run_history.specs.Run.{Run, after, effect, output}
 unfoldable pub use Rattle.run_history.specs.Run.{does, next}
-pub use Rattle.run_history.specs.Served.{Override, Path, Served, env_at, origin, planned_next}
+pub use Rattle.run_history.specs.Served.{Limits, Override, Path, Served, env_at, origin, planned_next}
 unfoldable pub use Rattle.heap_guard.specs.Guard.{permits}
 pub use Rattle.heap_guard.specs.Guarded.{KeepsToExtents, KeepsToLiveBlocks}
-pub use Rattle.session_history.specs.declared.ends.SessionEnd.{SessionEnd}
 pub use Rattle.session_history.specs.declared.ends.Stop.{Stop}
 pub use Rattle.session_history.specs.Account.{HasPassedAll, IsAccount, Session, journal_of}
 pub use Rattle.session_history.specs.AccountLaws.{IsComplete, NoOtherAnswer, OpensOnce, PassesAtOnce, SentIsPassed, piece_of}
 pub use Rattle.session_history.specs.Answering.{HasAnswerCause}
-pub use Rattle.session_history.specs.Ends.{AtBreak, AtEnd, EndsAt, HasComeTo, IsEnd, IsEnded, OwesNothingAtEnd, answer_of, before_end, end_answer}
+pub use Rattle.session_history.specs.Ends.{AtEnd, EndsAt, HasComeTo, IsEnd, IsEnded, OwesNothingAtEnd, answer_of, before_end, end_answer}
 pub use Rattle.session_history.specs.Giving.{AreGiven}
 pub use Rattle.session_history.specs.Heeding.{AreHeeded, events_of, heeded, items_in, nothing_before}
 pub use Rattle.session_history.specs.Lawful.{Rules, entries_of}
@@ -54,7 +50,7 @@ pub use Rattle.session_notes.specs.declared.episode.Episode.{Episode}
 pub use Rattle.session_notes.specs.declared.episode.Try.{Try}
 pub use Rattle.session_notes.specs.declared.note_list.NoteList.{NoteList}
 pub use Rattle.session_notes.specs.Lists.{list_episodes}
-pub use Rattle.session_notes.specs.Noting.{NoneFailed, Noted, Shown, Unnoted, noted}
+pub use Rattle.session_notes.specs.Noting.{NoneFailed, Shown, Unnoted, noted}
 pub use Rattle.follow.specs.Following.{AsksForMore, HasFollowed, heard_alone, rules_behind}
 pub use Rattle.follow.specs.Handed.{Handed}
 pub use Rattle.follow.specs.Plans.{adopted_try, plan_of}
@@ -78,7 +74,7 @@ pub use Rattle.counts_file.specs.Counts.{count_of}
 pub use Rattle.report_reading.specs.declared.reported.ReadReport.{ReadReport}
 pub use Rattle.file_notes.specs.Asks.{AreAsks}
 pub use Rattle.file_notes.specs.Beside.{IsThird, StandsBeside}
-pub use Rattle.file_notes.specs.Calling.{AddsAlone, CallsFront, CallsUpTo, ending, is_addition, starting, starts_of, taking_over}
+pub use Rattle.file_notes.specs.Calling.{AddsAlone, CallsFront, ending, is_addition, starting, starts_of, taking_over}
 pub use Rattle.file_notes.specs.Left.{InRecord, InReport, Left, Nothing, unnoted_of}
 pub use Rattle.file_notes.specs.Names.{AreTwo, Names}
 pub use Rattle.file_notes.specs.Standing.{Stands, StandsBehind}
@@ -94,17 +90,16 @@ pub use Rattle.session_following.specs.HandedOver.{handed_of}
 pub use Rattle.session_following.specs.TakingOver.{IsUnfollowedBy, MayBeHanded, UnnotedBy, stop_as}
 pub use Rattle.replay.specs.declared.difference.Difference.{Difference}
 pub use Rattle.replay.specs.Replaying.{EndsBy, bounds_of}
-pub use Rattle.over_trunk.specs.Converting.{ComparesConverted, ConvertsTrunk, TellsConverted}
-pub use Rattle.over_trunk.specs.EndLaws.{AreAllHeeded, NoOtherEnd, SendsAreWritten}
-pub use Rattle.over_trunk.specs.Replaying.{ReplaysTrunk, WritesSends}
-pub use Rattle.over_trunk.specs.Resuming.{ResumesBy, ResumesTrunk, StopsFollowing, TakesUnfollowed, answer_as}
-pub use Rattle.over_trunk.specs.Serving.{GoesOverTrunk, HasServedTrunk, RecordsAt, ServesTrunk, WatchesTrunk, trunk_counts}
-pub use Rattle.over_trunk.specs.StandingBy.{BreaksOffTrunk, FollowsTrunk, ServesOnTrunk}
-pub use Rattle.over_trunk.specs.Trunk.{Carries, StopsTrunk, TakesTrunk, WritesWhole}
-pub use Rattle.over_trunk.specs.WatchLaws.{BeginWith, NotedTablesAreTold}
-pub use Rattle.over_port.specs.Calls.{given_to}
-pub use Rattle.over_port.specs.Serving.{CalledPort, EndsAfter, GoesOverPort, ServesPort}
-pub use Rattle.over_crowd.specs.Serving.{CalledCrowd, GoesOverCrowd, ServesCrowd}
+pub use Rattle.routes.specs.Converting.{ComparesConverted, ConvertsTrunk, TellsConverted}
+pub use Rattle.routes.specs.EndLaws.{AreAllHeeded, NoOtherEnd, SendsAreWritten}
+pub use Rattle.routes.specs.OverPort.{CalledPort, EndsAfter, GoesOverPort}
+pub use Rattle.routes.specs.PortCalls.{given_to}
+pub use Rattle.routes.specs.Replaying.{ReplaysTrunk, WritesSends}
+pub use Rattle.routes.specs.Resuming.{ResumesBy, ResumesTrunk, StopsFollowing, TakesUnfollowed, answer_as}
+pub use Rattle.routes.specs.Serving.{GoesOver, HasServedOver, Port, Route, Serves, Trunk, Watches}
+pub use Rattle.routes.specs.StandingBy.{BreaksOffTrunk, FollowsTrunk, ServesOnTrunk}
+pub use Rattle.routes.specs.Trunk.{Carries, StopsTrunk, TakesTrunk, WritesWhole}
+pub use Rattle.routes.specs.WatchLaws.{BeginWith, NotedTablesAreTold}
 pub use Rattle.drill.specs.Drilling.{DrillEnds}
 pub use Rattle.command_line.specs.declared.run_words.Guard.{Guard}
 pub use Rattle.command_line.specs.Commands.{AsmValue, CommandValue, ConvertValue, DiagnoseValue, DrillValue, ReplayValue, ResumeValue, RunValue, ServeValue, StandbyValue, are_four, are_new, asm, command_of, convert, convert_shown, diagnose, diagnose_shown, drill, drill_shown, fits, frame, has_fourth, have_names, have_six, is_fifth, positional, replay, replay_shown, resume, resume_shown, run, run_in, run_shown, serve, serve_shown, standby, standby_shown, unframe}

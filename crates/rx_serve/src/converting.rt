@@ -1,5 +1,5 @@
 // The command `convert`: a program and a record of it are loaded, the recorded run is done again over the input, and its record of version 2 is written.
-ghost use Rattle.std.specs.Prelude.{◌≡◌, ◌≤◌, ℕ, List, Option};
+ghost use Rattle.std.specs.Prelude.{◌≤◌, ℕ, List, Option};
 ghost use Rattle.command_line.specs.Commands.{convert_shown};
 ghost use Rattle.rx_serve.specs.Calling.{CallsConvert};
 ghost use Rattle.rx_serve.specs.Converting.{ComparesConversion};
@@ -8,7 +8,7 @@ ghost use Rattle.rx_serve.specs.Outside.{outside, faults, HasFaults};
 use crate::assembly::write_file;
 use crate::replaying::load_recording;
 use command_line::{ConvertCommand, ReplayCommand};
-use over_trunk::{Replayed, convert_trunk};
+use routes::{Replayed, convert_trunk};
 use rx_base::Steps;
 use rx_io::{Files, Source};
 use std::alloc::Global;

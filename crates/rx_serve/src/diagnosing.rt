@@ -1,5 +1,5 @@
 // The command `diagnose`: a session of a program as of `run`, and a diagnosis of each of its failures in a file of its own.
-ghost use Rattle.std.specs.Prelude.{◌≡◌, ◌⊎◌, ℕ, ◌+◌, ◌≤◌, List, [], ◌∷◌, length, MatchOption, Result, Ok};
+ghost use Rattle.std.specs.Prelude.{◌≡◌, ◌⊎◌, ◌+◌, ◌≤◌, List, [], ◌∷◌, length, MatchOption, Result, Ok};
 ghost use Rattle.command_line.specs.Commands.{diagnose_shown, run_shown};
 ghost use Rattle.command_line.specs.Ranges.{AreInRange};
 ghost use Rattle.diagnosis.specs.Diagnosis.{rest_text};
@@ -28,7 +28,7 @@ use diagnosis::{Examiner, head_text, rest_text};
 use file_notes::{add_to_file, start_file};
 use guest_space::{AccessRule, AllMapped};
 use heap_guard::{GuardMode, HeapGuard};
-use over_trunk::laws::noted_tables_are_told;
+use routes::laws::noted_tables_are_told;
 use run_history::Answer;
 use rx_base::{IoFault, Steps};
 use rx_io::{Files, Sink, Source};

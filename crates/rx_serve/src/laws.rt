@@ -1,7 +1,7 @@
 //! Laws of the commands.
 ghost use Rattle.rx_serve.specs.Laws.{RecordsAreReplayed, RecordsAreConverted, SecondVersionStays, GoodInputIsTaken, AllSendsAreWritten, NoServeIsRefused, GoodClientsAreServed, AllSendsAreGiven, OnlyBadWordsAreRefused};
 
-use over_trunk::laws::{
+use routes::laws::{
     converts_to_itself, no_other_end, same_bytes_are_replayed, sends_are_written,
     session_is_converted,
 };

@@ -2,15 +2,13 @@
 //!
 //! It knows the outside by traits alone: whatever its clauses say holds of real streams and files as far as these tell.
 //! Memory may come in place of any answer but BadWords, and what was done before it is said.
-//! Which calls on files, on the listener and on the crowd were made, in order, is said of each command.
+//! Which calls on files and on the port were made, in order, is said of each command.
 //! That the same words, files and input come to the same answer no clause says.
 //! Which sentences are written on standard error is no part of it: `rx` writes them.
 #![tactic(auto)]
 
 mod assembly;
-mod clients;
 mod converting;
-mod crowd_serving;
 mod diagnosing;
 mod drilling;
 mod ending;

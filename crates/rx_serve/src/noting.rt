@@ -1,6 +1,5 @@
 // The two files of a session: its record and its report.
 ghost use Rattle.std.specs.Prelude.{◌≡◌, ◌⊎◌, ℕ, ◌+◌, ◌-◌, ◌≤◌, ◌<◌, ◌^◌, true, false, Some, None, if◌then◌else◌};
-ghost use Rattle.block_book.specs.declared.choice.Choice.{Choice};
 ghost use Rattle.command_line.specs.Commands.{run_shown};
 ghost use Rattle.command_line.specs.Ranges.{AreInRange};
 ghost use Rattle.guest_image.specs.declared.image.Image.{Image};
@@ -15,7 +14,8 @@ ghost use Rattle.rx_base.specs.declared.item.TheConstants.{MAX_ITEMS};
 ghost use Rattle.session_history.specs.Ends.{IsEnd, answer_of};
 ghost use Rattle.session_history.specs.declared.ends.Stop.{Stop};
 ghost use Rattle.file_notes.specs.Keeping.{IsCopy};
-ghost use Rattle.over_trunk.specs.Serving.{HasServedTrunk, trunk_counts};
+ghost use Rattle.routes.specs.OverTrunk.{trunk_counts};
+ghost use Rattle.routes.specs.Serving.{HasServedOver, Trunk};
 ghost use Rattle.session_history.specs.Answering.{HasAnswerCause};
 ghost use Rattle.session_notes.specs.Lists.{list_episodes};
 ghost use Rattle.session_state.specs.Serving.{rules_by};
@@ -23,7 +23,6 @@ ghost use Rattle.rx_serve.specs.Calling.{CallsEnding};
 ghost use Rattle.rx_serve.specs.Diagnosing.{IsKept};
 ghost use Rattle.rx_serve.specs.Noting.{IsFilesAnswer, names_of, report_form, StartsFiles, WatchesNoted, ClosesFiles};
 ghost use Rattle.rx_serve.specs.Outside.{outside, faults, HasFaults};
-ghost use Rattle.rx_serve.specs.Route.{Trunk};
 
 use crate::ending::status_of_answer;
 use command_line::RunCommand;
@@ -31,8 +30,8 @@ use file_notes::{
     FileNames, FileNotes, FirstLine, KeepingNotes, LastLines, end_files, start_files,
 };
 use guest_space::AccessRule;
-use over_trunk::serve_trunk;
 use recovery::Watch;
+use routes::serve_trunk;
 use run_history::Answer;
 use run_report::Form;
 use rx_base::{IoFault, Steps};
@@ -165,7 +164,7 @@ fn serve_copied<R: AccessRule, S: Source, K: Sink, N: Notes, W: Watch, T: Teller
 ) -> (Answer, bool)
     requires begun { IsReadyToServe session.old }
     requires same { IsCopy false (N.shown notes.old).told.episodes (Some (list_episodes list.old)) }
-    ensures served { HasServedTrunk (rules_by R.rule session.old) (S.told input.old) (S.told input.new) (K.told output.old) (K.told output.new) (N.shown notes.old) (N.shown notes.new) ((W.ran watch.old + steps.new) - (W.ran watch.new + steps.old)) (W.tables watch.old) (W.tables watch.new) session.old session.new result.0 }
+    ensures served { HasServedOver (Trunk (S.told input.old) (S.told input.new) (K.told output.old) (K.told output.new)) (rules_by R.rule session.old) (N.shown notes.old) (N.shown notes.new) ((W.ran watch.old + steps.new) - (W.ran watch.new + steps.old)) (W.tables watch.old) (W.tables watch.new) session.old session.new result.0 }
     ensures cause { HasAnswerCause (trunk_counts (S.faults input.old) (K.faults output.old)) (trunk_counts (S.faults input.new) (K.faults output.new)) result.0 }
     ensures fixed { N.fixed notes.new ≡ N.fixed notes.old }
     ensures counted_at_least { W.ran watch.new + steps.old + session.new.steps ≤ W.ran watch.old + steps.new }

@@ -1,5 +1,5 @@
-// The command `serve`: a program is loaded, and serves the connections of a port, one after another.
-ghost use Rattle.std.specs.Prelude.{◌≡◌, ℕ, ◌+◌, ◌<◌, ◌≤◌, ◌^◌, List, Option};
+// The command `serve`: a program is loaded, and serves the clients of a port.
+ghost use Rattle.std.specs.Prelude.{◌≡◌, ℕ, ◌+◌, ◌<◌, ◌≤◌, ◌^◌, List, [], Option};
 ghost use Rattle.command_line.specs.Commands.{run_shown, serve_shown};
 ghost use Rattle.command_line.specs.Ranges.{AreInRange};
 ghost use Rattle.guest_image.specs.declared.image.Image.{Image};
@@ -12,10 +12,10 @@ ghost use Rattle.session_history.specs.declared.ends.Stop.{Stop};
 ghost use Rattle.session_state.specs.Options.{keeping_for};
 ghost use Rattle.session_state.specs.Serving.{IsReadyToServe, outcome_of, rules_by};
 ghost use Rattle.session_state.specs.Sessions.{IsBegun};
+ghost use Rattle.routes.specs.Serving.{Port};
 ghost use Rattle.rx_serve.specs.Noting.{names_of, ServesNoted};
 ghost use Rattle.rx_serve.specs.Outside.{outside, faults, HasFaults};
-ghost use Rattle.rx_serve.specs.Route.{Port};
-ghost use Rattle.rx_serve.specs.Serving.{IsBindAnswer, PortEnds};
+ghost use Rattle.rx_serve.specs.Serving.{IsBindAnswer, ServeEnds, limits_of};
 ghost use Rattle.rx_serve.specs.Settings.{rule_of};
 ghost use Rattle.rx_serve.specs.Status.{status_of};
 
@@ -26,17 +26,19 @@ use command_line::{Guard, ServeCommand};
 use file_notes::{FileNames, FileNotes};
 use guest_space::{AccessRule, AllMapped};
 use heap_guard::{GuardMode, HeapGuard};
-use over_port::serve_port;
+use port_link::PortLimits;
+use ports::Port;
+use routes::serve_port;
 use run_history::Answer;
 use rx_base::{Conn, IoFault, Steps};
 use rx_engine::Session;
-use rx_io::{Files, Listener};
+use rx_io::Files;
 use std::alloc::Global;
 use std::sync::ledger::Ledger;
 use telling::Teller;
 
 // A port that couldn't be bound, as its answer.
-pub(crate) fn bind_answer(fault: IoFault) -> Answer
+fn bind_answer(fault: IoFault) -> Answer
     ensures { IsBindAnswer fault result }
 {
     match fault {
@@ -46,25 +48,26 @@ pub(crate) fn bind_answer(fault: IoFault) -> Answer
 }
 
 // Serves the connections of a port that was just bound, and notes the answers of the allocator and the recoveries in both files.
-fn serve_port_noted<R: AccessRule, F: Files, E: Listener, T: Teller, L: Ledger>(
+fn serve_port_noted<R: AccessRule, F: Files, P: Port, T: Teller, L: Ledger>(
     alloc: Global,
     serve: &ServeCommand<'_>,
     session: &mut Session<R>,
     files: &mut F,
-    listener: &mut E,
+    port: &mut P,
     teller: &T,
     steps: &mut Steps<L>,
 ) -> Answer
     requires two { AreTwo (names_of (run_shown serve.now.session)) }
     requires begun { IsReadyToServe session.old }
-    requires conns { (1 ≤ serve.now.conns) × (serve.now.conns ≤ 4096) }
-    requires bound { IsJustBound (E.told listener.old) }
+    requires few { (serve.now.conns ≤ 4096) × ((1 ≤ serve.now.at_once) × (serve.now.at_once ≤ 256)) }
+    requires none { P.connections port.old ≡ [] }
+    requires bound { IsJustBound (P.told port.old) }
     ensures serves { (input : Option Stream) (output : Option (List ℕ)) → (why : Stop) × (result ≡ answer_of why) × ((image : Image) → IsBegun image session.old.options session.old.cpu.rule session.old
-        → ServesNoted (rules_by R.rule session.old) (keeping_for session.old.options) image (run_shown serve.now.session) (Port serve.now.conns (E.told listener.old) (E.told listener.new)) (outside (F.told files.old) (F.calls files.old) input output steps.old) (outside (F.told files.new) (F.calls files.new) input output steps.new) (outcome_of why session.new)) }
+        → ServesNoted (rules_by R.rule session.old) (keeping_for session.old.options) image (run_shown serve.now.session) (Port (limits_of (serve_shown serve.now)) (P.told port.old) (P.told port.new)) (outside (F.told files.old) (F.calls files.old) input output steps.old) (outside (F.told files.new) (F.calls files.new) input output steps.new) (outcome_of why session.new)) }
     ensures adds { AddsAlone (names_of (run_shown serve.now.session)) (F.calls files.old) (F.calls files.new) }
     ensures later { F.faults files.old ≤ F.faults files.new }
-    ensures fixed { E.fixed listener.new ≡ E.fixed listener.old }
-    ensures faults { (output : ℕ) → HasFaults (faults (F.faults files.old) (E.faults listener.old) output) (faults (F.faults files.new) (E.faults listener.new) output) result }
+    ensures fixed { P.fixed port.new ≡ P.fixed port.old }
+    ensures faults { (output : ℕ) → HasFaults (faults (F.faults files.old) (P.faults port.old) output) (faults (F.faults files.new) (P.faults port.new) output) result }
     ensures counted_at_least { steps.old + session.new.steps ≤ steps.new }
 {
     let names = FileNames {
@@ -72,29 +75,32 @@ fn serve_port_noted<R: AccessRule, F: Files, E: Listener, T: Teller, L: Ledger>(
         report: serve.session.report,
     };
     let mut notes = FileNotes::make(alloc, &mut *files, names, report_form(serve.session.form));
-    let conns = serve.conns as Conn;
-    let answer = serve_port(alloc, session, listener, conns, &mut notes, teller, steps);
+    let limits = PortLimits {
+        conns: serve.conns as Conn,
+        at_once: serve.at_once as u16,
+    };
+    let answer = serve_port(alloc, session, port, limits, &mut notes, teller, steps);
     let _ = notes.is_whole();
     answer
 }
 
 // Loads the program of a command and lets it serve the connections of a port under an access rule, which is that of the command's guard.
-fn serve_under<R: AccessRule + Drop, F: Files, N: Listener, T: Teller, L: Ledger>(
+fn serve_under<R: AccessRule + Drop, F: Files, P: Port, T: Teller, L: Ledger>(
     alloc: Global,
     serve: &ServeCommand<'_>,
     rule: R,
     files: &mut F,
-    listener: &mut N,
+    port: &mut P,
     teller: &T,
     steps: &mut Steps<L>,
 ) -> End
     requires in_range { AreInRange (run_shown serve.now.session) }
     requires two { AreTwo (names_of (run_shown serve.now.session)) }
-    requires listens { (serve.now.port < 2 ^ 16) × ((1 ≤ serve.now.conns) × (serve.now.conns ≤ 4096)) }
+    requires listens { (serve.now.port < 2 ^ 16) × ((serve.now.conns ≤ 4096) × ((1 ≤ serve.now.at_once) × (serve.now.at_once ≤ 256))) }
     requires rule { R.rule rule ≡ rule_of serve.now.session.guard }
-    ensures ends { (input : Option Stream) (output : Option (List ℕ)) → PortEnds (serve_shown serve.now) (N.told listener.old) (N.told listener.new) (outside (F.told files.old) (F.calls files.old) input output steps.old) (outside (F.told files.new) (F.calls files.new) input output steps.new) result }
-    ensures faults { (output : ℕ) → HasFaults (faults (F.faults files.old) (N.faults listener.old) output) (faults (F.faults files.new) (N.faults listener.new) output) result.answer }
-    ensures fixed { N.fixed listener.new ≡ N.fixed listener.old }
+    ensures ends { (input : Option Stream) (output : Option (List ℕ)) → ServeEnds (serve_shown serve.now) (P.told port.old) (P.told port.new) (outside (F.told files.old) (F.calls files.old) input output steps.old) (outside (F.told files.new) (F.calls files.new) input output steps.new) result }
+    ensures faults { (output : ℕ) → HasFaults (faults (F.faults files.old) (P.faults port.old) output) (faults (F.faults files.new) (P.faults port.new) output) result.answer }
+    ensures fixed { P.fixed port.new ≡ P.fixed port.old }
     ensures differs { result.difference ≡ None }
     ensures status { result.status ≡ status_of result.answer }
     ensures counted_at_least { steps.old + result.steps ≤ steps.new }
@@ -103,10 +109,10 @@ fn serve_under<R: AccessRule + Drop, F: Files, N: Listener, T: Teller, L: Ledger
         Ok(session) => session,
         Err(answer) => return End::without_session(alloc, answer),
     };
-    if let Err(fault) = listener.bind(serve.port as u16) {
+    if let Err(fault) = port.bind(serve.port as u16) {
         return End::without_session(alloc, bind_answer(fault));
     }
-    let ended = serve_port_noted(alloc, serve, &mut session, files, listener, teller, steps);
+    let ended = serve_port_noted(alloc, serve, &mut session, files, port, teller, steps);
     let answer = end_notes(
         alloc,
         files,
@@ -118,35 +124,35 @@ fn serve_under<R: AccessRule + Drop, F: Files, N: Listener, T: Teller, L: Ledger
     End::of_session(answer, session.into_end())
 }
 
-// Loads the program of a command and lets it serve the connections of a port, one after another, with a record and a report of it
-// in two files. The port is bound once these have their first lines. The access rule is chosen here, once, by the guard that the command asks for.
-pub(crate) fn serve_program<F: Files, N: Listener, T: Teller, L: Ledger>(
+// Loads the program of a command and lets it serve the clients of a port, as many at the same time as the command asks for, with a record and a
+// report of it in two files. The port is bound once these have their first lines. The access rule is chosen here, once, by the guard that the command asks for.
+pub(crate) fn serve_program<F: Files, P: Port, T: Teller, L: Ledger>(
     alloc: Global,
     serve: &ServeCommand<'_>,
     files: &mut F,
-    listener: &mut N,
+    port: &mut P,
     teller: &T,
     steps: &mut Steps<L>,
 ) -> End
     requires in_range { AreInRange (run_shown serve.now.session) }
     requires two { AreTwo (names_of (run_shown serve.now.session)) }
-    requires listens { (serve.now.port < 2 ^ 16) × ((1 ≤ serve.now.conns) × (serve.now.conns ≤ 4096)) }
-    ensures ends { (input : Option Stream) (output : Option (List ℕ)) → PortEnds (serve_shown serve.now) (N.told listener.old) (N.told listener.new) (outside (F.told files.old) (F.calls files.old) input output steps.old) (outside (F.told files.new) (F.calls files.new) input output steps.new) result }
-    ensures faults { (output : ℕ) → HasFaults (faults (F.faults files.old) (N.faults listener.old) output) (faults (F.faults files.new) (N.faults listener.new) output) result.answer }
-    ensures fixed { N.fixed listener.new ≡ N.fixed listener.old }
+    requires listens { (serve.now.port < 2 ^ 16) × ((serve.now.conns ≤ 4096) × ((1 ≤ serve.now.at_once) × (serve.now.at_once ≤ 256))) }
+    ensures ends { (input : Option Stream) (output : Option (List ℕ)) → ServeEnds (serve_shown serve.now) (P.told port.old) (P.told port.new) (outside (F.told files.old) (F.calls files.old) input output steps.old) (outside (F.told files.new) (F.calls files.new) input output steps.new) result }
+    ensures faults { (output : ℕ) → HasFaults (faults (F.faults files.old) (P.faults port.old) output) (faults (F.faults files.new) (P.faults port.new) output) result.answer }
+    ensures fixed { P.fixed port.new ≡ P.fixed port.old }
     ensures differs { result.difference ≡ None }
     ensures status { result.status ≡ status_of result.answer }
     ensures counted_at_least { steps.old + result.steps ≤ steps.new }
 {
     match serve.session.guard {
-        Guard::Off => serve_under(alloc, serve, AllMapped, files, listener, teller, steps),
+        Guard::Off => serve_under(alloc, serve, AllMapped, files, port, teller, steps),
         Guard::Extent => {
             let rule = HeapGuard::over(GuardMode::Extent);
-            serve_under(alloc, serve, rule, files, listener, teller, steps)
+            serve_under(alloc, serve, rule, files, port, teller, steps)
         }
         Guard::Block => {
             let rule = HeapGuard::over(GuardMode::Block);
-            serve_under(alloc, serve, rule, files, listener, teller, steps)
+            serve_under(alloc, serve, rule, files, port, teller, steps)
         }
     }
 }

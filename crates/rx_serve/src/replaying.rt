@@ -10,7 +10,7 @@ ghost use Rattle.rx_serve.specs.Replaying.{ComparesFile, LoadsRecord, LoadsRecor
 use crate::loading::{MAX_PROGRAM, image_in, load_file};
 use command_line::ReplayCommand;
 use guest_image::Image;
-use over_trunk::{Replayed, replay_trunk};
+use routes::{Replayed, replay_trunk};
 use run_history::Answer;
 use rx_base::Steps;
 use rx_io::{Files, Sink, Source};

@@ -2,7 +2,7 @@
 ghost use Rattle.std.specs.Prelude.{◌≡◌, ◌⊎◌, ◌+◌, ◌≤◌, ◌<◌, ◌^◌, [], ◌∷◌};
 ghost use Rattle.command_line.specs.Commands.{standby_shown};
 ghost use Rattle.file_notes.specs.Calling.{CallsUpTo, starts_of};
-ghost use Rattle.over_trunk.specs.StandingBy.{IsNewTrunk};
+ghost use Rattle.routes.specs.StandingBy.{IsNewTrunk};
 ghost use Rattle.rx_base.specs.Faults.{HasCause, Rose};
 ghost use Rattle.rx_io.specs.declared.file_calls.FileCall.TheVariants.{Added};
 ghost use Rattle.run_history.specs.declared.answer.Answer.TheVariants as answer;
@@ -18,7 +18,7 @@ use crate::noting::{is_end, note_answer};
 use crate::standby_files::{Takeover, load_takeover};
 use command_line::StandbyCommand;
 use file_notes::{add_to_file, start_file};
-use over_trunk::{catch_up_trunk, rest_lines, serve_on_trunk};
+use routes::{catch_up_trunk, rest_lines, serve_on_trunk};
 use run_history::Answer;
 use rx_base::{IoFault, Steps};
 use rx_io::{Files, Sink, Source};

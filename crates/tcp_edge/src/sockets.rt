@@ -3,9 +3,9 @@ ghost use Rattle.std.specs.Prelude.{◌<◌, ◌≤◌, length, IfSome};
 
 use crate::clients::{Client, Seen, longest_idle, next_turn, note_answers, place_of};
 use crate::setting::{accept_some, set_up};
-use crowd::Ready;
 use libc::net::{POLLIN, poll};
 use libc::types::pollfd;
+use ports::Ready;
 use rx_base::{Conn, IoFault};
 use rx_io::TRIES;
 use std::alloc::Global;
@@ -127,8 +127,25 @@ where
         Ok(self.turn(now))
     }
 
-    /// Waits until a client can be accepted, where that is asked for, or one be read of, or one is late. Clients take turns.
+    // What is waited for where that is one thing alone: the next client, or the one that is connected. The call that follows waits for
+    // it, within the patience of a client, and the system isn't asked.
+    fn alone(&mut self, may_accept: bool) -> Option<Ready> {
+        if may_accept {
+            return (self.clients.is_empty() && self.listener.is_some()).then_some(Ready::Accepts);
+        }
+        let [client] = self.clients.as_mut_slice() else {
+            return None;
+        };
+        client.seen = Seen::Quiet;
+        Some(Ready::Reads(client.conn))
+    }
+
+    /// Waits until a client can be accepted, where that is asked for, or one be read of, or one is late. Clients take turns. Where the
+    /// next client or one that is connected is all that can come, it is answered at once.
     pub fn wait<R: Clock>(&mut self, clock: &R, may_accept: bool) -> Result<Ready, IoFault> {
+        if let Some(ready) = self.alone(may_accept) {
+            return Ok(ready);
+        }
         'tries: for _ in 0..TRIES {
             if let Some(ready) = self.look(clock, may_accept)? {
                 return Ok(ready);

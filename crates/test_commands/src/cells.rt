@@ -6,7 +6,7 @@ use std::test::Fail;
 const NAMES: [&str; 38] = [
     "words", "options", "before", "in", "files", "source", "sink", "takes", "gives", "clients",
     "bind", "accept", "take", "give", "moves", "end", "answer", "out", "left", "record", "report",
-    "written", "o", "calls", "replies", "ready", "wait", "crowd", "given", "edit", "cut", "each",
+    "written", "o", "calls", "replies", "ready", "wait", "port", "given", "edit", "cut", "each",
     "wrote", "kept", "spoilt", "differs", "counts", "reported",
 ];
 

@@ -1,9 +1,9 @@
 // Compares how a command ended with its row.
 use crate::cells::{bytes_of, cell_of, number_of, text_of};
 use crate::outsides::{Outside, left_in};
-use crate::showing::{calls_shown, crowd_calls_shown, given_in, replies_in, shown};
-use crowd::CrowdEntry;
-use rx_io::{ListenEntry, MemoryFiles};
+use crate::showing::{calls_shown, given_in, port_calls_shown, replies_in, shown};
+use ports::PortEntry;
+use rx_io::MemoryFiles;
 use rx_serve::End;
 use std::alloc::Global;
 use std::test::Fail;
@@ -61,22 +61,22 @@ fn expect_files(alloc: Global, row: &str, files: &MemoryFiles) -> Result<(), Fai
     expect_bytes(alloc, row, "written", written)
 }
 
-// Compares the calls on a listener with a row.
-fn expect_calls(alloc: Global, row: &str, calls: &[ListenEntry]) -> Result<(), Fail> {
+// Compares the calls on a port with a row.
+fn expect_port(alloc: Global, row: &str, calls: &[PortEntry]) -> Result<(), Fail> {
+    let shown = port_calls_shown(alloc, calls)?;
+    expect_text(alloc, row, "port", shown.as_str())?;
+    let given = given_in(alloc, calls)?;
+    let given = String::from_utf8_lossy(alloc, given.as_slice())?;
+    expect_text(alloc, row, "given", given.as_str())
+}
+
+// Compares them without waits and connections, as those on clients one after another.
+fn expect_calls(alloc: Global, row: &str, calls: &[PortEntry]) -> Result<(), Fail> {
     let shown = calls_shown(alloc, calls)?;
     expect_text(alloc, row, "calls", shown.as_str())?;
     let replies = replies_in(alloc, calls)?;
     let replies = String::from_utf8_lossy(alloc, replies.as_slice())?;
     expect_text(alloc, row, "replies", replies.as_str())
-}
-
-// Compares the calls on a crowd with a row.
-fn expect_crowd(alloc: Global, row: &str, calls: &[CrowdEntry]) -> Result<(), Fail> {
-    let shown = crowd_calls_shown(alloc, calls)?;
-    expect_text(alloc, row, "crowd", shown.as_str())?;
-    let given = given_in(alloc, calls)?;
-    let given = String::from_utf8_lossy(alloc, given.as_slice())?;
-    expect_text(alloc, row, "given", given.as_str())
 }
 
 // Compares an answer, its counts and what differs with a row.
@@ -95,6 +95,6 @@ pub(crate) fn expect_outside(alloc: Global, row: &str, seen: &mut Outside) -> Re
     expect_bytes(alloc, row, "left", left.as_slice())?;
     expect_written(alloc, row, seen.sink.bytes())?;
     expect_files(alloc, row, &seen.files)?;
-    expect_calls(alloc, row, seen.listener.calls())?;
-    expect_crowd(alloc, row, seen.crowd.calls())
+    expect_calls(alloc, row, seen.port.calls())?;
+    expect_port(alloc, row, seen.port.calls())
 }

@@ -13,16 +13,16 @@
 //! many bytes there are of it, and `spoilt`, bytes of it that are others, each behind its place; `counts` and `reported`, what `c` and `q` have, which else
 //! aren't there; `in`, the input, with `cut`, how many bytes there are of it; `edit`, bytes of `p` that are others; `files`, `source` and `sink`, the numbers
 //! of the calls on them that fail; `takes` and `gives`, how many bytes a call on the source and on the sink moves at most. `clients`, what each client of a
-//! port sends, texts between `|`; `bind`, `wait`, `accept`, `take` and `give`, the numbers of the calls on the listener and on the crowd that fail; `moves`,
-//! how many bytes such a call takes or gives at most. `ready`, what the waits on the crowd answer one after another: `client`, or a connection's number.
+//! port sends, texts between `|`; `bind`, `wait`, `accept`, `take` and `give`, the numbers of the calls on the port that fail; `moves`,
+//! how many bytes such a call takes or gives at most. `ready`, what the waits answer one after another: `client`, or a connection's number.
 //! `each`, a first and a last number: the row is played for each from the one to the other, which stands in it for `@`.
 //!
 //! What is expected, where it stands: `end`, the answer, the status, how many choices are recorded, those behind them, the instructions and the items
 //! taken, or `answer` alone; `differs`, what differs from a record; `out`, all that stands in the sink, or `wrote`, of which a byte stands there for each
 //! call on it before the one that fails; `left`, what the source gives in one call more; `record` and `report`, the texts of `r` and `t`, `none` where
-//! they aren't there; `written`, the bytes of `o`, and `o`, its text; `calls`, those on the listener, each behind a blank; `replies`, what each client was
-//! given, a `|` behind each. `crowd`, the calls on the crowd: a wait for any or for an open one, with what was ready, and at the others their connection;
-//! `given`, what each of its connections was given, a `|` behind each.
+//! they aren't there; `written`, the bytes of `o`, and `o`, its text; `port`, the calls on the port, each behind a blank: a wait for any or for an open one, with what was
+//! ready, and at the others their connection; `given`, what each of its connections was given, a `|` behind each. `calls`, the same calls without waits
+//! and connections; `replies`, what clients were given one after another, a `|` where one was closed.
 #![tactic(auto)]
 
 mod cells;

@@ -1,8 +1,8 @@
-// What a command is run over: files, streams, a listener and a crowd, all in memory.
+// What a command is run over: files, streams and a port, all in memory.
 use crate::cells::{bytes_of, cell_of, number_of, put_bytes, text_of};
-use crowd::{CrowdCall, MemoryCrowd, Ready};
+use ports::{MemoryPort, PortCall, Ready};
 use rx_base::Conn;
-use rx_io::{ListenCall, MemoryFiles, MemoryListener, MemorySink, MemorySource, Source};
+use rx_io::{MemoryFiles, MemorySink, MemorySource, Source};
 use std::alloc::{AllocError, Global};
 use std::test::Fail;
 
@@ -12,18 +12,14 @@ pub(crate) struct Outside {
     pub(crate) files: MemoryFiles,
     pub(crate) source: MemorySource,
     pub(crate) sink: MemorySink,
-    pub(crate) listener: MemoryListener,
-    pub(crate) crowd: MemoryCrowd,
+    pub(crate) port: MemoryPort,
 }
-
-// A call on a listener, and the name of its cell.
-type CallRow = (ListenCall, &'static str);
 
 // A file, and the name of the cell with its text.
 type FileCell = (&'static str, &'static str);
 
-// A call on a crowd, and the name of its cell.
-type CrowdRow = (CrowdCall, &'static str);
+// A call on a port, and the name of its cell.
+type PortRow = (PortCall, &'static str);
 
 // The bytes of a file that a row has before its command.
 fn before_in(alloc: Global, before: &str, row: &str) -> Result<Vec<u8>, Fail> {
@@ -79,28 +75,6 @@ fn sink_in(alloc: Global, row: &str) -> Result<MemorySink, Fail> {
     Ok(MemorySink::make(alloc, [fails].to_vec(alloc)?, most))
 }
 
-// Adds which call of a kind fails.
-fn push_fail(fails: &mut Vec<(ListenCall, u64)>, row: &str, call: CallRow) -> Result<(), Fail> {
-    let fail = number_of(row, call.1, 0)? as u64;
-    fails.push((call.0, fail))?;
-    Ok(())
-}
-
-// The calls on the listener of a row that fail.
-fn listen_fails_of(alloc: Global, row: &str) -> Result<Vec<(ListenCall, u64)>, Fail> {
-    let calls: [CallRow; 4] = [
-        (ListenCall::Bind, "bind"),
-        (ListenCall::Accept, "accept"),
-        (ListenCall::Take, "take"),
-        (ListenCall::Give, "give"),
-    ];
-    let mut fails = Vec::new(alloc);
-    for call in calls {
-        push_fail(&mut fails, row, call)?;
-    }
-    Ok(fails)
-}
-
 // What each client of a port sends.
 fn inputs_of(alloc: Global, clients: &str) -> Result<Vec<Vec<u8>>, AllocError> {
     let mut inputs = Vec::new(alloc);
@@ -111,37 +85,25 @@ fn inputs_of(alloc: Global, clients: &str) -> Result<Vec<Vec<u8>>, AllocError> {
     Ok(inputs)
 }
 
-// The listener of a row.
-fn listener_in(alloc: Global, row: &str) -> Result<MemoryListener, Fail> {
-    let inputs = inputs_of(alloc, cell_of(row, "clients").unwrap_or(""))?;
-    let fails = listen_fails_of(alloc, row)?;
-    let most = number_of(row, "moves", 10_000)?.max(1);
-    Ok(MemoryListener::make(alloc, inputs, fails, most))
-}
-
 // Adds which call of a kind fails.
-fn push_crowd_fail(
-    fails: &mut Vec<(CrowdCall, u64)>,
-    row: &str,
-    call: CrowdRow,
-) -> Result<(), Fail> {
+fn push_port_fail(fails: &mut Vec<(PortCall, u64)>, row: &str, call: PortRow) -> Result<(), Fail> {
     let fail = number_of(row, call.1, 0)? as u64;
     fails.push((call.0, fail))?;
     Ok(())
 }
 
-// The calls on the crowd of a row that fail.
-fn crowd_fails_of(alloc: Global, row: &str) -> Result<Vec<(CrowdCall, u64)>, Fail> {
-    let calls: [CrowdRow; 5] = [
-        (CrowdCall::Bind, "bind"),
-        (CrowdCall::Wait, "wait"),
-        (CrowdCall::Accept, "accept"),
-        (CrowdCall::Take, "take"),
-        (CrowdCall::Give, "give"),
+// The calls on the port of a row that fail.
+fn port_fails_of(alloc: Global, row: &str) -> Result<Vec<(PortCall, u64)>, Fail> {
+    let calls: [PortRow; 5] = [
+        (PortCall::Bind, "bind"),
+        (PortCall::Wait, "wait"),
+        (PortCall::Accept, "accept"),
+        (PortCall::Take, "take"),
+        (PortCall::Give, "give"),
     ];
     let mut fails = Vec::new(alloc);
     for call in calls {
-        push_crowd_fail(&mut fails, row, call)?;
+        push_port_fail(&mut fails, row, call)?;
     }
     Ok(fails)
 }
@@ -163,23 +125,22 @@ fn script_of(alloc: Global, row: &str) -> Result<Vec<Ready>, Fail> {
     Ok(script)
 }
 
-// The crowd of a row.
-fn crowd_in(alloc: Global, row: &str) -> Result<MemoryCrowd, Fail> {
+// The port of a row.
+fn port_in(alloc: Global, row: &str) -> Result<MemoryPort, Fail> {
     let inputs = inputs_of(alloc, cell_of(row, "clients").unwrap_or(""))?;
     let script = script_of(alloc, row)?;
-    let fails = crowd_fails_of(alloc, row)?;
+    let fails = port_fails_of(alloc, row)?;
     let most = number_of(row, "moves", 10_000)?.max(1);
-    Ok(MemoryCrowd::make(alloc, inputs, script, fails, most))
+    Ok(MemoryPort::make(alloc, inputs, script, fails, most))
 }
 
-// What a row says of files, streams, listener and crowd.
+// What a row says of files, streams and port.
 pub(crate) fn outside_in(alloc: Global, program: &[u8], row: &str) -> Result<Outside, Fail> {
     Ok(Outside {
         files: files_of(alloc, program, row)?,
         source: source_in(alloc, row)?,
         sink: sink_in(alloc, row)?,
-        listener: listener_in(alloc, row)?,
-        crowd: crowd_in(alloc, row)?,
+        port: port_in(alloc, row)?,
     })
 }
 

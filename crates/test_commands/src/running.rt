@@ -2,9 +2,9 @@
 ghost use Rattle.std.specs.Prelude.{◌≡◌, ◌<◌};
 
 use crate::outsides::{Outside, outside_in};
-use crowd::TameCrowd;
+use ports::TamePort;
 use rx_base::Steps;
-use rx_io::{Files, Sink, Source, TameListener};
+use rx_io::{Files, Sink, Source};
 use rx_serve::{End, run_rx};
 use std::alloc::{AllocError, Global};
 use std::marker::Brand;
@@ -55,8 +55,7 @@ pub fn run_over<L: Ledger, F: Files, S: Source, K: Sink>(
     requires some { 0 < blank.parts }
 {
     let words = words_of(alloc, line)?;
-    let mut listener = TameListener::make(alloc, Vec::new(alloc), 1);
-    let mut crowd = TameCrowd::make(alloc, Vec::new(alloc), Vec::new(alloc), 1);
+    let mut port = TamePort::make(alloc, Vec::new(alloc), Vec::new(alloc), 1);
     let mut steps = Steps::<L>::start(blank);
     Ok(run_rx(
         alloc,
@@ -64,8 +63,7 @@ pub fn run_over<L: Ledger, F: Files, S: Source, K: Sink>(
         files,
         source,
         sink,
-        &mut listener,
-        &mut crowd,
+        &mut port,
         &mut steps,
         &NoTeller,
     ))
@@ -89,8 +87,7 @@ fn run_counted<L: Ledger>(
         &mut outside.files,
         &mut outside.source,
         &mut outside.sink,
-        &mut outside.listener,
-        &mut outside.crowd,
+        &mut outside.port,
         &mut steps,
         &NoTeller,
     )

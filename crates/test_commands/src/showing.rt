@@ -1,7 +1,6 @@
 // What a command shows at its end, as texts.
-use crowd::{CrowdEntry, Ready};
+use ports::{FailedCall, PortEntry, Ready};
 use rx_base::Conn;
-use rx_io::ListenEntry;
 use rx_serve::End;
 use std::alloc::{AllocError, Global};
 
@@ -18,24 +17,36 @@ pub fn shown(alloc: Global, end: &End) -> Result<String, AllocError> {
     )
 }
 
-// A call on a listener, behind a blank.
-fn call_shown(alloc: Global, call: &ListenEntry) -> Result<String, AllocError> {
+// The kind of a call that failed.
+fn kind_of(call: FailedCall) -> &'static str {
     match call {
-        ListenEntry::Bound(port) => format!(in alloc; " bound {port}"),
-        ListenEntry::Accepted => String::from_str(alloc, " accepted"),
-        ListenEntry::Took { bytes, room } => {
-            format!(in alloc; " took {} of {room}", bytes.as_slice().len())
-        }
-        ListenEntry::Gave { bytes, offered } => {
-            format!(in alloc; " gave {} of {offered}", bytes.as_slice().len())
-        }
-        ListenEntry::Closed => String::from_str(alloc, " closed"),
-        ListenEntry::Failed(call) => format!(in alloc; " failed {call:?}"),
+        FailedCall::Bind => "Bind",
+        FailedCall::Wait => "Wait",
+        FailedCall::Accept => "Accept",
+        FailedCall::Take(_) => "Take",
+        FailedCall::Give(_) => "Give",
     }
 }
 
-// The calls on a listener.
-pub(crate) fn calls_shown(alloc: Global, calls: &[ListenEntry]) -> Result<String, AllocError> {
+// A call on a port behind a blank, without its connection; of a wait nothing.
+fn call_shown(alloc: Global, call: &PortEntry) -> Result<String, AllocError> {
+    match call {
+        PortEntry::Bound(port) => format!(in alloc; " bound {port}"),
+        PortEntry::Waited { .. } => Ok(String::new(alloc)),
+        PortEntry::Accepted(_) => String::from_str(alloc, " accepted"),
+        PortEntry::Took { bytes, room, .. } => {
+            format!(in alloc; " took {} of {room}", bytes.as_slice().len())
+        }
+        PortEntry::Gave { bytes, offered, .. } => {
+            format!(in alloc; " gave {} of {offered}", bytes.as_slice().len())
+        }
+        PortEntry::Closed(_) => String::from_str(alloc, " closed"),
+        PortEntry::Failed(call) => format!(in alloc; " failed {}", kind_of(*call)),
+    }
+}
+
+// The calls on a port but its waits.
+pub(crate) fn calls_shown(alloc: Global, calls: &[PortEntry]) -> Result<String, AllocError> {
     let mut text = String::new(alloc);
     for call in calls {
         let shown = call_shown(alloc, call)?;
@@ -45,17 +56,17 @@ pub(crate) fn calls_shown(alloc: Global, calls: &[ListenEntry]) -> Result<String
 }
 
 // Adds what a call gave to its client, or a `|` where it ended it.
-fn push_reply(replies: &mut Vec<u8>, call: &ListenEntry) -> Result<(), AllocError> {
+fn push_reply(replies: &mut Vec<u8>, call: &PortEntry) -> Result<(), AllocError> {
     match call {
-        ListenEntry::Gave { bytes, .. } => replies.extend_from_slice(bytes.as_slice())?,
-        ListenEntry::Closed => replies.push(b'|')?,
+        PortEntry::Gave { bytes, .. } => replies.extend_from_slice(bytes.as_slice())?,
+        PortEntry::Closed(_) => replies.push(b'|')?,
         _ => {}
     }
     Ok(())
 }
 
-// What each client of a port was given, a `|` behind each.
-pub(crate) fn replies_in(alloc: Global, calls: &[ListenEntry]) -> Result<Vec<u8>, AllocError> {
+// What clients were given one after another, a `|` where one was closed.
+pub(crate) fn replies_in(alloc: Global, calls: &[PortEntry]) -> Result<Vec<u8>, AllocError> {
     let mut replies = Vec::new(alloc);
     for call in calls {
         push_reply(&mut replies, call)?;
@@ -71,42 +82,42 @@ fn ready_shown(alloc: Global, ready: Ready) -> Result<String, AllocError> {
     }
 }
 
-// A call on a crowd, behind a blank.
-fn crowd_call_shown(alloc: Global, call: &CrowdEntry) -> Result<String, AllocError> {
+// A call on a port, behind a blank.
+fn port_call_shown(alloc: Global, call: &PortEntry) -> Result<String, AllocError> {
     match call {
-        CrowdEntry::Bound(port) => format!(in alloc; " bound {port}"),
-        CrowdEntry::Waited { may_accept, ready } => {
+        PortEntry::Bound(port) => format!(in alloc; " bound {port}"),
+        PortEntry::Waited { may_accept, ready } => {
             let asked = if *may_accept { "any" } else { "open" };
             let ready = ready_shown(alloc, *ready)?;
             format!(in alloc; " {asked} {ready}")
         }
-        CrowdEntry::Accepted(conn) => format!(in alloc; " accepted {conn}"),
-        CrowdEntry::Took { conn, bytes, room } => {
+        PortEntry::Accepted(conn) => format!(in alloc; " accepted {conn}"),
+        PortEntry::Took { conn, bytes, room } => {
             format!(in alloc; " took {conn} {} of {room}", bytes.as_slice().len())
         }
-        CrowdEntry::Gave {
+        PortEntry::Gave {
             conn,
             bytes,
             offered,
         } => { format!(in alloc; " gave {conn} {} of {offered}", bytes.as_slice().len()) }
-        CrowdEntry::Closed(conn) => format!(in alloc; " closed {conn}"),
-        CrowdEntry::Failed(call) => format!(in alloc; " failed {call:?}"),
+        PortEntry::Closed(conn) => format!(in alloc; " closed {conn}"),
+        PortEntry::Failed(call) => format!(in alloc; " failed {call:?}"),
     }
 }
 
-// The calls on a crowd.
-pub(crate) fn crowd_calls_shown(alloc: Global, calls: &[CrowdEntry]) -> Result<String, AllocError> {
+// The calls on a port.
+pub(crate) fn port_calls_shown(alloc: Global, calls: &[PortEntry]) -> Result<String, AllocError> {
     let mut text = String::new(alloc);
     for call in calls {
-        let shown = crowd_call_shown(alloc, call)?;
+        let shown = port_call_shown(alloc, call)?;
         text.push_str(shown.as_str())?;
     }
     Ok(text)
 }
 
 // Adds what a call gave to a connection.
-fn push_given(given: &mut Vec<u8>, call: &CrowdEntry, of: Conn) -> Result<(), AllocError> {
-    if let CrowdEntry::Gave { conn, bytes, .. } = call {
+fn push_given(given: &mut Vec<u8>, call: &PortEntry, of: Conn) -> Result<(), AllocError> {
+    if let PortEntry::Gave { conn, bytes, .. } = call {
         if *conn == of {
             given.extend_from_slice(bytes.as_slice())?;
         }
@@ -115,7 +126,7 @@ fn push_given(given: &mut Vec<u8>, call: &CrowdEntry, of: Conn) -> Result<(), Al
 }
 
 // Adds what a connection was given, and a `|`.
-fn push_connection(given: &mut Vec<u8>, calls: &[CrowdEntry], of: Conn) -> Result<(), AllocError> {
+fn push_connection(given: &mut Vec<u8>, calls: &[PortEntry], of: Conn) -> Result<(), AllocError> {
     for call in calls {
         push_given(given, call, of)?;
     }
@@ -123,11 +134,11 @@ fn push_connection(given: &mut Vec<u8>, calls: &[CrowdEntry], of: Conn) -> Resul
     Ok(())
 }
 
-// What each connection of a crowd was given, a `|` behind each.
-pub(crate) fn given_in(alloc: Global, calls: &[CrowdEntry]) -> Result<Vec<u8>, AllocError> {
+// What each connection of a port was given, a `|` behind each.
+pub(crate) fn given_in(alloc: Global, calls: &[PortEntry]) -> Result<Vec<u8>, AllocError> {
     let mut given = Vec::new(alloc);
     for call in calls {
-        if let CrowdEntry::Accepted(conn) = call {
+        if let PortEntry::Accepted(conn) = call {
             push_connection(&mut given, calls, *conn)?;
         }
     }

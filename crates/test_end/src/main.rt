@@ -7,9 +7,9 @@
 
 ghost use Rattle.std.specs.Prelude.{◌≡◌, ◌<◌};
 
-use crowd::TameCrowd;
+use ports::{MemoryPort, PortEntry};
 use rx_base::Steps;
-use rx_io::{ListenEntry, MemoryListener, StdFiles, StdSink, StdSource};
+use rx_io::{StdFiles, StdSink, StdSource};
 use rx_serve::{End, run_rx};
 use std::alloc::Global;
 use std::marker::Brand;
@@ -45,7 +45,7 @@ fn inputs_of(rt: &HostRuntime, words: &[String]) -> io::Result<Vec<Vec<u8>>> {
 }
 
 // Tells the calls on the clients.
-fn tell_calls(rt: &HostRuntime, calls: &[ListenEntry]) {
+fn tell_calls(rt: &HostRuntime, calls: &[PortEntry]) {
     for call in calls {
         let _ = println!(rt; "call {call:?}");
     }
@@ -76,8 +76,7 @@ fn run<L: Ledger>(rt: &HostRuntime, words: &[String], inputs: Vec<Vec<u8>>, blan
     let mut files = StdFiles::make(rt, alloc);
     let mut input = StdSource::make(rt);
     let mut output = StdSink::make(rt);
-    let mut listener = MemoryListener::make(alloc, inputs, Vec::new(alloc), MOST);
-    let mut crowd = TameCrowd::make(alloc, Vec::new(alloc), Vec::new(alloc), MOST);
+    let mut port = MemoryPort::make(alloc, inputs, Vec::new(alloc), Vec::new(alloc), MOST);
     let mut steps = Steps::<L>::start(blank);
     let end = run_rx(
         alloc,
@@ -85,13 +84,12 @@ fn run<L: Ledger>(rt: &HostRuntime, words: &[String], inputs: Vec<Vec<u8>>, blan
         &mut files,
         &mut input,
         &mut output,
-        &mut listener,
-        &mut crowd,
+        &mut port,
         &mut steps,
         &NoTeller,
     );
     tell_end(rt, &end);
-    tell_calls(rt, listener.calls());
+    tell_calls(rt, port.calls());
     end.status
 }
 

@@ -1,14 +1,15 @@
-use Rattle.port_link.proofs.Terms.{length, true, ◌≡◌, ◌≤◌}
+use Rattle.port_link.proofs.Terms.{length, true, ◌≡◌, ◌≤◌, is_open}
 use Rattle.port_link.proofs.GiveLemmas.{Giving}
 use Rattle.port_link.proofs.giving.give_piece.Given as goal
 
 abbrev pub invariant-rest : goal.invariant-rest
 invariant-rest g l = record {
-  gave : Giving (g.N.Listener.told l.initial.listener) (g.N.Listener.told l.listener) l.bytes l.rest;
-  present : g.N.Listener.present l.listener ≡ true;
-  later : g.N.Listener.connection_faults l.initial.listener ≤ g.N.Listener.connection_faults l.listener;
-  faults : g.N.Listener.faults l.listener ≡ g.N.Listener.faults l.initial.listener;
-  fixed : g.N.Listener.fixed l.listener ≡ g.N.Listener.fixed l.initial.listener;
+  gave : Giving l.conn (g.P.Port.told l.initial.port) (g.P.Port.told l.port) l.bytes l.rest;
+  connections : g.P.Port.connections l.port ≡ g.P.Port.connections l.initial.port;
+  connected : is_open l.conn (g.P.Port.connections l.port) ≡ true;
+  later : g.P.Port.connection_faults l.initial.port ≤ g.P.Port.connection_faults l.port;
+  faults : g.P.Port.faults l.port ≡ g.P.Port.faults l.initial.port;
+  fixed : g.P.Port.fixed l.port ≡ g.P.Port.fixed l.initial.port;
 }
 
 abbrev pub decreases-rest : goal.decreases-rest

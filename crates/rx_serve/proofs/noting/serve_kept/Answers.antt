@@ -1,5 +1,5 @@
-use Rattle.rx_serve.proofs.Lemmas.{kept_at, watches_kept, adds_of, watched_trunk, kept_is}
-use Rattle.rx_serve.proofs.Terms.{ap, arith, rules, ℕ, ◌+◌, ◌-◌, ◌∙◌, ◌≡◌, run_shown, outside, Trunk}
+use Rattle.rx_serve.proofs.Lemmas.{kept_at, watches_kept, adds_of, kept_is}
+use Rattle.rx_serve.proofs.Terms.{ap, arith, rules, ℕ, ◌+◌, ◌-◌, ◌∙◌, ◌≡◌, Trunk, run_shown, outside}
 use Rattle.rx_serve.proofs.noting.serve_kept.Goals as goal
 
 pub returns-clause-serves : goal.returns-clause-serves
@@ -15,7 +15,7 @@ returns-clause-serves g c =
           let count : own ≡ c.args.steps.now + counted = omega (arith, more, same) in
           let serves =
           watches_kept (run_shown c.args.run.now) (Trunk (g.S.Source.told c.args.input.now) (g.S.Source.told c.serve_copied-answer.new.input) (g.K.Sink.told c.args.output.now) (g.K.Sink.told c.serve_copied-answer.new.output)) (outside (g.F.Files.told c.args.files.now) (g.F.Files.calls c.args.files.now) (g.S.Source.told c.args.input.now) (g.K.Sink.told c.args.output.now) c.args.steps.now)
-          (outside (g.F.Files.told c.serve_copied-answer.new.notes.files.now) (g.F.Files.calls c.serve_copied-answer.new.notes.files.now) (g.S.Source.told c.serve_copied-answer.new.input) (g.K.Sink.told c.serve_copied-answer.new.output) own) _ _ _ _ _ _ _ _ _ made.choices made.episodes made.left count (watched_trunk _ _ _ _ _ _ _ _ _ _ _ _ _ (has.served image begun))
+          (outside (g.F.Files.told c.serve_copied-answer.new.notes.files.now) (g.F.Files.calls c.serve_copied-answer.new.notes.files.now) (g.S.Source.told c.serve_copied-answer.new.input) (g.K.Sink.told c.serve_copied-answer.new.output) own) _ _ _ _ _ _ _ _ _ made.choices made.episodes made.left count (has.served image begun)
           (ap (λ k. k.1.0) kept ∙ made.names) (ap (λ k. k.1.1.0) kept ∙ made.form ∙ c.report_form.ensures)
           (ap (λ k. k.1.1.1.0) kept ∙ made.before.0) c.is_whole.ensures.stands c.is_whole.ensures.asks in
           let all = kept_at (search rules) (search rules) serves in

@@ -1,7 +1,8 @@
 use Rattle.port_link.proofs.CallLemmas.{just_bound}
 use Rattle.rx_engine.specs.declared.left.Left.{Left as Leaves}
-use Rattle.rx_serve.proofs.Lemmas.{options_in_range, closes_other, not_read, not_write, run_served, bind_faults, begun_own, counts_fit, not_begun, not_risen, ready, rose_within, run_ends, unwatched}
-use Rattle.rx_serve.proofs.Terms.{None, ap, arith, inl, inr, refl, subst, sym, ◌<◌, ◌^◌, ◌∙◌, ◌≤◌, MAX_ITEMS, run_shown, outside, options_of, Port, ClosesFiles, CallsServed, IsBindAnswer}
+use Rattle.rx_serve.proofs.Lemmas.{options_in_range, closes_other, not_read, not_write, run_served, begun_own, counts_fit, not_begun, not_risen, ready, rose_within, run_ends, unwatched}
+use Rattle.rx_serve.proofs.Terms.{None, ap, arith, inl, inr, refl, subst, sym, ◌<◌, ◌^◌, ◌∙◌, ◌≤◌, MAX_ITEMS, Port, run_shown, serve_shown, outside, options_of, ClosesFiles, CallsServed, IsBindAnswer, limits_of}
+use Rattle.rx_serve.proofs.BindLemmas.{bind_faults}
 use Rattle.rx_serve.proofs.port_serving.serve_under.Goals as goal
 
 pub returns-in-Err-clause-ends : goal.returns-in-Err-clause-ends
@@ -33,7 +34,7 @@ serve_port_noted-ended-requires-clause-begun g c =
     ready has.image (options_of (run_shown c.args.serve.now.session)) c.args.rule c.in-Ok.session has.begun
 
 pub serve_port_noted-ended-requires-clause-bound : goal.serve_port_noted-ended-requires-clause-bound
-serve_port_noted-ended-requires-clause-bound g c = just_bound (g.N.Listener.told c.args.listener.now) (g.N.Listener.told c.bind.new.self) c.args.serve.now.port c.in_default.ensures.call
+serve_port_noted-ended-requires-clause-bound g c = just_bound (g.P.Port.told c.args.port.now) (g.P.Port.told c.bind.new.self) c.args.serve.now.port c.in_default.ensures.call
 
 pub end_notes-answer-requires-clause-taken : goal.end_notes-answer-requires-clause-taken
 end_notes-answer-requires-clause-taken g c =
@@ -55,10 +56,10 @@ returns-clause-ends g c input output =
     let value = run_shown c.args.serve.now.session in
     let served = c.serve_port_noted-ended.ensures.serves input output in
     inr (inr (record {
-      bound = g.N.Listener.told c.bind.new.self;
+      bound = g.P.Port.told c.bind.new.self;
       bind = c.in_default.ensures.call;
       served =
-          (run_ends g.R.AccessRule.rule value (Port c.args.serve.now.conns (g.N.Listener.told c.bind.new.self) (g.N.Listener.told c.serve_port_noted-ended.new.listener))
+          (run_ends g.R.AccessRule.rule value (Port (limits_of (serve_shown c.args.serve.now)) (g.P.Port.told c.bind.new.self) (g.P.Port.told c.serve_port_noted-ended.new.port))
           (outside (g.F.Files.told c.args.files.now) (g.F.Files.calls c.args.files.now) input output c.args.steps.now)
           (outside (g.F.Files.told c.end_notes-answer.new.files) (g.F.Files.calls c.end_notes-answer.new.files) input output c.serve_port_noted-ended.new.steps)
           (g.F.Files.told c.begin_session.new.files) (g.F.Files.told c.serve_port_noted-ended.new.files) (g.F.Files.calls c.begin_session.new.files) (g.F.Files.calls c.serve_port_noted-ended.new.files) (options_of value) c.of_session.result served.0

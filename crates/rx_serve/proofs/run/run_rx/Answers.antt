@@ -9,20 +9,19 @@ run_program-requires-clause-two g c =
     let asked : command_of (texts_of c.args.words.now) ≡ Some (run (run_shown c.in-Ok-Some-Run.run')) = search (rules, c.in-Ok-Some-Run.ensures.read) in
     names_differ (texts_of c.args.words.now) (run_shown c.in-Ok-Some-Run.run') asked
 
-pub serve_clients-requires-clause-two : Rattle.rx_serve.proofs.run.run_rx.Goals.serve_clients-requires-clause-two
-serve_clients-requires-clause-two g c =
+pub serve_program-requires-clause-two : Rattle.rx_serve.proofs.run.run_rx.Goals.serve_program-requires-clause-two
+serve_program-requires-clause-two g c =
     let asked : command_of (texts_of c.args.words.now) ≡ Some (serve (serve_shown c.in-Ok-Some-Serve.serve)) = search (rules, c.in-Ok-Some-Serve.ensures.read) in
     port_names_differ (texts_of c.args.words.now) (serve_shown c.in-Ok-Some-Serve.serve) asked
 
-pub serve_clients-requires-clause-in_range : Rattle.rx_serve.proofs.run.run_rx.Goals.serve_clients-requires-clause-in_range
-serve_clients-requires-clause-in_range g c = session_in_range (serve_shown c.in-Ok-Some-Serve.serve) (search (rules, c.in-Ok-Some-Serve.ensures.ranges))
+pub serve_program-requires-clause-in_range : Rattle.rx_serve.proofs.run.run_rx.Goals.serve_program-requires-clause-in_range
+serve_program-requires-clause-in_range g c = session_in_range (serve_shown c.in-Ok-Some-Serve.serve) (search (rules, c.in-Ok-Some-Serve.ensures.ranges))
 
-pub serve_clients-requires-clause-listens : Rattle.rx_serve.proofs.run.run_rx.Goals.serve_clients-requires-clause-listens
-serve_clients-requires-clause-listens g c =
-    (port_few (serve_shown c.in-Ok-Some-Serve.serve) (search (rules, c.in-Ok-Some-Serve.ensures.ranges)), conns_few (serve_shown c.in-Ok-Some-Serve.serve) (search (rules, c.in-Ok-Some-Serve.ensures.ranges)))
-
-pub serve_clients-requires-clause-at_once : Rattle.rx_serve.proofs.run.run_rx.Goals.serve_clients-requires-clause-at_once
-serve_clients-requires-clause-at_once g c = at_once_few (serve_shown c.in-Ok-Some-Serve.serve) (search (rules, c.in-Ok-Some-Serve.ensures.ranges))
+pub serve_program-requires-clause-listens : Rattle.rx_serve.proofs.run.run_rx.Goals.serve_program-requires-clause-listens
+serve_program-requires-clause-listens g c = (
+  port_few (serve_shown c.in-Ok-Some-Serve.serve) (search (rules, c.in-Ok-Some-Serve.ensures.ranges)),
+  ((conns_few (serve_shown c.in-Ok-Some-Serve.serve) (search (rules, c.in-Ok-Some-Serve.ensures.ranges))).1, at_once_few (serve_shown c.in-Ok-Some-Serve.serve) (search (rules, c.in-Ok-Some-Serve.ensures.ranges))),
+)
 
 pub diagnose_program-requires-clause-two : Rattle.rx_serve.proofs.run.run_rx.Goals.diagnose_program-requires-clause-two
 diagnose_program-requires-clause-two g c =

@@ -1,5 +1,5 @@
-use Rattle.rx_serve.proofs.Lemmas.{broken_faults, broken_off, closed_text, closes_as, first_short, none_short, served_faults, served_no_file, serves_as, short_faults, unstarted_faults}
-use Rattle.rx_serve.proofs.Terms.{arith, inl, inr, refl, subst, sym, ◌-◌, ◌∙◌, ◌≡◌, Answer, standby_shown, IsFilesAnswer, CallsRecording}
+use Rattle.rx_serve.proofs.Lemmas.{broken_faults, broken_off, closed_text, closes_as, first_short, none_short, served_faults, served_no_file, serves_as, unstarted_faults}
+use Rattle.rx_serve.proofs.Terms.{arith, inl, inr, refl, subst, sym, ◌-◌, ◌∙◌, Answer, standby_shown, IsFilesAnswer, CallsRecording}
 use Rattle.rx_serve.proofs.StandbyLemmas.{counts_fit}
 use Rattle.rx_serve.proofs.standing_by.take_over.Goals as goal
 

@@ -1,6 +1,6 @@
 use Rattle.command_line.specs.Ranges.{AreInRange}
 use Rattle.rx_serve.proofs.Lemmas.{may_be_handed, wider_faults}
-use Rattle.rx_serve.proofs.Terms.{Option, ap, inl, inr, refl, subst, sym, ◌∙◌, ◌≡◌, Contents, Image, Handed, AreTwo, handed_of, MayBeHanded, resumed_in_range, RunValue, resume_shown, run_in, run_shown, End, Outside, outside, window_of, names_of, HasHandoverCause, ResumesSession, handed_in}
+use Rattle.rx_serve.proofs.Terms.{Option, ap, inl, inr, refl, subst, sym, ◌∙◌, Contents, Handed, AreTwo, handed_of, MayBeHanded, resumed_in_range, RunValue, resume_shown, run_in, outside, window_of, names_of, HasHandoverCause, ResumesSession, handed_in}
 use Rattle.rx_serve.proofs.taking_on.resume_program.Goals as goal
 
 pub resume_guarded-requires-clause-in_range : goal.resume_guarded-requires-clause-in_range

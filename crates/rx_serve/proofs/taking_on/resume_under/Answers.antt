@@ -1,6 +1,6 @@
 use Rattle.rx_engine.specs.declared.left.Left.{Left as Leaves}
 use Rattle.rx_serve.proofs.Lemmas.{options_in_range, closes_other, not_read, not_write, begun_own, ready, rose_within, faults_as, has_resumed, has_stopped, resumed_fits, served_behind, wider_faults}
-use Rattle.rx_serve.proofs.Terms.{Option, ap, arith, inl, inr, refl, subst, sym, ◌<◌, ◌^◌, ◌∙◌, ◌≤◌, MAX_ITEMS, Contents, calls_then, handed_of, run_shown, outside, options_of, ClosesFiles, CallsServedBehind, StartsPartlyBehind, before_taken}
+use Rattle.rx_serve.proofs.Terms.{ap, arith, inl, inr, refl, subst, sym, ◌<◌, ◌^◌, ◌∙◌, ◌≤◌, MAX_ITEMS, calls_then, handed_of, run_shown, outside, options_of, ClosesFiles, CallsServedBehind, StartsPartlyBehind, before_taken}
 use Rattle.rx_serve.proofs.taking_on.resume_under.Goals as goal
 
 pub returns-in-Err-clause-resumes : goal.returns-in-Err-clause-resumes

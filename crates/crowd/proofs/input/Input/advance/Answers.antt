@@ -1,5 +1,0 @@
-use Rattle.crowd.proofs.TameLemmas.{advanced}
-use Rattle.crowd.proofs.input.Input.advance.Goals as goal
-
-pub returns : goal.returns
-returns c = advanced c.args.self.now.at c.args.count c.args.self.now.bytes.items

@@ -1,8 +1,0 @@
-use Rattle.crowd.proofs.Terms.{subst, sym, into_iter_items, Ready, IsReady}
-use Rattle.crowd.proofs.TameLemmas.{next_is_ready}
-use Rattle.crowd.proofs.tame_crowd.TameCrowdCrowd.wait.Goals as goal
-
-pub returns-clause-ready : goal.returns-clause-ready
-returns-clause-ready c =
-    subst (λ (ready : Ready). IsReady c.args.may_accept c.args.self.now.opened.items ready) (sym c.next_ready-ready.ensures.ready)
-    (next_is_ready c.args.may_accept c.args.self.now.opened.items (into_iter_items c.args.self.now.script) c.requires.some)

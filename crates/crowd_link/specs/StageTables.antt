@@ -1,8 +1,0 @@
--- The stages of all connections, by their numbers.
-use Rattle.std.specs.Prelude.{ℕ, List, slice_index_or}
-use Rattle.crowd_link.specs.declared.place.Stage.{Stage}
-use Rattle.crowd_link.specs.declared.place.Stage.TheVariants.{Unopened}
-
--- the stage of a connection
-abbrev pub stage_in : List Stage → ℕ → Stage
-stage_in stages conn = slice_index_or stages conn Unopened

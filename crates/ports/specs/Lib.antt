@@ -1,0 +1,10 @@
+pub mod Terms
+pub mod Connections
+pub mod Calls
+pub mod PortPlans
+pub mod Streams
+pub mod Inputs
+pub mod Scripts
+pub mod TamePorts
+pub mod MemoryPorts
+pub mod ConnectionLaws

@@ -1,0 +1,13 @@
+pub mod Terms
+pub mod Trunk
+pub mod OverTrunk
+pub mod PortCalls
+pub mod OverPort
+pub mod Serving
+pub mod Laws
+pub mod WatchLaws
+pub mod Replaying
+pub mod Converting
+pub mod EndLaws
+pub mod StandingBy
+pub mod Resuming

@@ -1,6 +1,0 @@
-use Rattle.std.proofs.Common.{drop, ◌≡◌}
-use Rattle.rx_io.specs.ListenPlans.{is_to_fail}
-use Rattle.rx_io.proofs.listen_fails.is_to_fail.Given as goal
-
-abbrev pub invariant-fails : goal.invariant-fails
-invariant-fails l = is_to_fail l.call l.number (drop l.fail-index l.fails) ≡ is_to_fail l.call l.number l.fails
