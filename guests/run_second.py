@@ -61,13 +61,18 @@ def words_of(words):
     return asked
 
 
-def main(words):
-    asked = words_of(words)
+def session(asked, content):
+    """A session on these bytes: what came of it, its output, and its files."""
     with open(asked.program, "rb") as file:
         image = image_of(file.read(), asked.window * MIB)
     options = Options(image.window, asked.frame, asked.hold, asked.ring, asked.every, asked.frames, asked.budget, asked.guard)
     sink, files = MemorySink(), MemoryFiles({"p": b""})
-    done = run(image, MemorySource(sys.stdin.buffer.read()), sink, options, files, asked.form, asked.diagnosis is not None)
+    return run(image, MemorySource(content), sink, options, files, asked.form, asked.diagnosis is not None), sink, files
+
+
+def main(words):
+    asked = words_of(words)
+    done, sink, files = session(asked, sys.stdin.buffer.read())
     for path, name in ((asked.record, "r"), (asked.report, "t"), (asked.diagnosis, "d")):
         if path is not None:
             with open(path, "wb") as file:

@@ -29,17 +29,31 @@ __attribute__((format(printf, 1, 2))) static inline void say(const char *format,
         reply.length = sizeof reply.bytes - 1;
 }
 
-/* Waits for the next line, and answers its connection. The line feed is left out. */
+/* Begins another reply. */
+static inline void begin_reply(void)
+{
+    reply.length = 0;
+}
+
+/* Waits for the next item. The line is its message without the line feed, and empty where it is an open or a close. */
+static inline struct guest_item next_item(void)
+{
+    struct guest_item item = guest_recv(line, sizeof line - 1);
+
+    line[item.length] = '\0';
+    line[strcspn(line, "\n")] = '\0';
+    begin_reply();
+    return item;
+}
+
+/* Waits for the next line, and answers its connection. */
 static inline unsigned next_line(void)
 {
     struct guest_item item;
 
     do
-        item = guest_recv(line, sizeof line - 1);
+        item = next_item();
     while (item.kind != GUEST_MESSAGE);
-    line[item.length] = '\0';
-    line[strcspn(line, "\n")] = '\0';
-    reply.length = 0;
     return item.connection;
 }
 
