@@ -46,7 +46,7 @@ OPEN = frame(OPENS, 0)
 RUN = ["run", "p", "--record", "r", "--report", "t"]
 LONG = b"x" * 39 + b"\n"
 
-CHOICE = re.compile(r"tail Choice \{ ask: (\w+) \{ (?:(?:count|old): (\d+), )?size: (\d+) \}, at: (\d+), zeroed: (true|false) \}")
+CHOICE = re.compile(r"tail Choice \{ ask: (\w+) \{ (?:(?:count|old): (\d+), )?size: (\d+) \}, at: (\d+), zeroed: (true|false), carried: (\d+) \}")
 GAVE = re.compile(r"call (?:Accepted\((\d+)\)|Gave \{ conn: (\d+), bytes: Listed \{ values: \[([\d, ]*)\] \}, .*)")
 CALLS = {"Malloc": MALLOC, "Calloc": CALLOC, "Realloc": REALLOC}
 
@@ -128,9 +128,9 @@ def rows():
 
 
 def choice_of(line):
-    call, first, size, at, zeroed = CHOICE.fullmatch(line).groups()
+    call, first, size, at, zeroed, carried = CHOICE.fullmatch(line).groups()
     ask = Ask(CALLS[call], int(size), 0) if call == "Malloc" else Ask(CALLS[call], int(first), int(size))
-    return Choice(int(at), zeroed == "true", ask)
+    return Choice(int(at), zeroed == "true", ask, int(carried))
 
 
 def given_in(lines):

@@ -64,7 +64,7 @@ def each_of(row):
 def shown(done):
     """An end as the rows write it."""
     answer = KINDS.get(done.answer[0], done.answer[0])
-    tail = ", ".join("Choice { ask: Malloc { size: %d }, at: %d, zeroed: %s }" % (c.ask.first, c.at, str(c.zeroed).lower()) for c in done.tail)
+    tail = ", ".join("Choice { ask: Malloc { size: %d }, at: %d, zeroed: %s, carried: %d }" % (c.ask.first, c.at, str(c.zeroed).lower(), c.carried) for c in done.tail)
     answer = answer % done.answer[1:] if len(done.answer) > 1 else answer
     answer = re.sub(r"AssertFailed (\d+)", r"AssertFailed(\1)", answer)
     return "%s %d %d [%s] %d %d" % (answer, done.status, done.recorded, tail, done.steps, done.taken)

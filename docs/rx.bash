@@ -66,15 +66,15 @@ _rx() {
     esac
     case "${COMP_WORDS[1]}" in
     run)
-        [[ $word == -* ]] && COMPREPLY=($(compgen -W '--record --report --form --frame --window --hold --ring --every --frames --budget --guard --tell --durable' -- "$word")) && return ;;
+        [[ $word == -* ]] && COMPREPLY=($(compgen -W '--record --report --form --frame --window --hold --ring --every --frames --budget --keep --guard --tell --durable' -- "$word")) && return ;;
     standby)
         [[ $word == -* ]] && COMPREPLY=($(compgen -W '--record --budget' -- "$word")) && return ;;
     resume)
-        [[ $word == -* ]] && COMPREPLY=($(compgen -W '--record --report --form --hold --ring --every --frames --budget --guard --tell --durable' -- "$word")) && return ;;
+        [[ $word == -* ]] && COMPREPLY=($(compgen -W '--record --report --form --hold --ring --every --frames --budget --keep --guard --tell --durable' -- "$word")) && return ;;
     serve)
-        [[ $word == -* ]] && COMPREPLY=($(compgen -W '--record --report --form --frame --window --ring --every --frames --budget --guard --patience --at-once --tell --durable' -- "$word")) && return ;;
+        [[ $word == -* ]] && COMPREPLY=($(compgen -W '--record --report --form --frame --window --ring --every --frames --budget --keep --guard --patience --at-once --tell --durable' -- "$word")) && return ;;
     diagnose)
-        [[ $word == -* ]] && COMPREPLY=($(compgen -W '--record --report --diagnosis --form --frame --window --hold --ring --every --frames --budget --guard --tell --durable' -- "$word")) && return ;;
+        [[ $word == -* ]] && COMPREPLY=($(compgen -W '--record --report --diagnosis --form --frame --window --hold --ring --every --frames --budget --keep --guard --tell --durable' -- "$word")) && return ;;
     help)
         COMPREPLY=($(compgen -W 'run asm replay convert standby resume serve diagnose drill frame unframe' -- "$word"))
         return ;;

@@ -5,7 +5,7 @@ Standard input, standard output, the record, the report, the diagnosis and the s
 that isn't looked at here. Options that aren't given have the values that rx gives them. All of the input is read at once.
 
 usage: run_second.py run PROGRAM --record RECORD --report REPORT [--form text|json] [--frame line|length|whole] [--window MIB] [--hold N]
-                         [--ring N] [--every N] [--frames N] [--budget N] [--guard off|extent|block]
+                         [--ring N] [--every N] [--frames N] [--budget N] [--keep N] [--guard off|extent|block]
        run_second.py diagnose PROGRAM --record RECORD --report REPORT --diagnosis DIAGNOSIS, with the options of run
 """
 
@@ -53,7 +53,7 @@ def words_of(words):
     parser.add_argument("--form", choices=[TEXT, JSON], default=TEXT)
     parser.add_argument("--frame", choices=sorted(FRAMINGS), default=defaults.frame)
     parser.add_argument("--window", type=int, default=defaults.window // MIB)
-    for name in ("hold", "ring", "every", "frames", "budget"):
+    for name in ("hold", "ring", "every", "frames", "budget", "keep"):
         parser.add_argument("--" + name, type=int, default=getattr(defaults, name))
     asked = parser.parse_args(words)
     if (asked.command == "diagnose") != (asked.diagnosis is not None):
@@ -65,7 +65,7 @@ def session(asked, content):
     """A session on these bytes: what came of it, its output, and its files."""
     with open(asked.program, "rb") as file:
         image = image_of(file.read(), asked.window * MIB)
-    options = Options(image.window, asked.frame, asked.hold, asked.ring, asked.every, asked.frames, asked.budget, asked.guard)
+    options = Options(image.window, asked.frame, asked.hold, asked.ring, asked.every, asked.frames, asked.budget, asked.keep, asked.guard)
     sink, files = MemorySink(), MemoryFiles({"p": b""})
     return run(image, MemorySource(content), sink, options, files, asked.form, asked.diagnosis is not None), sink, files
 

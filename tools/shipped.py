@@ -265,7 +265,9 @@ LINES = [
     ('"$RX" run echo %s --record again' % WORDS, b"", 2),
     ('"$RX" run echo %s --frame lines' % WORDS, b"", 2),
     ('"$RX" run echo %s --budget 0' % WORDS, b"", 2),
-    ('"$RX" run echo %s --budget 16777217' % WORDS, b"", 2),
+    ('"$RX" run echo %s --budget 68719476737' % WORDS, b"", 2),
+    ('"$RX" run echo %s --keep 0' % WORDS, b"", 2),
+    ('"$RX" run echo %s --keep 4294967296' % WORDS, b"", 2),
     ('"$RX" run echo %s --window 65' % WORDS, b"", 2),
     ('"$RX" run echo %s --hold 01' % WORDS, b"", 2),
     ('"$RX" run echo %s --ring=3' % WORDS, b"", 2),
@@ -279,7 +281,7 @@ LINES = [
     ('"$RX" run nothing %s < /dev/null' % WORDS, b"", 9),
     # the program may stand anywhere, and a bound of each option is one of its values
     ("printf '\\1\\0\\0\\0\\0\\2\\0\\0\\2\\0hi' | \"$RX\" run --window 64 --report report --frame whole --hold 1000 echo --ring 16 --every 64 "
-     "--frames 2 --budget 16777216 --form json --record record", b"\2\0\0\2\0hi", 0),
+     "--frames 2 --budget 68719476736 --form json --record record", b"\2\0\0\2\0hi", 0),
     # no file becomes a descriptor that was closed: no reply stands in the report
     ("printf '\\1\\0\\0\\0\\0\\2\\0\\0\\3\\0hi\\n' | \"$RX\" run echo %s >&-; status=$?; cat report; exit $status" % WORDS, b"rx report 1\n", 8),
     ('"$RX" run echo %s <&-; status=$?; cat report; exit $status' % WORDS, b"rx report 1\n", 7),

@@ -20,11 +20,11 @@ def must(holds, what):
 
 
 def environment_at(adoptions, count):
-    """The environment at a count of items taken, after adoptions of (checkpoint, environment, point)."""
+    """The environment at a count of items taken, after adoptions of (checkpoint, environment, the last count of items that it is in force at)."""
     found = PLAIN
-    for checkpoint, environment, point in adoptions:
+    for checkpoint, environment, last in adoptions:
         if count > checkpoint or checkpoint == 0:
-            found = environment if count <= point + 3 else PLAIN
+            found = environment if count <= last else PLAIN
     return found
 
 
@@ -56,7 +56,7 @@ def served_machine(session, adoptions):
 
 def result_anew(session, checkpoint, environment, point):
     """The result of an attempt, by one run from the program's start."""
-    adoptions, passed = session.adoptions + [(checkpoint, environment, point)], session.passed
+    adoptions, passed = session.adoptions + [(checkpoint, environment, point + session.options.keep - 1)], session.passed
     machine = served_machine(session, adoptions)
     began = checkpoint == 0
     while True:

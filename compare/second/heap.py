@@ -2,7 +2,7 @@
 
 Written from ISO C (9899:2018, 7.22.3) and the table of environments. A standing block is live or delayed. Its extent is what it
 takes of the heap: its bytes, rounded up to 16, and its padding. A choice is an answer of one of the first three calls, together with
-what was asked.
+what was asked. It carries so many bytes from a replaced block's place, beside those that both blocks have.
 """
 
 import bisect
@@ -18,7 +18,7 @@ MOST_BYTES = (1 << 32) - 1
 MALLOC, CALLOC, REALLOC = "malloc", "calloc", "realloc"
 
 Block = collections.namedtuple("Block", "at size live")
-Choice = collections.namedtuple("Choice", "at zeroed ask")  # what is asked is None where a record doesn't say it
+Choice = collections.namedtuple("Choice", "at zeroed ask carried", defaults=(0,))  # what is asked is None where a record doesn't say it
 
 
 class Ask(collections.namedtuple("Ask", "call first second")):
@@ -149,12 +149,20 @@ class Heap:
         block = self.find(at)
         return block.size if block is not None and block.live else None
 
+    def reach(self, at):
+        """How many bytes a block's extent has from the block's address on."""
+        return self.ends[self.index(at)] - at
+
     def serve(self, environment, ask):
-        """The choice. The old block of a realloc stands while the new one is placed."""
+        """The choice. The old block of a realloc stands while the new one is placed. Where it pads, an environment brings all of the old one's extent
+        from its address on, as far as that of the new one goes."""
         if ask.replaced and self.live_size(ask.replaced) is None:
             raise BadFree
         choice = self.choose(environment, ask)
         if choice.at and ask.replaced:
+            if environment in (PAD, ALL):
+                brought = min(self.reach(ask.replaced), self.reach(choice.at))
+                choice = choice._replace(carried=brought - min(self.live_size(ask.replaced), ask.bytes))
             self.free(environment, ask.replaced)
         return choice
 
@@ -213,10 +221,18 @@ class RecordedHeap:
     def allows(self, choice):
         """Whether C allows the answer to what it says was asked."""
         if choice.at == 0:
-            return not choice.zeroed
+            return not choice.zeroed and not choice.carried
         if choice.ask.bytes > MOST_BYTES or choice.ask.call == CALLOC and not choice.zeroed:
             return False
-        return self.is_clear(choice.at, choice.ask.bytes)
+        return self.is_clear(choice.at, choice.ask.bytes) and (choice.carried == 0 or self.may_carry(choice))
+
+    def may_carry(self, choice):
+        """Whether all that comes of a replaced block's place lies in the heap there, and goes where no block stands, nor what it comes from."""
+        old, new = choice.ask.replaced, choice.at
+        if old == 0:
+            return False
+        count = min(self.live[old], choice.ask.bytes) + choice.carried
+        return self.start <= old and old + count <= self.end and self.is_clear(new, count) and (old + count <= new or new + count <= old)
 
     def serve(self, _, ask):
         """The choice, with what is asked."""

@@ -29,6 +29,16 @@ def serve(heap, environment, ask):
     return choice.at, choice.zeroed
 
 
+def carried(heap, environment, ask):
+    """The same, and how many bytes are carried."""
+    try:
+        choice = heap.serve(environment, ask)
+    except BadFree:
+        return None
+    say(choice.ask, ask)
+    return choice.at, choice.zeroed, choice.carried
+
+
 def malloc(heap, environment, size):
     return serve(heap, environment, malloc_of(size))
 
@@ -142,6 +152,28 @@ def _():
         say(heap.find(expected), Block(expected, 8, True), environment)
 
 
+@row("what is carried in each environment")
+def _():
+    for environment in EVERY:
+        heap, other = Heap(START, END), Heap(START, END)
+        malloc(heap, PLAIN, 20)
+        # reserves 32; kept are 20, or 8
+        say(carried(heap, environment, realloc_of(START, 40))[2], 12 if environment in (PAD, ALL) else 0, environment)
+        malloc(other, PLAIN, 20)
+        say(carried(other, environment, realloc_of(START, 8))[2], 24 if environment in (PAD, ALL) else 0, environment)
+
+
+@row("what is carried from padding")
+def _():
+    heap = Heap(START, END)
+    say(malloc(heap, PAD, 32), (START + 256, False))
+    say(carried(heap, PAD, realloc_of(START + 256, 64)), (START + 800, False, 256))
+    say(carried(heap, PAD, realloc_of(START + 800, 0)), (START + 256, False, 272))
+    say(carried(heap, PLAIN, realloc_of(START + 256, 100)), (START + 528, False, 0))
+    say(carried(heap, PAD, realloc_of(0, 16)), (START + 256, False, 0))
+    say(carried(heap, PAD, realloc_of(START + 256, 0x2000)), (0, False, 0))
+
+
 @row("a new size for which there is no room")
 def _():
     heap = Heap(START, END)
@@ -169,7 +201,7 @@ class EveryAddress:
     """A heap that knows of each 16 bytes who has them, and tries every place."""
 
     def __init__(self, start, end):
-        self.start, self.units, self.blocks = start, [None] * ((end - start) // 16), {}
+        self.start, self.units, self.blocks, self.sizes = start, [None] * ((end - start) // 16), {}, {}
 
     def fit(self, length, least):
         for i in range(least, len(self.units) - length + 1):
@@ -188,7 +220,7 @@ class EveryAddress:
             return None
         at = self.start + 16 * (found + side)
         self.units[found:found + length] = [at] * length
-        self.blocks[at] = "live"
+        self.blocks[at], self.sizes[at] = "live", size
         return at
 
     def release(self, at):
@@ -209,14 +241,20 @@ class EveryAddress:
         at = self.malloc(environment, count * size)[0]
         return at, at != 0
 
+    def reach(self, at):
+        """How many bytes it has from its address on."""
+        return 16 * sum(owner == at for owner in self.units[(at - self.start) // 16:])
+
     def realloc(self, environment, old, size):
         """The answer, or None where it is a bad free."""
         if old and self.blocks.get(old) != "live":
             return None
-        answer = self.malloc(environment, size)
+        answer, behind = self.malloc(environment, size), 0
         if old and answer[0]:
+            if environment in ("pad", "all"):
+                behind = min(self.reach(old) - min(self.sizes[old], size), self.reach(answer[0]) - min(self.sizes[old], size))
             self.free(environment, old)
-        return answer
+        return (*answer, behind)
 
     def free(self, environment, at):
         """Whether the free is a bad one."""
@@ -246,7 +284,7 @@ def _():
                 count = rng.choice([0, 1, 2, 3, 1 << 16])
                 choices = serve(heap, environment, calloc_of(count, size)), every.calloc(environment, count, size)
             elif kind < 0.7:
-                choices = serve(heap, environment, realloc_of(old, size)), every.realloc(environment, old, size)
+                choices = carried(heap, environment, realloc_of(old, size)), every.realloc(environment, old, size)
             else:
                 say(is_bad_free(heap, environment, old), every.free(environment, old), "free of seed %d" % seed)
                 continue

@@ -153,6 +153,7 @@ def some_options(rng):
         every=rng.choice([1, 1, 1, 2, 3, 10]),
         frames=rng.choice([2, 3, 3, 4, 16]),
         budget=rng.choice([400, 2000, 5000, 5000, 5000, 20000]),
+        keep=rng.choice([1, 2, 4, 4, 4, 8, 100]),
         guard=rng.choice([OFF, OFF, OFF, EXTENT, EXTENT, BLOCK]))
 
 

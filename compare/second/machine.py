@@ -253,14 +253,14 @@ class Machine:
         return None
 
     def allocate(self, ask):
-        """The new block begins with what is kept of the old one; where it is zeroed, the rest of it is zeros."""
+        """The new block begins with what is kept of the old one and what is carried behind it; where it is zeroed, the rest of it is zeros."""
         kept = min(self.heap.live_size(ask.replaced) or 0, ask.bytes)
         try:
             choice = self.heap.serve(self.environment, ask)
         except BadFree:
             raise Failure(BAD_FREE) from None
         if choice.at:
-            content = self.memory.read(ask.replaced, kept)
+            content = self.memory.read(ask.replaced, kept + choice.carried)
             if choice.zeroed:
                 content = content.ljust(ask.bytes, b"\0")
             self.memory.write(choice.at, content)

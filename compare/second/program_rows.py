@@ -174,7 +174,9 @@ def _():
     lines = [
         b"m 00010000 -", b"m 00000000 z 00000001", b"m 00010000 - 00000001 00000001", b"m 00010000 - 1", b"m 0001000A - 00000001",
         b"m 00010000 - 0000000A", b"c 00010000 z 00000001", b"c 00010000 - 00000001 00000001", b"c 00000000 z 00000001 00000001",
-        b"r 00010000 - 00000001", b"r 00000000 z 00000001 00000001", b"r 00010000 -  00000001 00000001", b"f 00010000 - 00000001"]
+        b"r 00010000 - 00000001", b"r 00000000 z 00000001 00000001", b"r 00010000 -  00000001 00000001", b"f 00010000 - 00000001",
+        b"r 00020000 - 00010000 00000001 00000000", b"r 00020000 - 00000000 00000001 00000001", b"r 00000000 - 00010000 00000001 00000001",
+        b"r 00020000 - 00010000 00000001 1", b"c 00010000 z 00000001 00000001 00000001"]
     for line in lines:
         for before in (b"", b"m 00000000 - ffffffff\n"):
             text = head + before + line + b"\n" + last
@@ -193,6 +195,9 @@ def _():
     for version, of_version in ((1, [None] * 3), (2, asks)):
         reading = Reading(version, 64, "whole", [Choice(*line, ask) for line, ask in zip(lines, of_version)], *last)
         say(read_record(record_text(reading)), reading)
+    carrying = Reading(2, 4, "line", [Choice(0x20000, True, realloc_of(0x10000, 0), 0xFFFFFFFF), Choice(16, False, realloc_of(32, 1), 1)], 3, 0)
+    say(read_record(record_text(carrying)), carrying)
+    say(record_text(carrying), b"rx record 2 window 4 frame line\nr 00020000 z 00010000 00000000 ffffffff\nr 00000010 - 00000020 00000001 00000001\nend 3 0\n")
     say(record_text(reading), b"rx record 2 window 64 frame whole\nm 00000000 - 00000000\nc fffffff0 z ffffffff ffffffff\n"
         b"r 00000010 - 00000000 000000a0\nend 9223372036854775807 1048576\n")
 

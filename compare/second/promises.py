@@ -84,7 +84,7 @@ class WatchedSession(Session):
 
     def adopt(self, checkpoint, trial, environment, point):
         super().adopt(checkpoint, trial, environment, point)
-        self.adoptions.append((checkpoint.machine.taken, environment, point))
+        self.adoptions.append((checkpoint.machine.taken, environment, point + self.options.keep - 1))
         self.last_given = -1
 
     def given(self, connection, piece, gone):

@@ -14,7 +14,8 @@ NUMBER, MARK = rb" ([0-9a-f]{8})", rb" ([-z])"
 CHOICE = re.compile(rb"m" + NUMBER + MARK + rb"\n")  # of version 1
 CHOICES = {MALLOC: re.compile(rb"m" + NUMBER + MARK + NUMBER + rb"\n"),
            CALLOC: re.compile(rb"c" + NUMBER + MARK + NUMBER * 2 + rb"\n"),
-           REALLOC: re.compile(rb"r" + NUMBER + MARK + NUMBER * 2 + rb"\n")}
+           REALLOC: re.compile(rb"r" + NUMBER + MARK + NUMBER * 2 + rb"(?:" + NUMBER + rb")?\n")}
+NONE = b"%08x" % 0  # isn't written where it would be the number of bytes carried
 LAST = re.compile(rb"end (0|[1-9][0-9]*) (0|[1-9][0-9]*)\n")
 MOST_STEPS, MOST_TAKEN = 1 << 63, 1 << 20
 
@@ -45,7 +46,8 @@ def choice_line(choice):
         return b"m %08x %s\n" % answered
     if ask.call == MALLOC:
         return b"m %08x %s %08x\n" % (*answered, ask.first)
-    return b"%s %08x %s %08x %08x\n" % (b"c" if ask.call == CALLOC else b"r", *answered, ask.first, ask.second)
+    carried = b" %08x" % choice.carried if choice.carried else b""
+    return b"%s %08x %s %08x %08x%s\n" % (b"c" if ask.call == CALLOC else b"r", *answered, ask.first, ask.second, carried)
 
 
 def choice_lines(choices):
@@ -69,14 +71,17 @@ def choice_of(line, version):
     for call, match in found.items():
         if match:
             at, mark, *numbers = match.groups()
+            carried = numbers.pop() if call == REALLOC else None
             numbers = [int(number, 16) for number in numbers] + [0]
-            choice = Choice(int(at, 16), mark == b"z", None if version == 1 else Ask(call, *numbers[:2]))
-            return choice if is_possible(choice) else None
+            choice = Choice(int(at, 16), mark == b"z", None if version == 1 else Ask(call, *numbers[:2]), int(carried or NONE, 16))
+            return choice if is_possible(choice) and carried != NONE else None
     return None
 
 
 def is_possible(choice):
-    """Whether the mark is one that the address may have."""
+    """Whether the mark is one that the address may have; and nothing is carried, or it is to a block that replaces another one."""
+    if choice.carried and not (choice.at and choice.ask and choice.ask.replaced):
+        return False
     if choice.at == 0:
         return not choice.zeroed
     return choice.zeroed or choice.ask is None or choice.ask.call != CALLOC
@@ -130,5 +135,5 @@ def read_unfinished(text):
 
 
 def without_asks(reading):
-    """The same as version 1 says it."""
-    return reading._replace(version=1, lines=[line._replace(ask=None) for line in reading.lines])
+    """The same as version 1 says it, which knows of nothing carried."""
+    return reading._replace(version=1, lines=[line._replace(ask=None, carried=0) for line in reading.lines])

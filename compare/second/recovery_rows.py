@@ -1,9 +1,10 @@
 """Worked rows of recovery: environments, the table, the ring, stamps, holding and the report."""
 
 from second import guests
+from second.assembler import assemble
 from second.checks import OPENS_0, Ran, lines_in, out, piece, row, say
 from second.heap import ENVIRONMENTS, PAD, Choice, malloc_of
-from second.machine import MIB
+from second.machine import Image, MIB
 from second.outside import MemoryLink
 from second.session import Notes, Options, Session
 
@@ -78,6 +79,84 @@ def _():
     ran.tried(2, "AssertFailed 7", *same_at(1, "AssertFailed 7", ALL_FIVE[:3]), (1, "delay", "survived"))
     say(ran.choices(), [(ran.heap, False), (ran.heap + 32, False), (ran.heap + 96, False)])
     lines = "m %08x - 00000020\nr %08x - %08x 00000040\nm %08x - 00000020\n" % (ran.heap, ran.heap + 32, ran.heap, ran.heap + 96)
+    say(ran.record.partition("\n")[2].rpartition("end")[0], lines)
+
+
+# It keeps all messages in a block, which it makes twice as large where the next one has no room, once; sums up all, and sends all back.
+GROWS_ONCE = """
+    li   a0, 16
+    li   s4, 16                 # the block's size
+    li   a7, 3                  # malloc
+    ecall
+    mv   s2, a0                 # the block
+    li   s3, 0                  # how many bytes are in it
+    li   s5, 0                  # their sum
+receive:
+    la   a0, buffer
+    li   a1, 4096
+    li   a7, 1                  # recv
+    ecall
+    li   t0, 2
+    bne  a2, t0, receive        # it isn't a message
+    mv   s0, a1
+    mv   s1, a0
+    add  t0, s3, s1
+    bgeu s4, t0, copy           # it has room
+    slli s4, s4, 1              # the fault: it may have none still
+    mv   a0, s2
+    mv   a1, s4
+    li   a7, 8                  # realloc
+    ecall
+    mv   s2, a0
+copy:
+    la   t0, buffer
+    add  t1, t0, s1
+    add  t2, s2, s3
+copy_byte:
+    beq  t0, t1, copied
+    lbu  t3, 0(t0)
+    sb   t3, 0(t2)
+    add  s5, s5, t3
+    addi t0, t0, 1
+    addi t2, t2, 1
+    j    copy_byte
+copied:
+    add  s3, s3, s1
+    mv   t0, s2
+    add  t1, s2, s3
+    li   t2, 0
+sum_byte:
+    beq  t0, t1, summed
+    lbu  t3, 0(t0)
+    add  t2, t2, t3
+    addi t0, t0, 1
+    j    sum_byte
+summed:
+    beq  t2, s5, reply
+    li   a0, 9
+    li   a7, 6                  # assertion failed
+    ecall
+reply:
+    mv   a0, s0
+    mv   a1, s2
+    mv   a2, s3
+    li   a7, 2                  # send
+    ecall
+    j    receive
+
+.data
+buffer:
+    .space 4096
+"""
+
+
+@row("a block that is made larger behind a write past its end")
+def _():
+    ran = Ran(Image(*assemble(GROWS_ONCE), 4 * MIB), lines_in(OVERRUN, b"b\n"))
+    ran.says(("Finished",), 0, out((0, OVERRUN), (0, OVERRUN + b"b\n")))
+    ran.tried(3, "AssertFailed 9", *same_at(2, "AssertFailed 9"), (1, "pad", "survived"))
+    at = ran.heap, ran.heap + 0x110, ran.heap + 0x330
+    lines = "m %08x - 00000010\nr %08x - %08x 00000020\nr %08x - %08x 00000040 00000100\n" % (at[0], at[1], at[0], at[2], at[1])
     say(ran.record.partition("\n")[2].rpartition("end")[0], lines)
 
 

@@ -155,6 +155,15 @@ def _():
     say(ran.choices(), padded * 4 + plain * 2)
 
 
+@row("an environment is kept for some items")
+def _():
+    line = b"*" * 39 + b"\n"
+    for options, points in (({}, [2, 6, 10]), ({"keep": 1}, list(range(2, 14))), ({"keep": 8}, [2, 10]), ({"keep": 12}, [2]), ({"keep": 0xFFFFFFFF}, [2])):
+        ran = Ran("overflow", lines_in(*[line] * 12), **options)
+        ran.says(("Finished",), 0, out(*[(0, line)] * 12), 13, 3460)
+        say([(episode.point, [tuple(tried) for tried in episode.tries]) for episode in ran.episodes], [(point, [(point - 1, "pad", "survived")]) for point in points])
+
+
 @row("a failure before the first item")
 def _():
     spoil = """
@@ -234,6 +243,13 @@ def _():
     text = text.replace("j again", "nop\nj again")
     Ran(image_of(text, False), OPENS_0, budget=5).says(("Finished",), 0, taken=1, steps=8)
     Ran(image_of(text, False), OPENS_0, budget=4).says(("GaveUp", 1, "Hang"), 5, taken=1, steps=8)
+
+
+@row("a slow request is no hang where the budget is larger")
+def _():
+    text = "again:\naddi a7, x0, 1\naddi a1, x0, 0\naddi a0, x0, 0\necall\nli t0, 1000\ncount:\naddi t0, t0, -1\nbnez t0, count\nj again\n"
+    for budget, answer, status in ((1 << 36, ("Finished",), 0), (2007, ("Finished",), 0), (2006, ("GaveUp", 1, "Hang"), 5)):
+        Ran(image_of(text, False), OPENS_0, budget=budget).says(answer, status, taken=1, steps=2010)
 
 
 EXITS_ELSEWHERE = """

@@ -25,7 +25,7 @@ CAUSES = {
     r"touched memory": instructions.BAD_ACCESS,
     r"jumped to": instructions.BAD_JUMP,
     r"word that is no instruction": instructions.BAD_INSTRUCTION,
-    r"(\d+) instructions came": instructions.HANG,
+    r"(\d+) instructions came .* \(some \d+ ms\); .* a larger --budget lets it pass": instructions.HANG,
     r"freed what": instructions.BAD_FREE,
     r"made a call": instructions.BAD_CALL,
     r"its assertion (\d+) failed": "AssertFailed",

@@ -132,7 +132,7 @@ KINDS = {
     "guards": MODES,
     "results of tries": [SURVIVED, CONTRADICTS, BEHIND],
     "choices": ["%s, %s" % pair for pair in itertools.product(["malloc", "calloc", "realloc of null", "realloc"], ["a block", "zeros", "null"])
-                if pair != ("calloc", "a block")],
+                if pair != ("calloc", "a block")] + ["realloc, carried"],
     "adopted": ENVIRONMENTS,
     "adopted at": ["the newest checkpoint", "an older one", "the start"],
 }
@@ -174,6 +174,7 @@ class Counts:
         for choice in choices:
             call = "realloc of null" if choice.ask.call == "realloc" and not choice.ask.replaced else choice.ask.call
             self.of["choices"]["%s, %s" % (call, "null" if not choice.at else "zeros" if choice.zeroed else "a block")] += 1
+            self.of["choices"]["realloc, carried"] += choice.carried != 0
 
     @staticmethod
     def unpassed(session):

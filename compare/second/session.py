@@ -19,7 +19,6 @@ from second.outside import FileFault, ReadFault, WriteFault
 from second.report import Episode, SURVIVED, Try
 from second.trunk import Refused
 
-KEPT_FOR = 4  # how many items after the point an environment stays in force
 CONTRADICTS, BEHIND = "Contradicts", "Behind"
 EVER = 1 << 64
 
@@ -37,6 +36,7 @@ class Options:
     every: int = 1
     frames: int = 4
     budget: int = 1_000_000
+    keep: int = 4  # how many items after the point an environment stays in force
     guard: str = OFF
     max_items: int = MOST_ITEMS
     max_events: int = MOST_EVENTS
@@ -73,11 +73,11 @@ class Plan:
     def at(self, count):
         return self.parts[bisect.bisect_right(self.parts, (count, "~")) - 1][1]
 
-    def adopt(self, checkpoint, environment, point):
-        """The plan after an adoption. At its request a checkpoint keeps its environment; the start doesn't."""
+    def adopt(self, checkpoint, environment, point, keep):
+        """The plan after an adoption, which stays for so many items. At its request a checkpoint keeps its environment; the start doesn't."""
         first = checkpoint + 1 if checkpoint else 0
         kept = [part for part in self.parts if part[0] < first]
-        return Plan(kept + [(first, environment), (point + KEPT_FOR, PLAIN)])
+        return Plan(kept + [(first, environment), (point + keep, PLAIN)])
 
 
 class Passed:
@@ -284,7 +284,7 @@ class Session:
     def adopt(self, checkpoint, trial, environment, point):
         while self.ring[-1] is not checkpoint:
             del self.ring[-1]
-        self.plan = self.plan.adopt(checkpoint.machine.taken, environment, point)
+        self.plan = self.plan.adopt(checkpoint.machine.taken, environment, point, self.options.keep)
         self.survivor, self.next_send, self.began = trial, 0, trial.steps
 
     def attempt(self, checkpoint, environment, point):

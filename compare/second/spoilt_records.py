@@ -89,10 +89,13 @@ def with_another_choice(rng, reading):
         at = rng.randrange(len(lines))
         line, kind = lines[at], rng.random()
         if kind < 0.4 and line.ask:
-            lines[at] = line._replace(ask=another_ask(rng, line.ask))
+            ask = another_ask(rng, line.ask)
+            lines[at] = line._replace(ask=ask, carried=line.carried if ask.replaced else 0)
         elif kind < 0.8:
             moved = rng.choice([line.at ^ 16, line.at + 256, 0, rng.getrandbits(32)]) & 0xFFFFFFFF
-            lines[at] = line._replace(at=moved, zeroed=line.zeroed and moved != 0)
+            lines[at] = line._replace(at=moved, zeroed=line.zeroed and moved != 0, carried=line.carried if moved else 0)
+        elif kind < 0.9 and line.at and line.ask and line.ask.replaced:
+            lines[at] = line._replace(carried=rng.choice([0, 1, 8, 256, max(line.carried, 1) - 1, line.carried + 1, rng.getrandbits(32)]) & 0xFFFFFFFF)
         else:
             lines[at] = line._replace(zeroed=line.at != 0 and not line.zeroed)
     return reading._replace(lines=lines)
@@ -175,7 +178,8 @@ class Replays:
         self.folder.put("p", executable(*pair.segments))
         reading = read_record(pair.files["r"])
         sends = b"".join(trunk.piece_frame(send[0], send[1]) for send in done.session.survivor.sends)
-        for told in (reading, without_asks(reading)):
+        # what is carried version 1 can't say
+        for told in (reading, *([] if any(line.carried for line in reading.lines) else [without_asks(reading)])):
             for command, expected in (("replay", (sends, OLD)), ("convert", (b"", pair.files["r"]))):
                 came, found = self.folder.differences(command, pair.segments, record_text(told), pair.stream)
                 if (came.output, came.new) != expected:
@@ -225,6 +229,8 @@ def some_line(rng, version):
     """A choice that a record may have."""
     at, zeroed = rng.choice([(0, False), (rng.getrandbits(32), False), (rng.getrandbits(28) * 16 + 16 & 0xFFFFFFFF, True)])
     choice = Choice(at, zeroed and at != 0, some_ask(rng) if version == 2 else None)
+    if at and choice.ask and choice.ask.replaced:
+        choice = choice._replace(carried=rng.choice([0, 1, 0xFFFFFFFF, rng.getrandbits(32)]))
     return choice if is_possible(choice) else choice._replace(zeroed=True)
 
 
@@ -241,7 +247,9 @@ def some_record(rng):
 OTHER_LINES = [b"\n", b"m 00000000 z\n", b"end 0 0\n", b"m 00010000 -\n", b"\xff\n", b"m 00010000 -\r\n", b"m 00010000 - 00000010\n",
                b"m 00000000 z 00000010\n", b"c 00010000 - 00000001 00000001\n", b"c 00000000 z 00000001 00000001\n",
                b"c 00000000 - 00000001 00000001\n", b"c 00010000 z 00000001 00000001\n", b"r 00000000 - 00010000 00000001\n",
-               b"r 00010000 - 00000001\n", b"m 00010000 - 00000001 00000001\n", b"c 00010000 z\n", b"r 00000001 - 00000000 00000000 \n"]
+               b"r 00010000 - 00000001\n", b"m 00010000 - 00000001 00000001\n", b"c 00010000 z\n", b"r 00000001 - 00000000 00000000 \n",
+               b"r 00020000 - 00010000 00000001 00000001\n", b"r 00020000 - 00010000 00000001 00000000\n", b"r 00020000 - 00000000 00000001 00000001\n",
+               b"r 00000000 - 00010000 00000001 00000001\n", b"c 00010000 z 00000001 00000001 00000001\n"]
 
 
 def spoil_a_byte(rng, text):

@@ -183,14 +183,54 @@ def _():
 
 @row("the plan that episodes tell")
 def _():
-    def environments(last, *adoptions):
-        plan = plan_of([Episode(point, "Hang", 0, [Try(checkpoint, environment, SURVIVED)]) for checkpoint, environment, point in adoptions])
+    def environments(last, *adoptions, keep=4):
+        plan = plan_of([Episode(point, "Hang", 0, [Try(checkpoint, environment, SURVIVED)]) for checkpoint, environment, point in adoptions], keep)
         return [plan.at(count) for count in range(last + 1)]
 
     say(environments(10, (1, "pad", 2), (3, "delay", 5)), ["plain"] * 2 + ["pad"] * 2 + ["delay"] * 5 + ["plain"] * 2)
     say(environments(9, (1, "pad", 2), (0, "all", 4)), ["all"] * 8 + ["plain"] * 2)
     say(environments(11, (3, "pad", 5), (1, "delay", 7)), ["plain"] * 2 + ["delay"] * 9 + ["plain"])
     say(environments(5, (0, "zero", 0)), ["zero"] * 4 + ["plain"] * 2)
+    say(environments(6, (1, "pad", 2), (2, "delay", 3), keep=1), ["plain"] * 2 + ["pad", "delay"] + ["plain"] * 3)
+    say(environments(9, (1, "pad", 2), (3, "delay", 5), keep=2), ["plain"] * 2 + ["pad"] * 2 + ["delay"] * 3 + ["plain"] * 3)
+    say(environments(14, (1, "pad", 2), (3, "delay", 5), keep=8), ["plain"] * 2 + ["pad"] * 2 + ["delay"] * 9 + ["plain"] * 2)
+
+
+PADDED = b"m 00012100 - 00000010\nm 00012310 - 00000010\n"
+UNPADDED = b"m 00012000 - 00000010\nm 00012010 - 00000010\n"
+
+
+def part_where(lines, keep):
+    """A host of which the second line's blocks part from those of the host before, which kept its environment for another number of items."""
+    taken = Taken("overflow", lines_in(OVERRUN, b"hi\n"), HEAD + lines, NOTED, b"0 10\n", keep=keep)
+    taken.says(("Mismatch", 313), 3, b"")
+    taken.reports(NOTED)
+
+
+@row("an environment is kept for as many items as by the host before")
+def _():
+    for lines, keeps, others in ((PADDED * 2, (2, 4, 100), (1,)), (PADDED + UNPADDED, (1,), (2, 4, 100))):
+        for keep in keeps:
+            taken = Taken("overflow", lines_in(OVERRUN, b"hi\n"), HEAD + lines, NOTED, b"0 10\n", keep=keep)
+            taken.says(("Finished",), 0, out((0, OVERRUN[10:]), (0, b"hi\n")), 368, 3)
+            say(taken.files.files["r"], HEAD + lines + b"end 368 3\n", "record")
+        for keep in others:
+            part_where(lines, keep)
+
+
+def overran(number, point):
+    return b"failure %d point %d cause AssertFailed 1 at 000100ac\ntry 0 checkpoint %d env pad result survived\n" % (number, point, point - 1)
+
+
+@row("an environment is kept for one item")
+def _():
+    told = REPORT + overran(0, 2) + overran(1, 3)
+    taken = Taken("overflow", lines_in(*[OVERRUN] * 3), HEAD, told, b"0 80\n", keep=1)
+    taken.says(("Finished",), 0, out((0, OVERRUN)), 877, 4)
+    taken.reports(told + overran(2, 4) + b"end 0 taken 4 steps 877\n")
+    taken = Taken("overflow", lines_in(*[OVERRUN] * 3), HEAD, told, b"0 80\n", keep=2)
+    taken.says(("Finished",), 0, out((0, OVERRUN)), 877, 4)
+    taken.reports(told + b"end 0 taken 4 steps 877\n")
 
 
 # ---- standby

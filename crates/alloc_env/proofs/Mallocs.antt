@@ -1,6 +1,7 @@
 -- The answers of the allocator.
 use Rattle.block_book.proofs.Asks.{same-self, size-live, size-inserted}
-use Rattle.alloc_env.proofs.Terms.{Bool, List, None, Option, Some, ap, arith, eqb, false, if◌then◌else◌, nat_lt, not, refl, subst, sym, true, ℕ, ◌%◌, ◌&&◌, ◌<◌, ◌^◌, ◌||◌, ◌∙◌, ◌≡◌, ◌≤◌, and_from, eq-eqb, lt-ltb, ne_eqb, or_right, same_Some, option_map_or, option_or, is_some, Ask, Realloc, Choice, live-insert_block, live-recycled, placement-clear, placement-positive, placement-sound, sound-filter, bytes_asked, insert_live, is_allowed, is_block, is_calloc, is_clear, live_blocks, live_with, replaced, same_ask, size_at, without_live, without_replaced, live_block, Heap, IsHeap, is_live_at, recycled, with_block, placement, Env, All, Delay, Isolate, Pad, Plain, Zero, treatment_of, Served, freed, in_place_of, middle, served_ask, served_at, served_block, served_in, served_null, served_over, spot, Follows, Serves}
+use Rattle.block_book.proofs.Sizes.{reserved-touched}
+use Rattle.alloc_env.proofs.Terms.{Bool, List, None, Option, Some, ap, arith, eqb, false, if◌then◌else◌, inl, inr, min, nat_le, nat_lt, not, refl, subst, sym, true, ℕ, ◌%◌, ◌&&◌, ◌+◌, ◌-◌, ◌<◌, ◌^◌, ◌||◌, ◌∙◌, ◌≡◌, ◌≤◌, and_from, and_parts, cases_Bool, eq-eqb, eqb-true, le-leb, lt-ltb, ne_eqb, or_left, or_right, same_Some, unwrap_or, option_map_or, option_or, is_some, Ask, Realloc, Choice, has_live, live-insert_block, live-recycled, placement-apart, placement-clear, placement-positive, placement-roomy, placement-sound, reach-recycled, reach-within, sound-filter, bytes_asked, insert_live, is_allowed, is_apart, is_block, is_calloc, is_clear, kept_count, lies_in, live_blocks, live_with, may_carry, moved_count, reach, reach_at, replaced, reserved_size, same_ask, size_at, without_live, without_replaced, live_block, Heap, IsHeap, is_live_at, recycled, with_block, placement, Env, All, Delay, Isolate, Pad, Plain, Zero, treatment_of, Served, carried_over, freed, in_place_of, middle, served_ask, served_at, served_block, served_in, served_null, served_over, spot, Follows, Serves}
 use Rattle.alloc_env.proofs.Frees.{freed-follows}
 
 side-multiple : (env : Env) → (treatment_of env).side % 16 ≡ 0
@@ -52,9 +53,18 @@ spot-placed env heap size at = by-isolates (treatment_of env).isolates
 abbrev placed_live : Choice → List (ℕ × ℕ) → List (ℕ × ℕ)
 placed_live choice live = if eqb choice.at 0 then live else insert_live (choice.at, bytes_asked choice.ask) live
 
+-- Bytes from a live block's address on, as many as its extent and that of a new one of a size have there: where they go they meet no live block, and
+-- none of those that they come from.
+abbrev pub Carries : ℕ → Heap → ℕ → ℕ → Type 0
+Carries side heap size at =
+    (old reaches count : ℕ) → reach_at heap old ≡ Some reaches → count ≤ reaches → count ≤ reserved_size size + side →
+    (is_clear heap.start heap.end (live_blocks heap.blocks) at count ≡ true) × (is_apart old count at (at + count) ≡ true)
+
 -- what is so of a new block, whatever it is to replace
 pub record Places (env : Env) (heap : Heap) (ask : Ask) (served : Served) : Type 0 where
   pub asked : served.choice.ask ≡ ask
+  pub nothing : served.choice.carried ≡ 0
+  pub carries : (served.choice.at ≡ 0 → ⊥) → Carries (treatment_of env).side heap (bytes_asked served.choice.ask) served.choice.at
   pub allowed : is_allowed heap.start heap.end (live_blocks heap.blocks) ask served.choice ≡ true
   pub zeroed : served.choice.zeroed ≡ (((treatment_of env).zeroes || is_calloc ask) && not (eqb served.choice.at 0))
   pub sound : IsHeap served.heap
@@ -78,9 +88,14 @@ places-at env heap ask at few sound is =
     and_from inside (zeroed || not (is_calloc ask)) (and_from (nat_lt size (2 ^ 32)) (is_clear heap.start heap.end (live_blocks heap.blocks) at size) few clear) (zeroes-calloc (treatment_of env).zeroes (is_calloc ask)) in
     record {
       asked = refl;
+      nothing = refl;
+      carries = λ some old reaches count there few small. (
+        placement-roomy heap size side placed.0 at count (side-multiple env) placed.1 small,
+        placement-apart heap size side placed.0 at old reaches count placed.1 there few small,
+      );
       allowed =
-          and_from (same_ask ask ask) ((eqb at 0 && not zeroed) || (inside && (zeroed || not (is_calloc ask)))) (same-self ask)
-          (or_right (eqb at 0 && not zeroed) (inside && (zeroed || not (is_calloc ask))) block);
+          and_from (same_ask ask ask) (((eqb at 0 && not zeroed) && true) || ((inside && (zeroed || not (is_calloc ask))) && true)) (same-self ask)
+          (or_right ((eqb at 0 && not zeroed) && true) ((inside && (zeroed || not (is_calloc ask))) && true) (and_from (inside && (zeroed || not (is_calloc ask))) true block refl));
       zeroed = sym (ap (λ b. zeroed && not b) named ∙ and-true zeroed);
       sound = placement-sound heap size side placed.0 at sound (side-multiple env) (side-small env) placed.1;
       start = refl;
@@ -104,6 +119,8 @@ places-null : (env : Env) (heap : Heap) (ask : Ask) → IsHeap heap → Places e
 unfolding is_allowed
 places-null env heap ask sound = record {
   asked = refl;
+  nothing = refl;
+  carries = λ some. absurd (some refl);
   allowed = and_from (same_ask ask ask) true (same-self ask) refl;
   zeroed = sym (and-false ((treatment_of env).zeroes || is_calloc ask));
   sound = sound;
@@ -120,6 +137,10 @@ places-null env heap ask sound = record {
 places-recycled : (env : Env) (heap : Heap) (ask : Ask) (served : Served) → Places env (recycled heap) ask served → Places env heap ask served
 places-recycled env heap ask served s = record {
   asked = s.asked;
+  nothing = s.nothing;
+  carries = λ some old reaches count there few small.
+      let p = s.carries some old reaches count (reach-recycled heap old ∙ there) few small in
+      (subst (λ live. is_clear heap.start heap.end live served.choice.at count ≡ true) (live-recycled heap.blocks) p.0, p.1);
   allowed = subst (λ live. is_allowed heap.start heap.end live ask served.choice ≡ true) (live-recycled heap.blocks) s.allowed;
   zeroed = s.zeroed;
   sound = s.sound;
@@ -157,12 +178,98 @@ block-keeps env heap ask served old sound is lives =
     of_null true h = h
     of_null false h = size-inserted old served.choice.at (bytes_asked served.choice.ask) (live_blocks heap.blocks) h
 
+-- how many bytes an answer carries
+pub carried-none : (env : Env) (heap : Heap) (old size : ℕ) → (treatment_of env).side ≡ 0 → carried_over env heap old size ≡ 0
+unfolding carried_over
+carried-none env heap old size flat =
+    ap (λ b. if b then 0 else min (unwrap_or (reach_at heap old) 0) (reserved_size size + (treatment_of env).side) - kept_count (live_blocks heap.blocks) size (Some old))
+    (eq-eqb (treatment_of env).side 0 flat)
+
+pub carried-some : (env : Env) (heap : Heap) (old size : ℕ) → ((treatment_of env).side ≡ 0 → ⊥)
+    → carried_over env heap old size ≡ min (unwrap_or (reach_at heap old) 0) (reserved_size size + (treatment_of env).side) - kept_count (live_blocks heap.blocks) size (Some old)
+unfolding carried_over
+carried-some env heap old size pads =
+    ap (λ b. if b then 0 else min (unwrap_or (reach_at heap old) 0) (reserved_size size + (treatment_of env).side) - kept_count (live_blocks heap.blocks) size (Some old))
+    (ne_eqb (treatment_of env).side 0 pads)
+
+pub reach-small : (heap : Heap) (old : ℕ) → IsHeap heap → heap.end < 2 ^ 32 → unwrap_or (reach_at heap old) 0 < 2 ^ 32
+reach-small heap old sound near = of_reach (reach_at heap old) refl
+  where
+    of_reach : (o : Option ℕ) → reach_at heap old ≡ o → unwrap_or o 0 < 2 ^ 32
+    of_reach None e = omega arith
+    of_reach (Some reaches) e = let within = reach-within heap old reaches sound e in omega (arith, within.1, near)
+
+-- with those that are kept they are no more than both extents have
+counts : (old_size reaches size reserved side kept carried : ℕ) → kept ≡ min old_size size → carried ≡ min reaches (reserved + side) - kept → old_size ≤ reaches → size ≤ reserved
+    → (kept + carried ≤ reaches) × (kept + carried ≤ reserved + side)
+counts old_size reaches size reserved side kept carried kept_is carried_is low high = (omega arith, omega arith)
+
+-- what is carried may be
+carried-fine : (env : Env) (heap : Heap) (old : ℕ) (choice : Choice) → IsHeap heap → is_live_at heap old ≡ true → replaced choice.ask ≡ Some old
+    → Carries (treatment_of env).side heap (bytes_asked choice.ask) choice.at
+    → ((eqb (carried_over env heap old (bytes_asked choice.ask)) 0)
+    || may_carry heap.start heap.end (live_blocks heap.blocks) (record choice { carried = carried_over env heap old (bytes_asked choice.ask) }) (replaced choice.ask)) ≡ true
+unfolding may_carry
+carried-fine env heap old choice sound lives over carries =
+    elim (cases_Bool (eqb side 0)) [
+      | inl flat ↦ or_left (eqb carried 0) (may_carry heap.start heap.end live (record choice { carried = carried }) (replaced choice.ask)) (eq-eqb carried 0 (carried-none env heap old size (eqb-true side 0 flat)))
+      | inr pads ↦
+          or_right (eqb carried 0) (may_carry heap.start heap.end live (record choice { carried = carried }) (replaced choice.ask))
+          (subst (λ (o : Option ℕ). may_carry heap.start heap.end live (record choice { carried = carried }) o ≡ true) (sym over) (fine (λ none. absurd (let yes : eqb side 0 ≡ true = eq-eqb side 0 none in cc))))
+    ]
+  where
+    side : ℕ
+    side = (treatment_of env).side
+
+    size : ℕ
+    size = bytes_asked choice.ask
+
+    live : List (ℕ × ℕ)
+    live = live_blocks heap.blocks
+
+    carried : ℕ
+    carried = carried_over env heap old size
+
+    kept : ℕ
+    kept = kept_count live size (Some old)
+
+    fine : (side ≡ 0 → ⊥) → (lies_in old (kept + carried) heap.start heap.end && is_clear heap.start heap.end live choice.at (kept + carried) && is_apart old (kept + carried) choice.at (choice.at + (kept + carried))) ≡ true
+    fine pads =
+        let has = has_live heap old lives in
+        let reaches = reach has.block in
+        let holds = reserved-touched has.block.size in
+        let room = reserved-touched size in
+        let kept_is : kept ≡ min has.block.size size = ap (λ o. min (unwrap_or o 0) size) has.size in
+        let carried_is : carried ≡ min reaches (reserved_size size + side) - kept = carried-some env heap old size pads ∙ ap (λ o. min (unwrap_or o 0) (reserved_size size + side) - kept) has.reaches in
+        let few = counts has.block.size reaches size (reserved_size size) side kept carried kept_is carried_is (omega (arith, holds)) (omega (arith, room)) in
+        let within = reach-within heap old reaches sound has.reaches in
+        let p = carries old reaches (kept + carried) has.reaches few.0 few.1 in
+        and_from (lies_in old (kept + carried) heap.start heap.end && is_clear heap.start heap.end live choice.at (kept + carried)) (is_apart old (kept + carried) choice.at (choice.at + (kept + carried)))
+        (and_from (lies_in old (kept + carried) heap.start heap.end) (is_clear heap.start heap.end live choice.at (kept + carried))
+        (and_from (nat_le heap.start old) (nat_le (old + (kept + carried)) heap.end) (le-leb heap.start old within.0) (le-leb (old + (kept + carried)) heap.end (omega (arith, within.1, few.0))))
+        p.0)
+        p.1
+
+-- an answer that C allows is one too with bytes that may be carried
+allowed-carrying : (start end : ℕ) (live : List (ℕ × ℕ)) (ask : Ask) (choice : Choice) (carried : ℕ) → is_allowed start end live ask choice ≡ true → (choice.at ≡ 0 → ⊥)
+    → ((eqb carried 0) || may_carry start end live (record choice { carried = carried }) (replaced choice.ask)) ≡ true → is_allowed start end live ask (record choice { carried = carried }) ≡ true
+unfolding is_allowed is_block
+allowed-carrying start end live ask choice carried may named fine =
+    let inside : Bool = nat_lt (bytes_asked choice.ask) (2 ^ 32) && is_clear start end live choice.at (bytes_asked choice.ask) && (choice.zeroed || not (is_calloc choice.ask)) in
+    let before : Bool = (eqb choice.carried 0) || may_carry start end live choice (replaced choice.ask) in
+    let behind : Bool = (eqb carried 0) || may_carry start end live (record choice { carried = carried }) (replaced choice.ask) in
+    let null : eqb choice.at 0 ≡ false = ne_eqb choice.at 0 named in
+    let parts = and_parts (same_ask choice.ask ask) (inside && before) (rw null at may) in
+    let block = and_parts inside before parts.1 in
+    rw null (and_from (same_ask choice.ask ask) (inside && behind) parts.0 (and_from inside behind block.0 fine))
+
 -- a new block that stands in place of none
 serves-new : (env : Env) (heap : Heap) (ask : Ask) (served : Served) → replaced ask ≡ None → Places env heap ask served → Serves env heap ask served
 serves-new env heap ask served none s = record {
   asked = s.asked;
   allowed = s.allowed;
   zeroed = s.zeroed;
+  carried = λ flat. s.nothing;
   sound = s.sound;
   start = s.start;
   end = s.end;
@@ -170,20 +277,30 @@ serves-new env heap ask served none s = record {
 }
 
 -- a new block in place of an old one
-serves-over : (env : Env) (heap : Heap) (ask : Ask) (old : ℕ) (served : Served) → replaced ask ≡ Some old → Places env heap ask served → Serves env heap ask (in_place_of env old served)
-serves-over env heap ask old served is s = of_null (eqb served.choice.at 0) refl
+serves-over : (env : Env) (heap : Heap) (ask : Ask) (old : ℕ) (served : Served) → IsHeap heap → is_live_at heap old ≡ true → replaced ask ≡ Some old → Places env heap ask served
+    → Serves env heap ask (in_place_of env heap old (bytes_asked ask) served)
+serves-over env heap ask old served sound lives is s = of_null (eqb served.choice.at 0) refl
   where
+    carrying : eqb served.choice.at 0 ≡ false → is_allowed heap.start heap.end (live_blocks heap.blocks) ask (record served.choice { carried = carried_over env heap old (bytes_asked ask) }) ≡ true
+    carrying named =
+        let some : served.choice.at ≡ 0 → ⊥ = λ null. absurd (let yes : eqb served.choice.at 0 ≡ true = eq-eqb served.choice.at 0 null in cc) in
+        subst (λ n. is_allowed heap.start heap.end (live_blocks heap.blocks) ask (record served.choice { carried = n }) ≡ true) (ap (λ (a : Ask). carried_over env heap old (bytes_asked a)) s.asked)
+        (allowed-carrying heap.start heap.end (live_blocks heap.blocks) ask served.choice (carried_over env heap old (bytes_asked served.choice.ask)) s.allowed some
+        (carried-fine env heap old served.choice sound lives (ap replaced s.asked ∙ is) (s.carries some)))
+
     behind : Follows served.heap old (freed env served.heap old)
     behind = freed-follows env served.heap old s.sound
 
     with_replaced : (b : Bool) → Option ℕ → List (ℕ × ℕ)
     with_replaced b replaced = if b then live_blocks heap.blocks else without_replaced replaced (insert_live (served.choice.at, bytes_asked served.choice.ask) (live_blocks heap.blocks))
 
-    of_null : (b : Bool) → eqb served.choice.at 0 ≡ b → Serves env heap ask (if b then served else record served { heap = freed env served.heap old })
+    of_null : (b : Bool) → eqb served.choice.at 0 ≡ b → Serves env heap ask
+        (if b then served else record { choice = record served.choice { carried = carried_over env heap old (bytes_asked ask) }; heap = freed env served.heap old })
     of_null true null = record {
       asked = s.asked;
       allowed = s.allowed;
       zeroed = s.zeroed;
+      carried = λ flat. s.nothing;
       sound = s.sound;
       start = s.start;
       end = s.end;
@@ -194,8 +311,9 @@ serves-over env heap ask old served is s = of_null (eqb served.choice.at 0) refl
     }
     of_null false named = record {
       asked = s.asked;
-      allowed = s.allowed;
+      allowed = carrying named;
       zeroed = s.zeroed;
+      carried = λ flat. carried-none env heap old (bytes_asked ask) flat;
       sound = behind.sound;
       start = behind.start ∙ s.start;
       end = behind.end ∙ s.end;
@@ -213,13 +331,14 @@ ask-serves env heap ask served sound is = of_replaced (replaced ask) refl is
     block : Served
     block = served_block env heap ask
 
-    over : (old : ℕ) → replaced ask ≡ Some old → (b : Bool) → (if b then Some (in_place_of env old block) else None) ≡ Some served → Serves env heap ask served
-    over old e true h = subst (Serves env heap ask) (same_Some (in_place_of env old block) served h) (serves-over env heap ask old block e (block-places env heap ask sound))
-    over old e false h = absurd (cc h)
+    over : (old : ℕ) → replaced ask ≡ Some old → (b : Bool) → is_live_at heap old ≡ b → (if b then Some (in_place_of env heap old (bytes_asked ask) block) else None) ≡ Some served → Serves env heap ask served
+    over old e true lives h =
+        subst (Serves env heap ask) (same_Some (in_place_of env heap old (bytes_asked ask) block) served h) (serves-over env heap ask old block sound lives e (block-places env heap ask sound))
+    over old e false lives h = absurd (cc h)
 
     of_replaced : (o : Option ℕ) → replaced ask ≡ o → served_over env heap ask o ≡ Some served → Serves env heap ask served
     of_replaced None e h = subst (Serves env heap ask) (same_Some block served h) (serves-new env heap ask block e (block-places env heap ask sound))
-    of_replaced (Some old) e h = over old e (is_live_at heap old) h
+    of_replaced (Some old) e h = over old e (is_live_at heap old) refl h
 
 -- a realloc of what isn't null replaces that
 pub replaces : (old size : ℕ) → (old ≡ 0 → ⊥) → replaced (Realloc old size) ≡ Some old
@@ -233,15 +352,15 @@ pub served-new : (env : Env) (heap : Heap) (ask : Ask) (served : Served) → rep
 unfolding served_ask
 served-new env heap ask served none is = ap (served_over env heap ask) none ∙ ap Some is
 
-pub served-in_place : (env : Env) (heap : Heap) (ask : Ask) (old : ℕ) (served : Served) → replaced ask ≡ Some old → is_live_at heap old ≡ true → in_place_of env old (served_block env heap ask) ≡ served → served_ask env heap ask ≡ Some served
+pub served-in_place : (env : Env) (heap : Heap) (ask : Ask) (old : ℕ) (served : Served) → replaced ask ≡ Some old → is_live_at heap old ≡ true → in_place_of env heap old (bytes_asked ask) (served_block env heap ask) ≡ served → served_ask env heap ask ≡ Some served
 unfolding served_ask
 served-in_place env heap ask old served over lives is =
-    ap (served_over env heap ask) over ∙ ap (λ b. if b then Some (in_place_of env old (served_block env heap ask)) else None) lives ∙ ap Some is
+    ap (served_over env heap ask) over ∙ ap (λ b. if b then Some (in_place_of env heap old (bytes_asked ask) (served_block env heap ask)) else None) lives ∙ ap Some is
 
 pub served-bad : (env : Env) (heap : Heap) (ask : Ask) (old : ℕ) → replaced ask ≡ Some old → is_live_at heap old ≡ false → served_ask env heap ask ≡ None
 unfolding served_ask
 served-bad env heap ask old over none =
-    ap (served_over env heap ask) over ∙ ap (λ b. if b then Some (in_place_of env old (served_block env heap ask)) else None) none
+    ap (served_over env heap ask) over ∙ ap (λ b. if b then Some (in_place_of env heap old (bytes_asked ask) (served_block env heap ask)) else None) none
 
 -- what a new block is, by its two tries
 pub block-many : (env : Env) (heap : Heap) (ask : Ask) → nat_lt (bytes_asked ask) (2 ^ 32) ≡ false → served_block env heap ask ≡ served_null heap ask
@@ -262,7 +381,7 @@ few-bytes ask size sized = let is = sized.is in let few = sized.few in lt-ltb (b
 
 -- what the code makes of its two tries
 abbrev with_marks : Ask → ℕ → Bool → Heap → Served
-with_marks ask at zeroed heap = record { choice = record { ask = ask; at = at; zeroed = zeroed }; heap = heap }
+with_marks ask at zeroed heap = record { choice = record { ask = ask; at = at; zeroed = zeroed; carried = 0 }; heap = heap }
 
 pub block-first : (env : Env) (heap after : Heap) (ask : Ask) (size at : ℕ) (zeroed : Bool) → IsSized ask size → zeroed ≡ ((treatment_of env).zeroes || is_calloc ask) → Some at ≡ spot env heap size → after ≡ with_block heap (live_block at size (treatment_of env).side) → served_block env heap ask ≡ with_marks ask at zeroed after
 block-first env heap after ask size at zeroed sized zeroes is new =
@@ -288,3 +407,22 @@ block-null env heap left after ask size sized none emptied again new =
     ∙ ap (λ o. option_map_or (served_at env heap ask) o (served_in env (recycled heap) ask (served_null (recycled heap) ask))) (ap (spot env heap) (sym sized.is) ∙ sym none)
     ∙ ap (λ o. option_map_or (served_at env (recycled heap) ask) o (served_null (recycled heap) ask)) (ap (spot env (recycled heap)) (sym sized.is) ∙ ap (λ h. spot env h size) (sym emptied) ∙ sym again)
     ∙ ap (with_marks ask 0 false) (sym emptied ∙ sym new)
+
+-- what the code makes of a new block in place of an old one
+abbrev with_carried : Choice → ℕ → Heap → Served
+with_carried choice carried heap = record { choice = record choice { carried = carried }; heap = heap }
+
+pub in_place-null : (env : Env) (heap after : Heap) (ask : Ask) (old size : ℕ) (choice : Choice) → served_block env heap ask ≡ record { choice = choice; heap = after } → choice.at ≡ 0
+    → in_place_of env heap old size (served_block env heap ask) ≡ record { choice = choice; heap = after }
+in_place-null env heap after ask old size choice is null =
+    let served : Served = record { choice = choice; heap = after } in
+    ap (in_place_of env heap old size) is ∙ ap (λ b. if b then served else with_carried choice (carried_over env heap old size) (freed env after old)) (eq-eqb choice.at 0 null)
+
+pub in_place-some : (env : Env) (heap after last : Heap) (ask : Ask) (old size carried : ℕ) (choice : Choice) → served_block env heap ask ≡ record { choice = choice; heap = after } → (choice.at ≡ 0 → ⊥)
+    → carried ≡ carried_over env heap old size → last ≡ freed env after old → in_place_of env heap old size (served_block env heap ask) ≡ record { choice = record choice { carried = carried }; heap = last }
+in_place-some env heap after last ask old size carried choice is some carried_is last_is =
+    let served : Served = record { choice = choice; heap = after } in
+    ap (in_place_of env heap old size) is
+    ∙ ap (λ b. if b then served else with_carried choice (carried_over env heap old size) (freed env after old)) (ne_eqb choice.at 0 some)
+    ∙ ap (λ n. with_carried choice n (freed env after old)) (sym carried_is)
+    ∙ ap (with_carried choice carried) (sym last_is)

@@ -13,6 +13,8 @@ pub record Serves (env : Env) (heap : Heap) (ask : Ask) (served : Served) : Type
   pub allowed : is_allowed heap.start heap.end (live_blocks heap.blocks) ask served.choice ≡ true
   -- it is zeroed exactly where the environment zeroes or calloc asked, and it isn't null
   pub zeroed : served.choice.zeroed ≡ (((treatment_of env).zeroes || is_calloc ask) && not (served.choice.at == 0))
+  -- it carries nothing where the environment doesn't pad
+  pub carried : (treatment_of env).side ≡ 0 → served.choice.carried ≡ 0
   -- the heap is one, and has its ends
   pub sound : IsHeap served.heap
   pub start : served.heap.start ≡ heap.start

@@ -1,6 +1,6 @@
 -- The answers of the allocator in an environment, as functions.
-use Rattle.std.specs.Prelude.{◌≡◌, ℕ, ◌+◌, ◌-◌, ◌/◌, ◌^◌, false, ◌||◌, Option, Some, None, Result, Ok, Err, nat_lt, ◌==◌, if◌then◌else◌}
-use Rattle.alloc_env.specs.Terms.{option_map_or, option_or, Ask, Choice, Standing, Delayed, Live, Nothing, bytes_asked, is_calloc, replaced, live_block, Heap, is_live_at, recycled, standing_at, with_block, with_delayed, without_block, placement}
+use Rattle.std.specs.Prelude.{◌≡◌, ℕ, ◌+◌, ◌-◌, ◌/◌, ◌^◌, false, ◌||◌, min, Option, Some, None, unwrap_or, Result, Ok, Err, nat_lt, ◌==◌, if◌then◌else◌}
+use Rattle.alloc_env.specs.Terms.{option_map_or, option_or, Ask, Choice, Standing, Delayed, Live, Nothing, bytes_asked, is_calloc, kept_count, live_blocks, replaced, live_block, reserved_size, Heap, is_live_at, reach_at, recycled, standing_at, with_block, with_delayed, without_block, placement}
 use Rattle.alloc_env.specs.declared.env.Env.{Env}
 use Rattle.alloc_env.specs.declared.bad_free.BadFree.{BadFree}
 use Rattle.alloc_env.specs.Treatment.{treatment_of}
@@ -25,13 +25,13 @@ spot env heap size =
 -- a block is placed at an address, and is to be set to 0 where the environment zeroes, or where calloc asks for it
 abbrev pub served_at : Env → Heap → Ask → ℕ → Served
 served_at env heap ask at = record {
-  choice = record { ask = ask; at = at; zeroed = (treatment_of env).zeroes || is_calloc ask };
+  choice = record { ask = ask; at = at; zeroed = (treatment_of env).zeroes || is_calloc ask; carried = 0 };
   heap = with_block heap (live_block at (bytes_asked ask) (treatment_of env).side);
 }
 
 -- the answer is null
 abbrev pub served_null : Heap → Ask → Served
-served_null heap ask = record { choice = record { ask = ask; at = 0; zeroed = false }; heap = heap }
+served_null heap ask = record { choice = record { ask = ask; at = 0; zeroed = false; carried = 0 }; heap = heap }
 
 -- a block is placed in a heap where it goes anywhere, and else the answer is another one
 abbrev pub served_in : Env → Heap → Ask → Served → Served
@@ -49,14 +49,24 @@ served_block env heap ask =
 abbrev pub freed : Env → Heap → ℕ → Heap
 freed env heap at = if (treatment_of env).delays then with_delayed heap at else without_block heap at
 
--- the block that an answer stands in place of is freed, unless the answer is null
-abbrev pub in_place_of : Env → ℕ → Served → Served
-in_place_of env old served = if served.choice.at == 0 then served else record served { heap = freed env served.heap old }
+-- In an environment that pads, a new block of a size gets all bytes of the old one's extent from its address on, as far as its own extent reaches.
+-- So many of them are behind those that both blocks have.
+unfoldable pub carried_over : Env → Heap → ℕ → ℕ → ℕ
+carried_over env heap old size =
+    let side = (treatment_of env).side in
+    let brought = min (unwrap_or (reach_at heap old) 0) (reserved_size size + side) in
+    if side == 0 then 0 else brought - kept_count (live_blocks heap.blocks) size (Some old)
+
+-- an answer of a size that stands in place of a block of a heap carries what it may, and that block is freed; unless the answer is null
+abbrev pub in_place_of : Env → Heap → ℕ → ℕ → Served → Served
+in_place_of env heap old size served =
+    if served.choice.at == 0 then served else
+    record { choice = record served.choice { carried = carried_over env heap old size }; heap = freed env served.heap old }
 
 -- a new block, in place of the one at an address if there is to be one; None where no live block stands there
 abbrev pub served_over : Env → Heap → Ask → Option ℕ → Option Served
 served_over env heap ask None = Some (served_block env heap ask)
-served_over env heap ask (Some old) = if is_live_at heap old then Some (in_place_of env old (served_block env heap ask)) else None
+served_over env heap ask (Some old) = if is_live_at heap old then Some (in_place_of env heap old (bytes_asked ask) (served_block env heap ask)) else None
 
 -- the answer to an ask; None where it is to replace what is no live block. While a new block is placed the old one stands.
 unfoldable pub served_ask : Env → Heap → Ask → Option Served

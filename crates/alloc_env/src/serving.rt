@@ -5,11 +5,11 @@ ghost use Rattle.block_book.specs.Block.{live_block};
 ghost use Rattle.block_book.specs.Heap.{IsHeap, SameEnds, with_block, is_live_at};
 ghost use Rattle.block_book.specs.Answer.{live_blocks, is_allowed, is_calloc, without_live, live_with};
 ghost use Rattle.alloc_env.specs.Treatment.{treatment_of};
-ghost use Rattle.alloc_env.specs.Serving.{middle, spot, served_block, served_ask, in_place_of, freed, Answers, Frees};
+ghost use Rattle.alloc_env.specs.Serving.{middle, spot, served_block, served_ask, carried_over, in_place_of, freed, Answers, Frees};
 
 use crate::bad_free::BadFree;
 use crate::env::Env;
-use block_book::{Ask, Book, Choice, Standing};
+use block_book::{Ask, Book, Choice, Standing, reserved_size};
 
 /// The answer to an ask in an environment, by the three calls below.
 pub fn serve_ask(env: Env, book: &mut Book, ask: Ask) -> Result<Choice, BadFree>
@@ -52,8 +52,8 @@ pub fn serve_calloc(env: Env, book: &mut Book, count: u32, size: u32) -> Choice
 }
 
 /// The answer of realloc to an address and a size, in an environment. Of null it is that of malloc. Else the new block is placed as by
-/// malloc while the old one stands, which is freed then, unless the answer is null. An address at which no live block stands is bad, and
-/// nothing changed.
+/// malloc while the old one stands, which is freed then, unless the answer is null. An environment that pads brings the bytes behind the
+/// old one too, as far as both extents reach. An address at which no live block stands is bad, and nothing changed.
 pub fn serve_realloc(env: Env, book: &mut Book, old: u32, size: u32) -> Result<Choice, BadFree>
     ensures answer { Answers env (Realloc old size) book.old book.new result }
 
@@ -69,7 +69,7 @@ pub fn serve_realloc(env: Env, book: &mut Book, old: u32, size: u32) -> Result<C
     if !is_live(book, old) {
         return Err(BadFree);
     }
-    Ok(block_in_place(env, book, ask, old))
+    Ok(block_in_place(env, book, ask, old, size))
 }
 
 /// Frees the block at an address, in an environment. Free of null does nothing, and so does free of a delayed block where the
@@ -167,31 +167,48 @@ fn new_block(env: Env, book: &mut Book, ask: Ask) -> Choice
         ask,
         at: 0,
         zeroed: false,
+        carried: 0,
     };
     let Some(size) = ask.bytes() else {
         return null;
     };
     let zeroed = zeroes(env, ask);
     if let Some(at) = place_by(env, book, size) {
-        return Choice { ask, at, zeroed };
+        return Choice { at, zeroed, ..null };
     }
     book.recycle();
     match place_by(env, book, size) {
-        Some(at) => Choice { ask, at, zeroed },
+        Some(at) => Choice { at, zeroed, ..null },
         None => null,
     }
 }
 
-// The answer to an ask as a new block, in place of a live one.
-fn block_in_place(env: Env, book: &mut Book, ask: Ask, old: u32) -> Choice
+// How many bytes an answer carries behind those that a live block and a new one of a size in its place have both.
+fn carried_over(env: Env, book: &Book, old: u32, size: u32) -> u32
+    ensures { result ≡ carried_over env book.now old size }
+{
+    book.sound();
+    let side = env.treatment().side;
+    if side == 0 {
+        return 0;
+    }
+    let reach = book.live_reach(old).unwrap_or(0);
+    let brought = reach.min(reserved_size(size) + u64::from(side));
+    brought.saturating_sub(u64::from(book.kept(old, size))) as u32
+}
+
+// The answer to an ask as a new block of a size, in place of a live one.
+fn block_in_place(env: Env, book: &mut Book, ask: Ask, old: u32, size: u32) -> Choice
     requires { is_live_at book.old old ≡ true }
-    ensures answer { in_place_of env old (served_block env book.old ask) ≡ record { choice = result; heap = book.new } }
+    ensures answer { in_place_of env book.old old size (served_block env book.old ask) ≡ record { choice = result; heap = book.new } }
     ensures heap { IsHeap book.old }
     ensures ends { SameEnds book.old book.new }
 {
+    let carried = carried_over(env, book, old, size);
     let choice = new_block(env, book, ask);
-    if choice.at != 0 {
-        free_live(env, book, old);
+    if choice.at == 0 {
+        return choice;
     }
-    choice
+    free_live(env, book, old);
+    Choice { carried, ..choice }
 }

@@ -59,7 +59,7 @@ size-live at (block ∷ blocks) =
     of_front false e rest = ap is_some (size-behind at block.at block.size (live_blocks blocks) e) ∙ rest
 
 -- the size of the live block at an address, by the first of the blocks that is it
-size-found : (at : ℕ) (blocks : List Block) → size_at at (live_blocks blocks) ≡ option_map (λ block. block.size) (find (λ block. (eqb block.at at) && not block.delayed) blocks)
+pub size-found : (at : ℕ) (blocks : List Block) → size_at at (live_blocks blocks) ≡ option_map (λ block. block.size) (find (λ block. (eqb block.at at) && not block.delayed) blocks)
 size-found at [] = refl
 size-found at (block ∷ blocks) = of_block (size-found at blocks) (eqb block.at at) block.delayed refl refl
   where
@@ -81,7 +81,7 @@ size-found at (block ∷ blocks) = of_block (size-found at blocks) (eqb block.at
         ap (size_at at) (live-front block blocks d) ∙ size-behind at block.at block.size (live_blocks blocks) e ∙ rest
         ∙ sym (ap (λ b. option_map (λ (block : Block). block.size) (cond (b && not block.delayed) (Some block) behind)) e)
 
-live-is-about : (at : ℕ) → IsAbout at (λ block. (eqb block.at at) && not block.delayed)
+pub live-is-about : (at : ℕ) → IsAbout at (λ block. (eqb block.at at) && not block.delayed)
 live-is-about at block h = at-is-about at block (and_parts (eqb block.at at) (not block.delayed) h).0
 
 -- where the search for an address stops is the live block there, if there is one

@@ -9,3 +9,4 @@ pub mod Remembering
 pub mod Rooms
 pub mod Live
 pub mod Asks
+pub mod Reaching

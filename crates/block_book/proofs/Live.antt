@@ -50,20 +50,24 @@ fitting-clear_of extent count at size (block ∷ blocks) starts ends h =
     ]))
     (fitting-clear_of extent count at size blocks starts ends p.1)
 
-pub placement-clear : (heap : Heap) (size side from at : ℕ) → side % 16 ≡ 0 → placement heap size side from ≡ Some at → is_clear heap.start heap.end (live_blocks heap.blocks) at size ≡ true
-placement-clear heap size side from at even is =
+-- so many bytes from a placed block's address on as its extent has there are clear of all live blocks
+pub placement-roomy : (heap : Heap) (size side from at count : ℕ) → side % 16 ≡ 0 → placement heap size side from ≡ Some at → count ≤ reserved_size size + side → is_clear heap.start heap.end (live_blocks heap.blocks) at count ≡ true
+placement-roomy heap size side from at count even is few =
     let p = placed-at heap size side from at is in
     let f = p.fitting in
     let multiple = f.multiple in
     let starts = f.starts in
     let ends = f.ends in
     let begins = p.begins in
-    let holds = reserved-touched size in
-    clear-is heap.start heap.end heap.blocks at size
-    ∙ and_from ((eqb (at % 16) 0) && lies_in at (touched size) heap.start heap.end) (list_all (clear_of at size) heap.blocks)
-    (and_from (eqb (at % 16) 0) (lies_in at (touched size) heap.start heap.end) (eq-eqb (at % 16) 0 (omega arith))
-    (and_from (nat_le heap.start at) (nat_le (at + touched size) heap.end) (le-leb heap.start at (omega arith)) (le-leb (at + touched size) heap.end (omega arith))))
-    (fitting-clear_of p.extent (reserved_size size + 2 * side) at size heap.blocks (omega arith) (omega arith) f.apart)
+    let least = reserved-least size in
+    clear-is heap.start heap.end heap.blocks at count
+    ∙ and_from ((eqb (at % 16) 0) && lies_in at (touched count) heap.start heap.end) (list_all (clear_of at count) heap.blocks)
+    (and_from (eqb (at % 16) 0) (lies_in at (touched count) heap.start heap.end) (eq-eqb (at % 16) 0 (omega arith))
+    (and_from (nat_le heap.start at) (nat_le (at + touched count) heap.end) (le-leb heap.start at (omega arith)) (le-leb (at + touched count) heap.end (omega arith))))
+    (fitting-clear_of p.extent (reserved_size size + 2 * side) at count heap.blocks (omega arith) (omega arith) f.apart)
+
+pub placement-clear : (heap : Heap) (size side from at : ℕ) → side % 16 ≡ 0 → placement heap size side from ≡ Some at → is_clear heap.start heap.end (live_blocks heap.blocks) at size ≡ true
+placement-clear heap size side from at even is = let holds = reserved-touched size in placement-roomy heap size side from at size even is (omega arith)
 
 pub placement-sound : (heap : Heap) (size side from at : ℕ) → IsHeap heap → side % 16 ≡ 0 → side ≤ 256 → placement heap size side from ≡ Some at → IsHeap (with_block heap (live_block at size side))
 placement-sound heap size side from at sound even small is =

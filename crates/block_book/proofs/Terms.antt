@@ -12,9 +12,9 @@ pub use Rattle.block_book.specs.declared.block.Block.{Block}
 pub use Rattle.block_book.specs.declared.choice.Ask.{Ask}
 pub use Rattle.block_book.specs.declared.choice.Ask.TheVariants.{Calloc, Malloc, Realloc}
 pub use Rattle.block_book.specs.declared.standing.Standing.TheVariants.{Delayed, Live, Nothing}
-pub use Rattle.block_book.specs.Block.{IsAligned, extent_end, extent_start, is_apart, lies_in, live_block, touched}
+pub use Rattle.block_book.specs.Block.{IsAligned, extent_end, extent_start, is_apart, lies_in, live_block, reach, touched}
 unfoldable pub use Rattle.block_book.specs.Block.{reserved_size}
-pub use Rattle.block_book.specs.Heap.{Heap, IsHeap, StandWithin, delayed_at, heap_of, insert_block, is_bare, is_held, is_live_at, is_reserved, most_blocks, recycled, standing_at, standing_of, with_block, with_delayed, without_block}
+pub use Rattle.block_book.specs.Heap.{Heap, IsHeap, StandWithin, delayed_at, heap_of, insert_block, is_bare, is_held, is_live_at, is_reserved, most_blocks, reach_at, recycled, standing_at, standing_of, with_block, with_delayed, without_block}
 unfoldable pub use Rattle.block_book.specs.Placement.{fit, fits, placement}
 pub use Rattle.block_book.specs.Answer.{insert_live, live_blocks, same_ask, size_at, without_live}
 unfoldable pub use Rattle.block_book.specs.Answer.{is_clear}

@@ -18,6 +18,10 @@ extent_start block = block.at - block.side
 abbrev pub extent_end : Block → ℕ
 extent_end block = block.at + reserved_size block.size + block.side
 
+-- how many bytes a block's extent has from the block's address on
+abbrev pub reach : Block → ℕ
+reach block = reserved_size block.size + block.side
+
 -- so many bytes from an address on share none with those from one address up to another
 abbrev pub is_apart : ℕ → ℕ → ℕ → ℕ → Bool
 is_apart at count from to = nat_le (at + count) from || nat_le to at

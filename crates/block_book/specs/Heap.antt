@@ -1,10 +1,10 @@
 -- A heap: the addresses of its ends, and the blocks that stand in it.
-use Rattle.std.specs.Prelude.{◌≡◌, ℕ, ◌+◌, ◌%◌, ◌<◌, ◌≤◌, Bool, true, not, ◌&&◌, List, [], ◌∷◌, length, map, filter, Option, None, Some, find, nat_lt, ◌==◌, if◌then◌else◌}
+use Rattle.std.specs.Prelude.{◌≡◌, ℕ, ◌+◌, ◌%◌, ◌<◌, ◌≤◌, Bool, true, not, ◌&&◌, List, [], ◌∷◌, length, map, filter, Option, None, Some, option_map, find, nat_lt, ◌==◌, if◌then◌else◌}
 use Rattle.std.specs.List.{list_any, list_all}
 use Rattle.block_book.specs.declared.block.Block.{Block}
 use Rattle.block_book.specs.declared.standing.Standing.{Standing}
 use Rattle.block_book.specs.declared.standing.Standing.TheVariants.{Nothing, Live, Delayed}
-use Rattle.block_book.specs.Block.{extent_start, extent_end, reserved_size, lies_in, IsAligned}
+use Rattle.block_book.specs.Block.{extent_start, extent_end, reach, reserved_size, lies_in, IsAligned}
 
 -- the heap's bytes are from `start` up to `end`, which isn't one of them; the blocks are in order of address
 pub record Heap : Type 0 where
@@ -79,6 +79,10 @@ standing_at heap at = standing_of (find (λ block. block.at == at) heap.blocks)
 -- a live block stands at an address
 abbrev pub is_live_at : Heap → ℕ → Bool
 is_live_at heap at = list_any (λ block. (block.at == at) && not block.delayed) heap.blocks
+
+-- how many bytes the extent of the live block at an address has from there on, if one stands there
+abbrev pub reach_at : Heap → ℕ → Option ℕ
+reach_at heap at = option_map reach (find (λ block. (block.at == at) && not block.delayed) heap.blocks)
 
 -- so many bytes from an address on lie in the extent of one block
 abbrev pub is_held : Heap → ℕ → ℕ → Bool

@@ -1,6 +1,6 @@
 // One block of a heap.
 ghost use Rattle.std.specs.Prelude.{◌≡◌, ◌+◌, ◌-◌, ◌^◌, ◌≤◌, ◌||◌, ◌&&◌, not, Some, ◌==◌};
-ghost use Rattle.block_book.specs.Block.{reserved_size, touched, extent_start, extent_end, is_apart, lies_in};
+ghost use Rattle.block_book.specs.Block.{reach, reserved_size, touched, extent_start, extent_end, is_apart, lies_in};
 ghost use Rattle.block_book.specs.Heap.{standing_of};
 
 use crate::standing::Standing;
@@ -43,6 +43,14 @@ impl Block {
         ensures { result ≡ extent_end self.now }
     {
         u64::from(self.at) + reserved_size(self.size) + u64::from(self.side)
+    }
+
+    /// How many bytes the block's extent has from the block's address on.
+    #[inline]
+    pub fn reach(&self) -> u64
+        ensures { result ≡ reach self.now }
+    {
+        reserved_size(self.size) + u64::from(self.side)
     }
 
     /// What stands at the block's address.

@@ -1,10 +1,10 @@
 // The blocks that stand in one heap.
-ghost use Rattle.std.specs.Prelude.{◌≡◌, ◌+◌, ◌*◌, ◌%◌, ◌<◌, ◌≤◌, ◌^◌, ◌&&◌, ◌||◌, true, false, ◌==◌, nat_lt, length, slice_get, IfOk, IfSome, MatchBool, MatchOption};
+ghost use Rattle.std.specs.Prelude.{◌≡◌, ◌+◌, ◌*◌, ◌%◌, ◌<◌, ◌≤◌, ◌^◌, ◌&&◌, ◌||◌, true, false, ◌==◌, nat_lt, length, slice_get, Some, IfOk, IfSome, MatchBool, MatchOption};
 ghost use Rattle.std.specs.List.{list_all};
 ghost use Rattle.block_book.specs.Block.{reserved_size, touched, is_apart, lies_in, live_block};
-ghost use Rattle.block_book.specs.Heap.{IsHeap, empty_heap, most_blocks, with_block, without_block, with_delayed, recycled, standing_at, is_live_at, is_held, is_reserved, is_bare, SameEnds};
+ghost use Rattle.block_book.specs.Heap.{IsHeap, empty_heap, most_blocks, with_block, without_block, with_delayed, recycled, standing_at, is_live_at, reach_at, is_held, is_reserved, is_bare, SameEnds};
 ghost use Rattle.block_book.specs.Placement.{fit, placement};
-ghost use Rattle.block_book.specs.Answer.{live_blocks, is_clear, size_at};
+ghost use Rattle.block_book.specs.Answer.{live_blocks, is_clear, kept_count, size_at};
 ghost use Rattle.block_book.specs.Search.{passed, FindsLive, HasRoom};
 
 use crate::block::{Block, reserved_size};
@@ -187,6 +187,26 @@ impl Book {
             return None;
         }
         Some(block.size)
+    }
+
+    /// How many bytes the extent of the live block at an address has from there on, if one stands there.
+    pub fn live_reach(&self, at: u32) -> Option<u64>
+        ensures { result ≡ reach_at self.now at }
+    {
+        let Some(block) = self.reached(at) else {
+            return None;
+        };
+        if !block.is_live_at(at) {
+            return None;
+        }
+        Some(block.reach())
+    }
+
+    /// How many bytes a new block of a size gets from the live one at an address that it replaces: as many as both have.
+    pub fn kept(&self, old: u32, size: u32) -> u32
+        ensures { result ≡ kept_count (live_blocks self.now.blocks) size (Some old) }
+    {
+        self.live_size(old).unwrap_or(0).min(size)
     }
 
     /// Whether the block that was searched for last is live, and so many bytes from an address on are among those that were asked for

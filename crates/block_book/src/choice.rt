@@ -63,12 +63,14 @@ impl Ask {
     }
 }
 
-/// One answer of the allocator: what was asked, the block's address, or 0, and whether its bytes were set to 0.
+/// One answer of the allocator: what was asked, the block's address, or 0, whether its bytes were set to 0, and how many bytes are
+/// carried: of those behind what realloc keeps, so many come from the old block's place to the new one's.
 #[derive(Clone, Copy, Debug, PartialEq, Eq)]
 pub struct Choice {
     pub ask: Ask,
     pub at: u32,
     pub zeroed: bool,
+    pub carried: u32,
 }
 
 /// The answers of the allocator, in the order of the calls.

@@ -16,6 +16,7 @@ mod choice;
 pub mod laws;
 mod standing;
 
+pub use block::reserved_size;
 pub use book::Book;
 pub use choice::{Ask, Choice, Choices};
 pub use standing::Standing;

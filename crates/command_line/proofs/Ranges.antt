@@ -1,6 +1,5 @@
 -- The numbers of words that are taken are in the ranges of their rows. No row of the table is named here.
-use Rattle.command_line.proofs.Terms.{Bool, List, None, Option, Some, [], ap, arith, cond, false, leb-true, length, map, nat_le, not, refl, subst, sym, true, true≢false, unwrap_or, ℕ, ◌&&◌, ◌||◌, ◌∙◌, ◌∷◌, ◌≡◌, ◌≤◌, and_parts, not-true, filter, find, list_all, option_map, option_map_or, bytes_eq, Framing, Name, Number, OneOf, Text, is_name, number_of, Parts, are_positionals, Row, Takes, conns_row, count_row, port_row, seed_row, Options, are_options, default_of, has_option, is_between, is_for, is_taken, number_at, takes_of, value_of, CommandValue, DiagnoseValue, DrillValue, ResumeValue, ServeValue, StandbyValue, diagnose, diagnose_form, diagnose_value, drill, drill_form, drill_value, fits, is_diagnose, is_drill, is_resume, is_run, is_serve, is_standby, positional, resume, resume_form, resume_value, run, run_form, run_in, run_value, serve, serve_form, serve_value, standby, standby_form, standby_value, EachRow}
-use Rattle.command_line.specs.Ranges.{AreInRange, EachInRange, HasRanges, IsInRange, NumbersOf, RangesOf, takes_numbers}
+use Rattle.command_line.proofs.Terms.{Bool, List, None, Option, Some, [], ap, arith, cond, false, leb-true, length, map, nat_le, not, refl, subst, sym, true, true≢false, unwrap_or, ℕ, ◌&&◌, ◌||◌, ◌∙◌, ◌∷◌, ◌≡◌, ◌≤◌, and_parts, not-true, filter, find, list_all, option_map, option_map_or, bytes_eq, Framing, Name, Number, OneOf, Text, is_name, number_of, Parts, are_positionals, Row, Takes, conns_row, count_row, port_row, seed_row, Options, are_options, default_of, has_option, is_between, is_for, is_taken, number_at, takes_of, value_of, CommandValue, DiagnoseValue, DrillValue, ResumeValue, ServeValue, StandbyValue, diagnose, diagnose_form, diagnose_value, drill, drill_form, drill_value, fits, is_diagnose, is_drill, is_resume, is_run, is_serve, is_standby, positional, resume, resume_form, resume_value, run, run_form, run_in, run_value, serve, serve_form, serve_value, standby, standby_form, standby_value, EachRow, AreInRange, EachInRange, HasRanges, IsInRange, NumbersOf, RangesOf, takes_numbers}
 use Rattle.command_line.proofs.Asking.{IsAsked, asked}
 use Rattle.command_line.proofs.Pieces.{is_row}
 use Rattle.command_line.proofs.Rows.{apart, each_both}
@@ -84,7 +83,7 @@ each_in_range all os taken (row ∷ rows) alone fit =
 
 -- ---- the numbers of a command
 
-in_ranges : (p : Parts) → is_run p ≡ true → AreInRange (run_value p)
+pub in_ranges : (p : Parts) → is_run p ≡ true → AreInRange (run_value p)
 unfolding is_run run_value run_form
 in_ranges p e =
     let names = and_parts (are_positionals (length run_form.positionals) p.positionals) _ (and_parts (fits run_form p) _ e).0 in
@@ -98,14 +97,14 @@ standby_in_ranges p e =
     let taken = (and_parts (are_options standby_form.options p.options) _ names.1).0 in
     each_in_range standby_form.options p.options taken standby_form.options (each_alone standby_form.options refl) refl
 
-resume_in_ranges : (p : Parts) → is_resume p ≡ true → HasRanges (resume (resume_value p))
+pub resume_in_ranges : (p : Parts) → is_resume p ≡ true → HasRanges (resume (resume_value p))
 unfolding is_resume resume_value resume_form
 resume_in_ranges p e =
     let names = and_parts (are_positionals (length resume_form.positionals) p.positionals) _ (and_parts (fits resume_form p) _ e).0 in
     let taken = (and_parts (are_options resume_form.options p.options) _ names.1).0 in
     each_in_range resume_form.options p.options taken resume_form.options (each_alone resume_form.options refl) refl
 
-serve_in_ranges : (p : Parts) → is_serve p ≡ true → HasRanges (serve (serve_value p))
+pub serve_in_ranges : (p : Parts) → is_serve p ≡ true → HasRanges (serve (serve_value p))
 unfolding is_serve serve_value serve_form port_row conns_row
 serve_in_ranges p e =
     let parts = and_parts (fits serve_form p) _ e in
@@ -123,14 +122,14 @@ serve_in_ranges p e =
       refl,
     )
 
-diagnose_in_ranges : (p : Parts) → is_diagnose p ≡ true → HasRanges (diagnose (diagnose_value p))
+pub diagnose_in_ranges : (p : Parts) → is_diagnose p ≡ true → HasRanges (diagnose (diagnose_value p))
 unfolding is_diagnose diagnose_value diagnose_form
 diagnose_in_ranges p e =
     let names = and_parts (are_positionals (length diagnose_form.positionals) p.positionals) _ (and_parts (fits diagnose_form p) _ e).0 in
     let taken = (and_parts (are_options diagnose_form.options p.options) _ names.1).0 in
     each_in_range diagnose_form.options p.options taken diagnose_form.options (each_alone diagnose_form.options refl) refl
 
-drill_in_ranges : (p : Parts) → is_drill p ≡ true → HasRanges (drill (drill_value p))
+pub drill_in_ranges : (p : Parts) → is_drill p ≡ true → HasRanges (drill (drill_value p))
 unfolding is_drill drill_value seed_row count_row
 drill_in_ranges p e =
     let taken = and_parts (takes_of seed_row.takes (positional 0 p)) _ (and_parts (fits drill_form p) _ e).1 in
@@ -150,10 +149,10 @@ ranges_of words command is = of_asked command (asked words command is)
 
 -- the session of `serve` is in the ranges of `run`
 pub session_in_range : (value : ServeValue) → HasRanges (serve value) → AreInRange value.session
-session_in_range value ((port, (conns, (window, (ring, (every, (frames, (budget, others))))))), none) =
+session_in_range value ((port, (conns, (window, (ring, (every, (frames, (budget, (keep, others)))))))), none) =
     let least : 0 ≤ value.session.hold = omega arith in
     let most : value.session.hold ≤ 1000 = omega arith in
-    (window, ((least, most), (ring, (every, (frames, (budget, tt))))))
+    (window, ((least, most), (ring, (every, (frames, (budget, (keep, tt)))))))
 
 -- the session of `resume` is in the ranges of `run` in a window of its range
 pub resumed_in_range : (value : ResumeValue) (window : ℕ) (framing : Framing) → HasRanges (resume value) → 1 ≤ window → window ≤ 64 → AreInRange (run_in value window framing)

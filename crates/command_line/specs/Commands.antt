@@ -48,6 +48,7 @@ pub record RunValue : Type 0 where
   pub every : ℕ
   pub frames : ℕ
   pub budget : ℕ
+  pub keep : ℕ
   pub guard : Guard
 
 -- what an assembly is asked for
@@ -89,6 +90,7 @@ pub record ResumeValue : Type 0 where
   pub every : ℕ
   pub frames : ℕ
   pub budget : ℕ
+  pub keep : ℕ
   pub guard : Guard
 
 -- what a session for the clients of a port is asked for
@@ -190,6 +192,7 @@ session_value hold p = record {
   every = number_at (static_row table.EVERY) p.options;
   frames = number_at (static_row table.FRAMES) p.options;
   budget = number_at (static_row table.BUDGET) p.options;
+  keep = number_at (static_row table.KEEP) p.options;
   guard = guard_of (value_of guard_row p.options);
 }
 
@@ -206,6 +209,7 @@ numbers value =
     ∷ (static_row table.EVERY, value.every)
     ∷ (static_row table.FRAMES, value.frames)
     ∷ (static_row table.BUDGET, value.budget)
+    ∷ (static_row table.KEEP, value.keep)
     ∷ []
 
 -- no two of three texts are alike
@@ -287,6 +291,7 @@ resume_value p = record {
   every = number_at (static_row table.EVERY) p.options;
   frames = number_at (static_row table.FRAMES) p.options;
   budget = number_at (static_row table.BUDGET) p.options;
+  keep = number_at (static_row table.KEEP) p.options;
   guard = guard_of (value_of guard_row p.options);
 }
 
@@ -304,6 +309,7 @@ run_in value window framing = record {
   every = value.every;
   frames = value.frames;
   budget = value.budget;
+  keep = value.keep;
   guard = value.guard;
 }
 
@@ -315,6 +321,7 @@ resume_numbers value =
     ∷ (static_row table.EVERY, value.every)
     ∷ (static_row table.FRAMES, value.frames)
     ∷ (static_row table.BUDGET, value.budget)
+    ∷ (static_row table.KEEP, value.keep)
     ∷ []
 
 -- the four files that are read have four different names
@@ -365,6 +372,7 @@ serve_numbers value =
     ∷ (static_row table.EVERY, value.session.every)
     ∷ (static_row table.FRAMES, value.session.frames)
     ∷ (static_row table.BUDGET, value.session.budget)
+    ∷ (static_row table.KEEP, value.session.keep)
     ∷ (static_row serve_table.PATIENCE, value.patience)
     ∷ (static_row serve_table.AT_ONCE, value.at_once)
     ∷ []
@@ -478,6 +486,7 @@ run_shown c = record {
   every = c.every;
   frames = c.frames;
   budget = c.budget;
+  keep = c.keep;
   guard = c.guard;
 }
 
@@ -507,6 +516,7 @@ resume_shown c = record {
   every = c.every;
   frames = c.frames;
   budget = c.budget;
+  keep = c.keep;
   guard = c.guard;
 }
 

@@ -52,6 +52,7 @@ session_rows =
     ∷ static_row table.EVERY
     ∷ static_row table.FRAMES
     ∷ static_row table.BUDGET
+    ∷ static_row table.KEEP
     ∷ guard_row
     ∷ []
 

@@ -22,6 +22,6 @@ is_numeral [] = false
 is_numeral (first ∷ []) = is_ascii_digit first
 is_numeral (first ∷ second ∷ rest) = not (first == ZERO) && list_all is_ascii_digit (first ∷ second ∷ rest)
 
--- the number below 2^32 that a word writes
+-- the number below 2^64 that a word writes
 abbrev pub number_of : Text → Option ℕ
-number_of text = if is_numeral text && nat_lt (digits_value 10 text) (2 ^ 32) then Some (digits_value 10 text) else None
+number_of text = if is_numeral text && nat_lt (digits_value 10 text) (2 ^ 64) then Some (digits_value 10 text) else None

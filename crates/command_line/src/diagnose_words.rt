@@ -6,13 +6,14 @@ ghost use Rattle.command_line.specs.Parts.{Parts, parts_of};
 ghost use Rattle.command_line.specs.Options.{value_of};
 ghost use Rattle.command_line.specs.Table.{diagnosis_row};
 ghost use Rattle.command_line.specs.Commands.{diagnose_form, diagnose_shown, diagnose_value, fits, has_fourth, is_diagnose, is_fourth};
+ghost use Rattle.command_line.specs.Ranges.{AreInRange};
 ghost use Rattle.command_line.specs.Reading.{HasRead};
 
 use crate::accepted::{have_form, name_at, value};
 use crate::matching::{out_of_memory, parser, value_in};
 use crate::options::{CommandName, CommandOf, CommandRow, OptionRow, RowOf, TakesOf};
 use crate::run_words::{
-    BUDGET, DURABLE, EVERY, FORM, FRAME, FRAMES, GUARD, HOLD, PROGRAM, RECORD, REPORT, RING,
+    BUDGET, DURABLE, EVERY, FORM, FRAME, FRAMES, GUARD, HOLD, KEEP, PROGRAM, RECORD, REPORT, RING,
     RunCommand, TELL, WINDOW, have_names, number_or_zero, recording, report, session_from,
 };
 use clap::{ArgMatches, Error};
@@ -27,9 +28,9 @@ pub const DIAGNOSIS: OptionRow = RowOf {
 };
 
 /// The options of `diagnose`.
-pub const DIAGNOSE_OPTIONS: [OptionRow; 14] = [
-    RECORD, REPORT, DIAGNOSIS, FORM, FRAME, WINDOW, HOLD, RING, EVERY, FRAMES, BUDGET, GUARD, TELL,
-    DURABLE,
+pub const DIAGNOSE_OPTIONS: [OptionRow; 15] = [
+    RECORD, REPORT, DIAGNOSIS, FORM, FRAME, WINDOW, HOLD, RING, EVERY, FRAMES, BUDGET, KEEP, GUARD,
+    TELL, DURABLE,
 ];
 
 /// Runs a program, and tries everything at each failure.
@@ -116,7 +117,7 @@ fn read_diagnose<'a>(alloc: Global, words: &'a [String]) -> Result<ArgMatches<'a
 
 // The names and numbers of `diagnose`, once clap has read the words.
 fn diagnose_from<'a>(matches: &ArgMatches<'a>) -> DiagnoseCommand<'a>
-    ensures { (p : Parts) → HasRead diagnose_form p matches.now → diagnose_shown result ≡ diagnose_value p }
+    ensures { (p : Parts) → HasRead diagnose_form p matches.now → AreInRange (diagnose_value p).session → diagnose_shown result ≡ diagnose_value p }
 {
     DiagnoseCommand {
         session: session_from(matches, number_or_zero(value_in(matches, HOLD.name))),

@@ -5,7 +5,8 @@ ghost use Rattle.clap.specs.declared.error.kind.ErrorKind.TheVariants.{OutOfMemo
 ghost use Rattle.command_line.specs.Parts.{Parts, parts_of};
 ghost use Rattle.command_line.specs.Options.{takes_of};
 ghost use Rattle.command_line.specs.Table.{count_row, seed_row};
-ghost use Rattle.command_line.specs.Commands.{drill_form, drill_shown, drill_value, fits, is_drill, positional};
+ghost use Rattle.command_line.specs.Commands.{drill_form, drill_numbers, drill_shown, drill_value, fits, is_drill, positional};
+ghost use Rattle.command_line.specs.Ranges.{EachInRange};
 ghost use Rattle.command_line.specs.Reading.{HasRead};
 
 use crate::accepted::{have_form, name_at};
@@ -108,7 +109,7 @@ fn read_drill<'a>(alloc: Global, words: &'a [String]) -> Result<ArgMatches<'a>, 
 
 // The numbers of `drill`, once clap has read the words.
 fn drill_from(matches: &ArgMatches<'_>) -> DrillCommand
-    ensures { (p : Parts) → HasRead drill_form p matches.now → drill_shown result ≡ drill_value p }
+    ensures { (p : Parts) → HasRead drill_form p matches.now → EachInRange (drill_numbers (drill_value p)) → drill_shown result ≡ drill_value p }
 {
     DrillCommand {
         seed: number_or_zero(value_in(matches, SEED_NAME)),

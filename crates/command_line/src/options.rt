@@ -16,7 +16,7 @@ pub enum TakesOf<Texts> {
     /// One of these texts.
     OneOf(Texts),
     /// A number from the least to the most, both of them taken.
-    Number(u32, u32),
+    Number(u64, u64),
 }
 
 /// What the value of an option may be.

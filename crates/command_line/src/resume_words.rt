@@ -3,7 +3,8 @@ ghost use Rattle.std.specs.Prelude.{◌≡◌, true, IfOk, IfErr};
 ghost use Rattle.clap.specs.Words.{kind_of};
 ghost use Rattle.clap.specs.declared.error.kind.ErrorKind.TheVariants.{OutOfMemory};
 ghost use Rattle.command_line.specs.Parts.{Parts, parts_of};
-ghost use Rattle.command_line.specs.Commands.{are_four, are_new, fits, have_six, is_fifth, is_resume, resume_form, resume_shown, resume_value, run_in, run_shown};
+ghost use Rattle.command_line.specs.Commands.{are_four, are_new, fits, have_six, is_fifth, is_resume, resume_form, resume_numbers, resume_shown, resume_value, run_in, run_shown};
+ghost use Rattle.command_line.specs.Ranges.{EachInRange};
 ghost use Rattle.command_line.specs.Reading.{HasRead};
 
 use crate::accepted::{have_form, name_at};
@@ -12,8 +13,9 @@ use crate::matching::{out_of_memory, parser, value_in};
 use crate::options::{CommandName, CommandOf, CommandRow, OptionRow};
 use crate::replay_words::RECORDED;
 use crate::run_words::{
-    BUDGET, DURABLE, EVERY, FORM, FRAMES, Form, GUARD, Guard, HOLD, PROGRAM, RECORD, REPORT, RING,
-    RunCommand, TELL, differ, form_of, guard_of, number_or_zero, recording, report,
+    BUDGET, DURABLE, EVERY, FORM, FRAMES, Form, GUARD, Guard, HOLD, KEEP, PROGRAM, RECORD, REPORT,
+    RING, RunCommand, TELL, differ, form_of, guard_of, long_or_zero, number_or_zero, recording,
+    report,
 };
 use crate::standby_words::COUNTS;
 use clap::{ArgMatches, Error};
@@ -24,8 +26,8 @@ use std::alloc::{AllocError, Global};
 pub const REPORTED: &str = "REPORT";
 
 /// The options of `resume`.
-pub const RESUME_OPTIONS: [OptionRow; 11] = [
-    RECORD, REPORT, FORM, HOLD, RING, EVERY, FRAMES, BUDGET, GUARD, TELL, DURABLE,
+pub const RESUME_OPTIONS: [OptionRow; 12] = [
+    RECORD, REPORT, FORM, HOLD, RING, EVERY, FRAMES, BUDGET, KEEP, GUARD, TELL, DURABLE,
 ];
 
 /// Goes on for a host that was killed.
@@ -56,7 +58,8 @@ pub struct ResumeCommand<'a> {
     pub ring: u32,
     pub every: u32,
     pub frames: u32,
-    pub budget: u32,
+    pub budget: u64,
+    pub keep: u32,
     pub guard: Guard,
 }
 
@@ -76,6 +79,7 @@ pub fn run_in<'a>(resume: &ResumeCommand<'a>, window: u32, frame: Framing) -> Ru
         every: resume.every,
         frames: resume.frames,
         budget: resume.budget,
+        keep: resume.keep,
         guard: resume.guard,
     }
 }
@@ -172,7 +176,7 @@ fn read_resume<'a>(alloc: Global, words: &'a [String]) -> Result<ArgMatches<'a>,
 
 // The names and numbers of `resume`, once clap has read the words.
 fn resume_from<'a>(matches: &ArgMatches<'a>) -> ResumeCommand<'a>
-    ensures { (p : Parts) → HasRead resume_form p matches.now → resume_shown result ≡ resume_value p }
+    ensures { (p : Parts) → HasRead resume_form p matches.now → EachInRange (resume_numbers (resume_value p)) → resume_shown result ≡ resume_value p }
 {
     ResumeCommand {
         program: value_in(matches, PROGRAM),
@@ -186,7 +190,8 @@ fn resume_from<'a>(matches: &ArgMatches<'a>) -> ResumeCommand<'a>
         ring: number_or_zero(value_in(matches, RING.name)),
         every: number_or_zero(value_in(matches, EVERY.name)),
         frames: number_or_zero(value_in(matches, FRAMES.name)),
-        budget: number_or_zero(value_in(matches, BUDGET.name)),
+        budget: long_or_zero(value_in(matches, BUDGET.name)),
+        keep: number_or_zero(value_in(matches, KEEP.name)),
         guard: guard_of(value_in(matches, GUARD.name)),
     }
 }

@@ -1,6 +1,6 @@
 // The command `run`: its options, and what its words come to; and what `serve` shares with it. One more option of both is a row, its place
 // among the others of each, a field of `RunCommand` and a line of `session_from`.
-ghost use Rattle.std.specs.Prelude.{◌≡◌, true, IfOk, IfErr, unwrap_or};
+ghost use Rattle.std.specs.Prelude.{◌≡◌, ◌<◌, ◌^◌, true, IfOk, IfErr, unwrap_or};
 ghost use Rattle.clap.specs.Words.{kind_of};
 ghost use Rattle.clap.specs.declared.error.kind.ErrorKind.TheVariants.{OutOfMemory};
 ghost use Rattle.command_line.specs.Texts.{number_of};
@@ -8,6 +8,7 @@ ghost use Rattle.command_line.specs.Options.{value_of};
 ghost use Rattle.command_line.specs.Parts.{Parts, parts_of};
 ghost use Rattle.command_line.specs.Table.{record_row, report_row};
 ghost use Rattle.command_line.specs.Commands.{differ, fits, form_of, frame_of, guard_of, have_names, is_run, run_form, run_shown, run_value, session_value};
+ghost use Rattle.command_line.specs.Ranges.{AreInRange};
 ghost use Rattle.command_line.specs.Reading.{HasRead, HasReadSession};
 
 use crate::accepted::{have_form, name_at, value};
@@ -108,9 +109,16 @@ pub const FRAMES: OptionRow = RowOf {
 /// How many instructions may come between two items.
 pub const BUDGET: OptionRow = RowOf {
     name: "budget",
-    takes: TakesOf::Number(1, 16_777_216),
+    takes: TakesOf::Number(1, 68_719_476_736),
     default: Some("1000000"),
-    says: "How many instructions may come from one item to the next.",
+    says: "How many instructions may come from one item to the next. 1000000 take 4 ms, 250000000 a second.",
+};
+/// For how many items behind a failure an environment that survived stays in force.
+pub const KEEP: OptionRow = RowOf {
+    name: "keep",
+    takes: TakesOf::Number(1, 4_294_967_295),
+    default: Some("4"),
+    says: "For how many items more an environment that survived stays in force.",
 };
 /// What else is refused of an access, by the blocks of the heap.
 pub const GUARD: OptionRow = RowOf {
@@ -137,8 +145,9 @@ pub const DURABLE: OptionRow = RowOf {
 };
 
 /// The options of `run`.
-pub const RUN_OPTIONS: [OptionRow; 13] = [
-    RECORD, REPORT, FORM, FRAME, WINDOW, HOLD, RING, EVERY, FRAMES, BUDGET, GUARD, TELL, DURABLE,
+pub const RUN_OPTIONS: [OptionRow; 14] = [
+    RECORD, REPORT, FORM, FRAME, WINDOW, HOLD, RING, EVERY, FRAMES, BUDGET, KEEP, GUARD, TELL,
+    DURABLE,
 ];
 
 /// Runs a program.
@@ -183,7 +192,8 @@ pub struct RunCommand<'a> {
     pub ring: u32,
     pub every: u32,
     pub frames: u32,
-    pub budget: u32,
+    pub budget: u64,
+    pub keep: u32,
     pub guard: Guard,
 }
 
@@ -221,13 +231,21 @@ pub(crate) fn guard_of(text: &str) -> Guard
 }
 
 // The number that a text writes, or 0.
-pub(crate) fn number_or_zero(text: &str) -> u32
+pub(crate) fn long_or_zero(text: &str) -> u64
     ensures { result ≡ unwrap_or (number_of text.now) 0 }
 {
     match number(text) {
         Some(n) => n,
         None => 0,
     }
+}
+
+// The number below 2^32 that a text writes, or 0.
+pub(crate) fn number_or_zero(text: &str) -> u32
+    ensures { unwrap_or (number_of text.now) 0 < 2 ^ 32 → result ≡ unwrap_or (number_of text.now) 0 }
+{
+    let n = long_or_zero(text);
+    if n < 1 << 32 { n as u32 } else { 0 }
 }
 
 // Whether the words have the form of `run`.
@@ -297,7 +315,7 @@ fn read_run<'a>(alloc: Global, words: &'a [String]) -> Result<ArgMatches<'a>, Er
 
 // The names and numbers of a session, once clap has read the words, with the hold that its command gives it.
 pub(crate) fn session_from<'a>(matches: &ArgMatches<'a>, hold: u32) -> RunCommand<'a>
-    ensures { (p : Parts) → HasReadSession p matches.now → run_shown result ≡ session_value hold p }
+    ensures { (p : Parts) → HasReadSession p matches.now → AreInRange (session_value hold p) → run_shown result ≡ session_value hold p }
 {
     RunCommand {
         program: value_in(matches, PROGRAM),
@@ -310,14 +328,15 @@ pub(crate) fn session_from<'a>(matches: &ArgMatches<'a>, hold: u32) -> RunComman
         ring: number_or_zero(value_in(matches, RING.name)),
         every: number_or_zero(value_in(matches, EVERY.name)),
         frames: number_or_zero(value_in(matches, FRAMES.name)),
-        budget: number_or_zero(value_in(matches, BUDGET.name)),
+        budget: long_or_zero(value_in(matches, BUDGET.name)),
+        keep: number_or_zero(value_in(matches, KEEP.name)),
         guard: guard_of(value_in(matches, GUARD.name)),
     }
 }
 
 // The names and numbers of `run`, once clap has read the words.
 fn run_from<'a>(matches: &ArgMatches<'a>) -> RunCommand<'a>
-    ensures { (p : Parts) → HasRead run_form p matches.now → run_shown result ≡ run_value p }
+    ensures { (p : Parts) → HasRead run_form p matches.now → AreInRange (run_value p) → run_shown result ≡ run_value p }
 {
     session_from(matches, number_or_zero(value_in(matches, HOLD.name)))
 }

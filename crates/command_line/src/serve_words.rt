@@ -5,15 +5,16 @@ ghost use Rattle.clap.specs.declared.error.kind.ErrorKind.TheVariants.{OutOfMemo
 ghost use Rattle.command_line.specs.Parts.{Parts, parts_of};
 ghost use Rattle.command_line.specs.Options.{takes_of};
 ghost use Rattle.command_line.specs.Table.{conns_row, port_row};
-ghost use Rattle.command_line.specs.Commands.{fits, is_serve, positional, serve_form, serve_shown, serve_value};
+ghost use Rattle.command_line.specs.Commands.{fits, is_serve, positional, serve_form, serve_numbers, serve_shown, serve_value};
+ghost use Rattle.command_line.specs.Ranges.{EachInRange};
 ghost use Rattle.command_line.specs.Reading.{HasRead};
 
 use crate::accepted::{have_form, name_at};
 use crate::matching::{out_of_memory, parser, value_in};
 use crate::options::{CommandName, CommandOf, CommandRow, OptionRow, RowOf, TakesOf, takes_value};
 use crate::run_words::{
-    BUDGET, DURABLE, EVERY, FORM, FRAME, FRAMES, GUARD, PROGRAM, RECORD, REPORT, RING, RunCommand,
-    TELL, WINDOW, have_names, number_or_zero, session_from,
+    BUDGET, DURABLE, EVERY, FORM, FRAME, FRAMES, GUARD, KEEP, PROGRAM, RECORD, REPORT, RING,
+    RunCommand, TELL, WINDOW, have_names, number_or_zero, session_from,
 };
 use clap::{ArgMatches, Error};
 use std::alloc::{AllocError, Global};
@@ -57,9 +58,9 @@ pub const AT_ONCE: OptionRow = RowOf {
 pub const SERVE_NUMBERS: [OptionRow; 2] = [PORT, CONNS];
 
 /// The options of `serve`.
-pub const SERVE_OPTIONS: [OptionRow; 14] = [
-    RECORD, REPORT, FORM, FRAME, WINDOW, RING, EVERY, FRAMES, BUDGET, GUARD, PATIENCE, AT_ONCE,
-    TELL, DURABLE,
+pub const SERVE_OPTIONS: [OptionRow; 15] = [
+    RECORD, REPORT, FORM, FRAME, WINDOW, RING, EVERY, FRAMES, BUDGET, KEEP, GUARD, PATIENCE,
+    AT_ONCE, TELL, DURABLE,
 ];
 
 /// Runs a program for the clients of a port.
@@ -138,7 +139,7 @@ fn read_serve<'a>(alloc: Global, words: &'a [String]) -> Result<ArgMatches<'a>, 
 
 // The names and numbers of `serve`, once clap has read the words.
 fn serve_from<'a>(matches: &ArgMatches<'a>) -> ServeCommand<'a>
-    ensures { (p : Parts) → HasRead serve_form p matches.now → serve_shown result ≡ serve_value p }
+    ensures { (p : Parts) → HasRead serve_form p matches.now → EachInRange (serve_numbers (serve_value p)) → serve_shown result ≡ serve_value p }
 {
     ServeCommand {
         session: session_from(matches, 0),

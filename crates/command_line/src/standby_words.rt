@@ -11,7 +11,7 @@ use crate::diagnose_words::is_fourth;
 use crate::matching::{out_of_memory, parser, value_in};
 use crate::options::{CommandName, CommandOf, CommandRow, OptionRow};
 use crate::replay_words::RECORDED;
-use crate::run_words::{BUDGET, PROGRAM, RECORD, differ, number_or_zero, recording};
+use crate::run_words::{BUDGET, PROGRAM, RECORD, differ, long_or_zero, recording};
 use clap::{ArgMatches, Error};
 use std::alloc::{AllocError, Global};
 
@@ -40,7 +40,7 @@ pub struct StandbyCommand<'a> {
     pub counts: &'a str,
     /// The record that is written.
     pub recording: &'a str,
-    pub budget: u32,
+    pub budget: u64,
 }
 
 // Whether the words have the form of `standby`.
@@ -94,7 +94,7 @@ fn standby_from<'a>(matches: &ArgMatches<'a>) -> StandbyCommand<'a>
         recorded: value_in(matches, RECORDED),
         counts: value_in(matches, COUNTS),
         recording: value_in(matches, RECORD.name),
-        budget: number_or_zero(value_in(matches, BUDGET.name)),
+        budget: long_or_zero(value_in(matches, BUDGET.name)),
     }
 }
 

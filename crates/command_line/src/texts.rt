@@ -48,14 +48,14 @@ fn is_plain(text: &[u8]) -> bool
     }
 }
 
-/// The number that a word writes in decimal digits, without sign or leading zero. `None` where it writes none below 2^32.
-pub fn number(text: &str) -> Option<u32>
+/// The number that a word writes in decimal digits, without sign or leading zero. `None` where it writes none below 2^64.
+pub fn number(text: &str) -> Option<u64>
     ensures { result ≡ number_of text.now }
 {
     if !is_plain(text.as_bytes()) {
         return None;
     }
-    match text.parse::<u32>() {
+    match text.parse::<u64>() {
         Ok(n) => Some(n),
         Err(_) => None,
     }

@@ -64,7 +64,7 @@ impl Watch for Examiner {
         &mut self,
         held: &mut Recoverable<R>,
         point: u64,
-        budget: u32,
+        budget: u64,
         steps: &mut Steps<L>,
     ) -> Result<(), AllocError> {
         let mut tries = Vec::new(self.alloc);

@@ -7,7 +7,7 @@ use Rattle.recovery.specs.Handling.{Keeping}
 use Rattle.drill.specs.Terms.{Rules, Options, keeping_for, rules_of}
 
 -- A window of 4 MiB, messages of one line each, no reply held back, eight checkpoints with an item between them, four times as many frames as
--- pages, and a million instructions between two items; and as many items and events as a session may have.
+-- pages, a million instructions between two items, and environments that are kept for four items; and as many items and events as a session may have.
 abbrev pub settings : Options
 settings = record {
   window = 4 * 2 ^ 20;
@@ -17,6 +17,7 @@ settings = record {
   every = 1;
   frames = 4;
   budget = 1000000;
+  keep = 4;
   max_items = MAX_ITEMS;
   max_events = 2 ^ 32;
 }

@@ -21,6 +21,7 @@ pub fn settings() -> Options
         every: 1,
         frames: 4,
         budget: 1_000_000,
+        keep: 4,
         max_items: MAX_ITEMS,
         max_events: 1 << 32,
     }

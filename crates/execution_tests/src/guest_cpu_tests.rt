@@ -118,7 +118,7 @@ Asks at 10010 [1 5 10 0 0]
 // The words 2 and 3 behind the open.
 const DONE: &str = "\
 Asks at 10010 [1 5 10 0 0]
-Chooses(Choice { ask: Malloc { size: 16 }, at: 73728, zeroed: false }) at 10030 [2 7 18 1 0]
+Chooses(Choice { ask: Malloc { size: 16 }, at: 73728, zeroed: false, carried: 0 }) at 10030 [2 7 18 1 0]
 Emits(0, Listed { values: [0, 0, 0, 0, 0, 0, 0, 0, 0, 0, 0, 0] }) at 10070 [2 23 34 1 1]
 Asks at 10010 [2 28 39 1 1]
 Emits(0, Listed { values: [2, 0, 0, 0, 2, 0, 0, 0, 2, 0, 0, 0] }) at 10070 [3 19 59 1 2]
@@ -128,10 +128,10 @@ Asks at 10010 [3 29 69 1 2]
 // The words 5 and 4 behind these. The block was freed, and stands at the same place with what it had.
 const LATER: &str = "\
 Asks at 10010 [3 29 69 1 2]
-Chooses(Choice { ask: Malloc { size: 16 }, at: 73728, zeroed: false }) at 10030 [4 7 77 2 2]
+Chooses(Choice { ask: Malloc { size: 16 }, at: 73728, zeroed: false, carried: 0 }) at 10030 [4 7 77 2 2]
 Emits(0, Listed { values: [3, 0, 0, 0, 3, 0, 0, 0, 3, 0, 0, 0] }) at 10070 [4 23 93 2 3]
 Asks at 10010 [4 33 103 2 3]
-Chooses(Choice { ask: Malloc { size: 16 }, at: 73728, zeroed: false }) at 10030 [5 7 111 3 3]
+Chooses(Choice { ask: Malloc { size: 16 }, at: 73728, zeroed: false, carried: 0 }) at 10030 [5 7 111 3 3]
 Emits(0, Listed { values: [5, 0, 0, 0, 5, 0, 0, 0, 5, 0, 0, 0] }) at 10070 [5 23 127 3 4]
 Asks at 10010 [5 28 132 3 4]
 ";
@@ -139,10 +139,10 @@ Asks at 10010 [5 28 132 3 4]
 // The words 9 and 8 behind the open.
 const OTHER: &str = "\
 Asks at 10010 [1 5 10 0 0]
-Chooses(Choice { ask: Malloc { size: 16 }, at: 73728, zeroed: false }) at 10030 [2 7 18 1 0]
+Chooses(Choice { ask: Malloc { size: 16 }, at: 73728, zeroed: false, carried: 0 }) at 10030 [2 7 18 1 0]
 Emits(0, Listed { values: [0, 0, 0, 0, 0, 0, 0, 0, 0, 0, 0, 0] }) at 10070 [2 23 34 1 1]
 Asks at 10010 [2 33 44 1 1]
-Chooses(Choice { ask: Malloc { size: 16 }, at: 73728, zeroed: false }) at 10030 [3 7 52 2 1]
+Chooses(Choice { ask: Malloc { size: 16 }, at: 73728, zeroed: false, carried: 0 }) at 10030 [3 7 52 2 1]
 Emits(0, Listed { values: [9, 0, 0, 0, 9, 0, 0, 0, 9, 0, 0, 0] }) at 10070 [3 23 68 2 2]
 Asks at 10010 [3 28 73 2 2]
 ";
@@ -190,33 +190,33 @@ static CROWDED: [Row<'static>; 4] = [
 #[rattlefmt::skip]
 static ANSWERS: [(Env, &str); 6] = [
     (Env::Plain, "\
-Chooses(Choice { ask: Malloc { size: 16 }, at: 69632, zeroed: false }) at 1000c [0 3 3 1 0]
-Chooses(Choice { ask: Malloc { size: 16 }, at: 69648, zeroed: false }) at 10014 [0 5 5 2 0]
+Chooses(Choice { ask: Malloc { size: 16 }, at: 69632, zeroed: false, carried: 0 }) at 1000c [0 3 3 1 0]
+Chooses(Choice { ask: Malloc { size: 16 }, at: 69648, zeroed: false, carried: 0 }) at 10014 [0 5 5 2 0]
 Failed(BadFree) at 1001c [0 7 7 2 0]
 "),
     (Env::Pad, "\
-Chooses(Choice { ask: Malloc { size: 16 }, at: 69888, zeroed: false }) at 1000c [0 3 3 1 0]
-Chooses(Choice { ask: Malloc { size: 16 }, at: 70416, zeroed: false }) at 10014 [0 5 5 2 0]
+Chooses(Choice { ask: Malloc { size: 16 }, at: 69888, zeroed: false, carried: 0 }) at 1000c [0 3 3 1 0]
+Chooses(Choice { ask: Malloc { size: 16 }, at: 70416, zeroed: false, carried: 0 }) at 10014 [0 5 5 2 0]
 Failed(BadFree) at 1001c [0 7 7 2 0]
 "),
     (Env::Zero, "\
-Chooses(Choice { ask: Malloc { size: 16 }, at: 69632, zeroed: true }) at 1000c [0 3 3 1 0]
-Chooses(Choice { ask: Malloc { size: 16 }, at: 69648, zeroed: true }) at 10014 [0 5 5 2 0]
+Chooses(Choice { ask: Malloc { size: 16 }, at: 69632, zeroed: true, carried: 0 }) at 1000c [0 3 3 1 0]
+Chooses(Choice { ask: Malloc { size: 16 }, at: 69648, zeroed: true, carried: 0 }) at 10014 [0 5 5 2 0]
 Failed(BadFree) at 1001c [0 7 7 2 0]
 "),
     (Env::Isolate, "\
-Chooses(Choice { ask: Malloc { size: 16 }, at: 2129920, zeroed: false }) at 1000c [0 3 3 1 0]
-Chooses(Choice { ask: Malloc { size: 16 }, at: 2129936, zeroed: false }) at 10014 [0 5 5 2 0]
+Chooses(Choice { ask: Malloc { size: 16 }, at: 2129920, zeroed: false, carried: 0 }) at 1000c [0 3 3 1 0]
+Chooses(Choice { ask: Malloc { size: 16 }, at: 2129936, zeroed: false, carried: 0 }) at 10014 [0 5 5 2 0]
 Failed(BadFree) at 1001c [0 7 7 2 0]
 "),
     (Env::Delay, "\
-Chooses(Choice { ask: Malloc { size: 16 }, at: 69632, zeroed: false }) at 1000c [0 3 3 1 0]
-Chooses(Choice { ask: Malloc { size: 16 }, at: 69648, zeroed: false }) at 10014 [0 5 5 2 0]
+Chooses(Choice { ask: Malloc { size: 16 }, at: 69632, zeroed: false, carried: 0 }) at 1000c [0 3 3 1 0]
+Chooses(Choice { ask: Malloc { size: 16 }, at: 69648, zeroed: false, carried: 0 }) at 10014 [0 5 5 2 0]
 Failed(AssertFailed(0)) at 10020 [0 8 8 2 0]
 "),
     (Env::All, "\
-Chooses(Choice { ask: Malloc { size: 16 }, at: 2130176, zeroed: true }) at 1000c [0 3 3 1 0]
-Chooses(Choice { ask: Malloc { size: 16 }, at: 2130704, zeroed: true }) at 10014 [0 5 5 2 0]
+Chooses(Choice { ask: Malloc { size: 16 }, at: 2130176, zeroed: true, carried: 0 }) at 1000c [0 3 3 1 0]
+Chooses(Choice { ask: Malloc { size: 16 }, at: 2130704, zeroed: true, carried: 0 }) at 10014 [0 5 5 2 0]
 Failed(AssertFailed(0)) at 10020 [0 8 8 2 0]
 "),
 ];

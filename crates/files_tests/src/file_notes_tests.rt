@@ -17,6 +17,7 @@ const CHOICES: [Choice; 2] = [
         ask: Ask::Calloc { count: 3, size: 20 },
         at: 0x12340,
         zeroed: true,
+        carried: 0,
     },
     Choice {
         ask: Ask::Realloc {
@@ -25,6 +26,7 @@ const CHOICES: [Choice; 2] = [
         },
         at: 0,
         zeroed: false,
+        carried: 0,
     },
 ];
 

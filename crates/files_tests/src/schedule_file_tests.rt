@@ -8,13 +8,14 @@ use schedule_file::{
 use std::alloc::Global;
 use std::test::Fail;
 
-// An answer to each ask, with a block, and null.
-fn answers() -> [Choice; 4] {
+// An answer to each ask, with a block, and null; and one that carries bytes.
+fn answers() -> [Choice; 5] {
     [
         Choice {
             ask: Ask::Malloc { size: 0x10 },
             at: 0x0012_ab90,
             zeroed: true,
+            carried: 0,
         },
         Choice {
             ask: Ask::Calloc {
@@ -23,11 +24,13 @@ fn answers() -> [Choice; 4] {
             },
             at: 0,
             zeroed: false,
+            carried: 0,
         },
         Choice {
             ask: Ask::Calloc { count: 3, size: 7 },
             at: 0xfedc_ba90,
             zeroed: true,
+            carried: 0,
         },
         Choice {
             ask: Ask::Realloc {
@@ -36,12 +39,22 @@ fn answers() -> [Choice; 4] {
             },
             at: 0x40,
             zeroed: false,
+            carried: 0,
+        },
+        Choice {
+            ask: Ask::Realloc {
+                old: 0x40,
+                size: 0x9,
+            },
+            at: 0x0012_ab90,
+            zeroed: true,
+            carried: 0x0123_cdef,
         },
     ]
 }
 
 const LINES: &str =
-    "m 0012ab90 z 00000010\nc 00000000 - 12345678 9abcdef0\nc fedcba90 z 00000003 00000007\nr 00000040 - fedcba90 00000020\n";
+    "m 0012ab90 z 00000010\nc 00000000 - 12345678 9abcdef0\nc fedcba90 z 00000003 00000007\nr 00000040 - fedcba90 00000020\nr 0012ab90 z 00000040 00000009 0123cdef\n";
 
 #[test]
 fn lines_are_written(rt: HostRuntime) -> Result<(), Fail> {
@@ -50,6 +63,7 @@ fn lines_are_written(rt: HostRuntime) -> Result<(), Fail> {
         ask: Ask::Malloc { size: 0xffff_ffff },
         at: 0,
         zeroed: false,
+        carried: 0,
     };
     let lines = [
         (
@@ -102,11 +116,12 @@ fn a_record_is_read(rt: HostRuntime) -> Result<(), Fail> {
     assert_eq!(rt; read.version, 2);
     assert_eq!(rt; read.window, 4);
     assert_eq!(rt; read.frame, Framing::Length);
-    assert_eq!(rt; read.lines.as_slice().len(), 4);
+    assert_eq!(rt; read.lines.as_slice().len(), 5);
     for (line, choice) in read.lines.as_slice().iter().zip(answers()) {
         assert_eq!(rt; line.ask, Some(choice.ask));
         assert_eq!(rt; line.at, choice.at);
         assert_eq!(rt; line.zeroed, choice.zeroed);
+        assert_eq!(rt; line.carried, choice.carried);
     }
     assert_eq!(rt; read.steps, 1234567);
     assert_eq!(rt; read.taken, 89);
@@ -124,11 +139,13 @@ fn a_record_of_version_1_is_read(rt: HostRuntime) -> Result<(), Fail> {
             ask: None,
             at: 0x0012_ab90,
             zeroed: true,
+            carried: 0,
         },
         Line {
             ask: None,
             at: 0,
             zeroed: false,
+            carried: 0,
         },
     ];
     assert_eq!(rt; read.version, 1);
@@ -249,6 +266,16 @@ fn lines_of_version_2_are_refused(rt: HostRuntime) -> Result<(), Fail> {
         ("r 0012ab90 - 00000010", 2),
         ("r 0012ab90 - 00000000  0000010", 2),
         ("f 0012ab90 - 00000000 00000010", 2),
+        ("r 0012ab90 - 00012340 00000010 00000001", 0),
+        ("r 0012ab90 z 00012340 00000010 ffffffff", 0),
+        ("r 0012ab90 - 00012340 00000010 00000000", 2),
+        ("r 0012ab90 - 00012340 00000010 0000001", 2),
+        ("r 0012ab90 - 00012340 00000010 00000001 00000001", 2),
+        ("r 0012ab90 - 00012340 00000010 ", 2),
+        ("r 0012ab90 - 00000000 00000010 00000001", 2),
+        ("r 00000000 - 00012340 00000010 00000001", 2),
+        ("c 0012ab90 z 00000001 00000010 00000001", 2),
+        ("m 0012ab90 - 00000010 00000010 00000001", 2),
     ];
     for (line, wanted) in cases {
         assert_eq!(rt; refused_line(rt.alloc(), line)?, wanted, "{line}");

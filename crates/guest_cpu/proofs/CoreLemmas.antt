@@ -1,5 +1,5 @@
 -- What calls leave of what a guest has beside its memory, as turns.
-use Rattle.guest_cpu.proofs.Terms.{Bool, List, None, Option, Some, arith, cond, eqb, false, ltb, refl, true, ℕ, ◌+◌, ◌<◌, ◌∙◌, ◌≡◌, ◌≢◌, ◌≤◌, none-some, is_some, slice_get, slice_index, unwrap_or, Ask, Choice, size-live, has_replaced, is_allowed, is_defined, live_blocks, live_with, replaced, size_at, without_live, Heap, SameEnds, is_live_at, Env, Served, in_place_of, served_ask, served_block, served_free, served_over, Ecall, Area, bytes_at, put_bytes, read, BadFree, allocated, freed, set_bytes, Core, answering, going_on, machine_of, set_range, standing, turn_to, meeting_of, sends, allocating, freeing}
+use Rattle.guest_cpu.proofs.Terms.{Bool, List, None, Option, Some, arith, cond, eqb, false, ltb, refl, true, ℕ, ◌+◌, ◌<◌, ◌∙◌, ◌≡◌, ◌≢◌, ◌≤◌, none-some, is_some, slice_get, slice_index, unwrap_or, Ask, Choice, size-live, bytes_asked, has_replaced, is_allowed, is_defined, live_blocks, live_with, replaced, size_at, without_live, Heap, SameEnds, is_live_at, Env, Served, in_place_of, served_ask, served_block, served_free, served_over, Ecall, Area, bytes_at, put_bytes, read, BadFree, allocated, freed, set_bytes, Core, answering, going_on, machine_of, set_range, standing, turn_to, meeting_of, sends, allocating, freeing}
 use Rattle.guest_cpu.specs.declared.event.Event.TheVariants as event
 use Rattle.guest_cpu.specs.declared.event.Met.TheVariants as met
 
@@ -16,7 +16,7 @@ defined_served : (env : Env) (heap : Heap) (ask : Ask) (served : Served) → ser
 unfolding served_ask
 defined_served env heap ask served is = of_replaced (replaced ask) is
   where
-    of_live : (old : ℕ) (live : Bool) → is_live_at heap old ≡ live → cond live (Some (in_place_of env old (served_block env heap ask))) None ≡ Some served → is_some (size_at old (live_blocks heap.blocks)) ≡ true
+    of_live : (old : ℕ) (live : Bool) → is_live_at heap old ≡ live → cond live (Some (in_place_of env heap old (bytes_asked ask) (served_block env heap ask))) None ≡ Some served → is_some (size_at old (live_blocks heap.blocks)) ≡ true
     of_live old true e h = size-live old heap.blocks ∙ e
     of_live old false e h = absurd (none-some served h)
 

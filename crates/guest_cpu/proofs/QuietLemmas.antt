@@ -76,10 +76,10 @@ ran_on next rule asks since steps most first core new before space new_space sav
     subst (λ (after : Core). Goes next rule first after before new_space saved line) (sym ran.is)
     (ran_goes next rule asks since steps first core before space saved line does goes ran.count new.regs new_space (omega arith) (omega arith) ran.ran)
 
-pub goes_within : {R : Type 0} (budget most from : ℕ) (env : Env) (asks : Heap → ℕ → ℕ → Bool) (rule : R) (first core new : Core) (before space new_space : GuestPages) (saved : List Core) (line : Line)
-    → Goes (turn (limits_of budget asks) env) rule first core before space saved line → RanOn asks most core space new new_space → from ≡ budget → most ≡ from - core.marks.since
+pub goes_within : {R : Type 0} (budget most : ℕ) (env : Env) (asks : Heap → ℕ → ℕ → Bool) (rule : R) (first core new : Core) (before space new_space : GuestPages) (saved : List Core) (line : Line)
+    → Goes (turn (limits_of budget asks) env) rule first core before space saved line → RanOn asks most core space new new_space → most ≡ budget - core.marks.since
     → Goes (turn (limits_of budget asks) env) rule first new before new_space saved line
-goes_within budget most from env asks rule first core new before space new_space saved line goes ran is some =
+goes_within budget most env asks rule first core new before space new_space saved line goes ran some =
     ran_on (turn (limits_of budget asks) env) rule asks budget (core.marks.steps + most) most first core new before space new_space saved line (turns_each budget (core.marks.steps + most) env asks) goes ran (omega arith) (omega arith)
 
 pub goes_recorded : {R : Type 0} (until most : ℕ) (rule : R) (first core new : Core) (before space new_space : GuestPages) (saved : List Core) (line : Line)

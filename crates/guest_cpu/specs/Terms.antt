@@ -3,8 +3,8 @@ pub use Rattle.std.specs.declared.alloc.AllocError.{AllocError}
 pub use Rattle.rx_base.specs.declared.item.Item.{Item}
 pub use Rattle.block_book.specs.declared.choice.Ask.{Ask}
 pub use Rattle.block_book.specs.declared.choice.Choice.{Choice}
-pub use Rattle.block_book.specs.Answer.{bytes_asked, has_replaced, insert_live, is_calloc, is_defined, live_blocks, live_with, replaced, same_ask, size_at, without_live, without_replaced}
-unfoldable pub use Rattle.block_book.specs.Answer.{is_allowed, is_block, is_clear}
+pub use Rattle.block_book.specs.Answer.{bytes_asked, has_replaced, insert_live, is_calloc, is_defined, kept_count, live_blocks, live_with, moved_count, replaced, same_ask, size_at, without_live, without_replaced}
+unfoldable pub use Rattle.block_book.specs.Answer.{is_allowed, is_block, is_clear, may_carry}
 pub use Rattle.block_book.specs.Block.{live_block}
 pub use Rattle.block_book.specs.Heap.{Heap, IsHeap, SameEnds, empty_heap, is_live_at, most_blocks, with_block, without_block}
 pub use Rattle.alloc_env.specs.declared.env.Env.{Env}
@@ -27,7 +27,7 @@ unfoldable pub use Rattle.guest_image.specs.Memory.{permitted}
 pub use Rattle.run_history.specs.declared.answer.Cause.{Cause}
 pub use Rattle.run_history.specs.declared.answer.Cause.TheVariants.{AssertFailed, BadAccess, BadFree, BadInstruction, Hang}
 pub use Rattle.run_history.specs.declared.regs.Regs.{Regs}
-pub use Rattle.run_history.specs.Call.{allocation, answered, call, chooses, connections_after, free, kept_bytes, kept_count, may_send, set_count}
+pub use Rattle.run_history.specs.Call.{allocation, answered, call, chooses, connections_after, free, may_send, moved_bytes, set_count}
 unfoldable pub use Rattle.run_history.specs.Call.{allocated, freed, received, set_bytes}
 pub use Rattle.run_history.specs.Machine.{Chooses, Effect, Emits, Ends, Fails, Goes, Machine, State, Wants, register, with_register}
 unfoldable pub use Rattle.run_history.specs.Machine.{start, start_machine}

@@ -118,7 +118,7 @@ impl<R: AccessRule> Cpu<R> {
         &mut self,
         alloc: Global,
         env: Env,
-        budget: u32,
+        budget: u64,
         steps: &mut Steps<L>,
     ) -> Result<Event, AllocError>
         requires lives { self.old.slots.live.ended ≡ None }
@@ -130,7 +130,7 @@ impl<R: AccessRule> Cpu<R> {
     {
         self.space.sound();
         'run: loop {
-            let most = u64::from(budget).saturating_sub(self.core.marks.since);
+            let most = budget.saturating_sub(self.core.marks.since);
             go_quietly(
                 &mut self.core,
                 &mut self.space,

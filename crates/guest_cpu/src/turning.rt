@@ -62,7 +62,7 @@ pub fn advance<R: AccessRule, L: Ledger>(
     space: &mut GuestSpace,
     rule: &R,
     env: Env,
-    budget: u32,
+    budget: u64,
     steps: &mut Steps<L>,
     windows: &mut Windows,
 ) -> Result<Option<Event>, AllocError>
@@ -74,7 +74,7 @@ pub fn advance<R: AccessRule, L: Ledger>(
     ensures keeps { KeepsTurn budget core.old result core.new }
     ensures counted { steps.new + core.old.marks.steps ≡ steps.old + core.new.marks.steps }
 {
-    if core.marks.since >= u64::from(budget) {
+    if core.marks.since >= budget {
         return Ok(Some(Event::Failed(Cause::Hang)));
     }
     match meet(alloc, core, space, rule, steps) {

@@ -21,7 +21,12 @@ fn choices_and_laws(rt: HostRuntime) -> Result<(), Fail> {
         (4080, false, 16, false),
     ] {
         let ask = Ask::Malloc { size };
-        let choice = Choice { ask, at, zeroed };
+        let choice = Choice {
+            ask,
+            at,
+            zeroed,
+            carried: 0,
+        };
         assert_eq!(rt;
             legal_choice(choice, &book, ask),
             want,
@@ -34,11 +39,13 @@ fn choices_and_laws(rt: HostRuntime) -> Result<(), Fail> {
         ask: calloc,
         at: 4128,
         zeroed: true,
+        carried: 0,
     };
     let left = Choice {
         ask: calloc,
         at: 4128,
         zeroed: false,
+        carried: 0,
     };
     assert!(rt; legal_choice(zeroed, &book, calloc));
     assert!(rt; !legal_choice(zeroed, &book, swapped));
@@ -53,6 +60,38 @@ fn choices_and_laws(rt: HostRuntime) -> Result<(), Fail> {
         assert_eq!(rt; may_ask(ask, &book), good, "{old}");
         assert_eq!(rt; kept_count(ask, &book), kept, "{old} to {size} bytes");
     }
+    // Eight bytes are kept, and so many carried: none onto a live block, and none beside null.
+    assert!(rt; book.put(4144, 1));
+    for (at, carried, want) in [
+        (4112, 0, false),
+        (4128, 0, true),
+        (4128, 8, true),
+        (4128, 9, false),
+        (4136, 1, false),
+        (0, 0, true),
+        (0, 1, false),
+    ] {
+        let ask = Ask::Realloc { old: 4096, size: 8 };
+        let choice = Choice {
+            ask,
+            at,
+            zeroed: false,
+            carried,
+        };
+        assert_eq!(rt;
+            legal_choice(choice, &book, ask),
+            want,
+            "at {at}, {carried} bytes are carried"
+        );
+    }
+    let malloc = Ask::Malloc { size: 8 };
+    let carrying = Choice {
+        ask: malloc,
+        at: 4128,
+        zeroed: false,
+        carried: 1,
+    };
+    assert!(rt; !legal_choice(carrying, &book, malloc));
     laws::runs_compose();
     laws::runs_stay();
     laws::outputs_grow();

@@ -16,6 +16,8 @@ enum Call {
     Calloc(Env, u32, u32, u32, bool),
     // The old address and the size, and the answer.
     Realloc(Env, u32, u32, u32, bool),
+    // The same, and how many bytes are carried.
+    Carries(Env, u32, u32, u32, bool, u32),
     // An old address that is bad.
     BadRealloc(Env, u32),
     // The address, and whether it may be freed.
@@ -153,8 +155,8 @@ static AGAIN_PLAIN: [Call; 9] = [
 #[rattlefmt::skip]
 static AGAIN_PAD: [Call; 3] = [
     Call::Calloc(Env::Pad, 4, 4, H + 256, true), // an extent from H to H + 528
-    Call::Realloc(Env::Pad, H + 256, 16, H + 784, false), // and on to H + 1056
-    Call::Realloc(Env::Pad, H + 784, 16, H + 256, false),
+    Call::Carries(Env::Pad, H + 256, 16, H + 784, false, 256), // and on to H + 1056
+    Call::Carries(Env::Pad, H + 784, 16, H + 256, false, 256),
 ];
 
 #[rattlefmt::skip]
@@ -183,8 +185,21 @@ static AGAIN_DELAY: [Call; 6] = [
 #[rattlefmt::skip]
 static AGAIN_ALL: [Call; 3] = [
     Call::Calloc(Env::All, 1, 16, H + 33024, true), // an extent from the middle to H + 33296
-    Call::Realloc(Env::All, H + 33024, 16, H + 33552, true),
+    Call::Carries(Env::All, H + 33024, 16, H + 33552, true, 256),
     Call::BadRealloc(Env::All, H + 33024),
+];
+
+// What comes of an old block's extent: as many bytes behind its size as both extents have behind what both blocks have.
+#[rattlefmt::skip]
+static CARRIED: [Call; 8] = [
+    Call::Malloc(Env::Plain, 20, H, false), // reserves 32, without padding
+    Call::Carries(Env::Pad, H, 40, H + 288, false, 12), // an extent from H + 32 to H + 592
+    Call::Carries(Env::Pad, H + 288, 8, H + 848, false, 264), // the new one has 272 bytes from there on, and 8 are kept
+    Call::Realloc(Env::Plain, H + 848, 100, H, false), // only an environment that pads brings them
+    Call::Realloc(Env::Zero, H, 4, H + 112, true),
+    Call::Carries(Env::All, H + 112, 32, H + 33024, true, 12),
+    Call::Realloc(Env::Pad, 0, 16, H + 256, false), // in place of none
+    Call::Realloc(Env::Pad, H + 256, 0xffff_ffff, 0, false),
 ];
 
 fn try_call(rt: &impl Abort, book: &mut Book, call: Call) {
@@ -194,7 +209,12 @@ fn try_call(rt: &impl Abort, book: &mut Book, call: Call) {
             let ask = Ask::Malloc { size };
             assert_eq!(rt;
                 choice,
-                Choice { ask, at, zeroed },
+                Choice {
+                    ask,
+                    at,
+                    zeroed,
+                    carried: 0
+                },
                 "{size} bytes in {env:?}"
             );
         }
@@ -203,7 +223,12 @@ fn try_call(rt: &impl Abort, book: &mut Book, call: Call) {
             let ask = Ask::Calloc { count, size };
             assert_eq!(rt;
                 choice,
-                Choice { ask, at, zeroed },
+                Choice {
+                    ask,
+                    at,
+                    zeroed,
+                    carried: 0
+                },
                 "{count} times {size} bytes in {env:?}"
             );
         }
@@ -212,7 +237,26 @@ fn try_call(rt: &impl Abort, book: &mut Book, call: Call) {
             let ask = Ask::Realloc { old, size };
             assert_eq!(rt;
                 answer,
-                Ok(Choice { ask, at, zeroed }),
+                Ok(Choice {
+                    ask,
+                    at,
+                    zeroed,
+                    carried: 0
+                }),
+                "{old} to {size} bytes in {env:?}"
+            );
+        }
+        Call::Carries(env, old, size, at, zeroed, carried) => {
+            let answer = serve_realloc(env, book, old, size);
+            let ask = Ask::Realloc { old, size };
+            assert_eq!(rt;
+                answer,
+                Ok(Choice {
+                    ask,
+                    at,
+                    zeroed,
+                    carried
+                }),
                 "{old} to {size} bytes in {env:?}"
             );
         }
@@ -261,6 +305,7 @@ fn environments_answer_by_the_table(rt: HostRuntime) -> Result<(), Fail> {
     try_calls(&rt, rt.alloc(), &AGAIN_ISOLATE)?;
     try_calls(&rt, rt.alloc(), &AGAIN_DELAY)?;
     try_calls(&rt, rt.alloc(), &AGAIN_ALL)?;
+    try_calls(&rt, rt.alloc(), &CARRIED)?;
     try_calls(&rt, rt.alloc(), &ALL)
 }
 

@@ -163,10 +163,19 @@ fn books_take_blocks_and_copies(rt: HostRuntime) -> Result<(), Fail> {
     assert_eq!(rt; (copy.start(), copy.end()), (4096, 4160));
     assert_eq!(rt; copy.live_size(4112), Some(17));
     assert_eq!(rt; copy.live_size(4128), None);
+    assert_eq!(rt;
+        (copy.live_reach(4112), copy.live_reach(4128)),
+        (Some(32), None)
+    );
+    assert_eq!(rt;
+        (copy.kept(4112, 20), copy.kept(4112, 5), copy.kept(4128, 5)),
+        (17, 5, 0)
+    );
     let null = Choice {
         ask: Ask::Malloc { size: 1 },
         at: 0,
         zeroed: false,
+        carried: 0,
     };
     let choices = Choices::from_vec(vec![in rt.alloc(); null]?);
     assert_eq!(rt; choices.as_slice(), [null].as_slice());

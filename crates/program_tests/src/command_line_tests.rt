@@ -50,7 +50,7 @@ fn are_answered(
 
 // What `run p --record r --report t` is, in whatever order.
 const SHORTEST: &str =
-    "Some(Run(RunCommand { program: \"p\", recording: \"r\", report: \"t\", form: Text, frame: Line, window: 4, hold: 0, ring: 8, every: 1, frames: 4, budget: 1000000, guard: Off }))";
+    "Some(Run(RunCommand { program: \"p\", recording: \"r\", report: \"t\", form: Text, frame: Line, window: 4, hold: 0, ring: 8, every: 1, frames: 4, budget: 1000000, keep: 4, guard: Off }))";
 
 // The program and the two names in each order.
 const ORDERS: &str = "\
@@ -60,15 +60,16 @@ const ORDERS: &str = "\
     run --report t p --record r\n\
     run --record r --report t p\n\
     run --report t --record r p\n\
-    run --hold 0 p --window 4 --record r --ring 8 --report t --budget 1000000\n\
+    run --hold 0 p --window 4 --record r --ring 8 --report t --budget 1000000 --keep 4\n\
     run --guard off --durable on --budget 1000000 --report t --frames 4 --record r --every 1 p --form text\n";
 
 const ACCEPTED: &str = "\
-    run --record r --report t p --form json --frame length --window 64 --hold 1000 --ring 16 --every 64 --frames 16 --budget 16777216 --guard block => Some(Run(RunCommand { program: \"p\", recording: \"r\", report: \"t\", form: Json, frame: Length, window: 64, hold: 1000, ring: 16, every: 64, frames: 16, budget: 16777216, guard: Block }))\n\
-    run p --guard extent --budget 1 --frames 2 --every 1 --ring 1 --hold 0 --window 1 --frame whole --form text --report t --record r => Some(Run(RunCommand { program: \"p\", recording: \"r\", report: \"t\", form: Text, frame: Whole, window: 1, hold: 0, ring: 1, every: 1, frames: 2, budget: 1, guard: Extent }))\n\
-    run --frame line --ring 10 p --hold 9 --record r --every 7 --report t --window 5 => Some(Run(RunCommand { program: \"p\", recording: \"r\", report: \"t\", form: Text, frame: Line, window: 5, hold: 9, ring: 10, every: 7, frames: 4, budget: 1000000, guard: Off }))\n\
-    run run --record asm --report = => Some(Run(RunCommand { program: \"run\", recording: \"asm\", report: \"=\", form: Text, frame: Line, window: 4, hold: 0, ring: 8, every: 1, frames: 4, budget: 1000000, guard: Off }))\n\
-    run 0 --record a-b --report c--d --frames 3 --budget 999 => Some(Run(RunCommand { program: \"0\", recording: \"a-b\", report: \"c--d\", form: Text, frame: Line, window: 4, hold: 0, ring: 8, every: 1, frames: 3, budget: 999, guard: Off }))\n\
+    run --record r --report t p --form json --frame length --window 64 --hold 1000 --ring 16 --every 64 --frames 16 --budget 68719476736 --keep 4294967295 --guard block => Some(Run(RunCommand { program: \"p\", recording: \"r\", report: \"t\", form: Json, frame: Length, window: 64, hold: 1000, ring: 16, every: 64, frames: 16, budget: 68719476736, keep: 4294967295, guard: Block }))\n\
+    run p --guard extent --keep 1 --budget 1 --frames 2 --every 1 --ring 1 --hold 0 --window 1 --frame whole --form text --report t --record r => Some(Run(RunCommand { program: \"p\", recording: \"r\", report: \"t\", form: Text, frame: Whole, window: 1, hold: 0, ring: 1, every: 1, frames: 2, budget: 1, keep: 1, guard: Extent }))\n\
+    run --frame line --ring 10 p --hold 9 --record r --every 7 --report t --window 5 => Some(Run(RunCommand { program: \"p\", recording: \"r\", report: \"t\", form: Text, frame: Line, window: 5, hold: 9, ring: 10, every: 7, frames: 4, budget: 1000000, keep: 4, guard: Off }))\n\
+    run run --record asm --report = => Some(Run(RunCommand { program: \"run\", recording: \"asm\", report: \"=\", form: Text, frame: Line, window: 4, hold: 0, ring: 8, every: 1, frames: 4, budget: 1000000, keep: 4, guard: Off }))\n\
+    run 0 --record a-b --report c--d --frames 3 --budget 999 => Some(Run(RunCommand { program: \"0\", recording: \"a-b\", report: \"c--d\", form: Text, frame: Line, window: 4, hold: 0, ring: 8, every: 1, frames: 3, budget: 999, keep: 4, guard: Off }))\n\
+    run p --budget 4294967297 --record r --report t => Some(Run(RunCommand { program: \"p\", recording: \"r\", report: \"t\", form: Text, frame: Line, window: 4, hold: 0, ring: 8, every: 1, frames: 4, budget: 4294967297, keep: 4, guard: Off }))\n\
     asm a b => Some(Asm(AsmCommand { source: \"a\", out: \"b\" }))\n\
     asm asm run => Some(Asm(AsmCommand { source: \"asm\", out: \"run\" }))\n\
     replay p r => Some(Replay(ReplayCommand { program: \"p\", recording: \"r\" }))\n\
@@ -77,16 +78,16 @@ const ACCEPTED: &str = "\
     convert p p q => Some(Convert(ConvertCommand { program: \"p\", recording: \"p\", out: \"q\" }))\n\
     convert p r p => Some(Convert(ConvertCommand { program: \"p\", recording: \"r\", out: \"p\" }))\n\
     standby p r c --record o => Some(Standby(StandbyCommand { program: \"p\", recorded: \"r\", counts: \"c\", recording: \"o\", budget: 1000000 }))\n\
-    standby --budget 16777216 p --record o r c => Some(Standby(StandbyCommand { program: \"p\", recorded: \"r\", counts: \"c\", recording: \"o\", budget: 16777216 }))\n\
+    standby --budget 68719476736 p --record o r c => Some(Standby(StandbyCommand { program: \"p\", recorded: \"r\", counts: \"c\", recording: \"o\", budget: 68719476736 }))\n\
     standby 1 2 3 --budget 1 --record standby => Some(Standby(StandbyCommand { program: \"1\", recorded: \"2\", counts: \"3\", recording: \"standby\", budget: 1 }))\n\
-    resume p r q c --record o --report t => Some(Resume(ResumeCommand { program: \"p\", recorded: \"r\", reported: \"q\", counts: \"c\", recording: \"o\", report: \"t\", form: Text, hold: 0, ring: 8, every: 1, frames: 4, budget: 1000000, guard: Off }))\n\
-    resume --hold 1000 1 --ring 16 2 --every 64 3 --report 6 --record 5 4 --frames 16 --budget 1 --form json --guard block --durable on --tell off => Some(Resume(ResumeCommand { program: \"1\", recorded: \"2\", reported: \"3\", counts: \"4\", recording: \"5\", report: \"6\", form: Json, hold: 1000, ring: 16, every: 64, frames: 16, budget: 1, guard: Block }))\n\
-    serve p 80 1 --record r --report t => Some(Serve(ServeCommand { session: RunCommand { program: \"p\", recording: \"r\", report: \"t\", form: Text, frame: Line, window: 4, hold: 0, ring: 8, every: 1, frames: 4, budget: 1000000, guard: Off }, port: 80, conns: 1, patience: 60, at_once: 1 }))\n\
-    serve --patience 0 p --record 80 --report 1 65535 --frame whole 4096 --form json --window 64 --ring 16 --every 64 --frames 16 --budget 16777216 => Some(Serve(ServeCommand { session: RunCommand { program: \"p\", recording: \"80\", report: \"1\", form: Json, frame: Whole, window: 64, hold: 0, ring: 16, every: 64, frames: 16, budget: 16777216, guard: Off }, port: 65535, conns: 4096, patience: 0, at_once: 1 }))\n\
-    serve 1 1 1 --record r --report t --patience 3600 --guard extent => Some(Serve(ServeCommand { session: RunCommand { program: \"1\", recording: \"r\", report: \"t\", form: Text, frame: Line, window: 4, hold: 0, ring: 8, every: 1, frames: 4, budget: 1000000, guard: Extent }, port: 1, conns: 1, patience: 3600, at_once: 1 }))\n\
-    serve p 80 2 --at-once 256 --record r --report t => Some(Serve(ServeCommand { session: RunCommand { program: \"p\", recording: \"r\", report: \"t\", form: Text, frame: Line, window: 4, hold: 0, ring: 8, every: 1, frames: 4, budget: 1000000, guard: Off }, port: 80, conns: 2, patience: 60, at_once: 256 }))\n\
-    diagnose p --record r --report t --diagnosis d => Some(Diagnose(DiagnoseCommand { session: RunCommand { program: \"p\", recording: \"r\", report: \"t\", form: Text, frame: Line, window: 4, hold: 0, ring: 8, every: 1, frames: 4, budget: 1000000, guard: Off }, diagnosis: \"d\" }))\n\
-    diagnose --diagnosis d --hold 7 --report t p --record r --form json => Some(Diagnose(DiagnoseCommand { session: RunCommand { program: \"p\", recording: \"r\", report: \"t\", form: Json, frame: Line, window: 4, hold: 7, ring: 8, every: 1, frames: 4, budget: 1000000, guard: Off }, diagnosis: \"d\" }))\n\
+    resume p r q c --record o --report t => Some(Resume(ResumeCommand { program: \"p\", recorded: \"r\", reported: \"q\", counts: \"c\", recording: \"o\", report: \"t\", form: Text, hold: 0, ring: 8, every: 1, frames: 4, budget: 1000000, keep: 4, guard: Off }))\n\
+    resume --hold 1000 1 --ring 16 2 --every 64 3 --report 6 --record 5 4 --frames 16 --keep 12 --budget 1 --form json --guard block --durable on --tell off => Some(Resume(ResumeCommand { program: \"1\", recorded: \"2\", reported: \"3\", counts: \"4\", recording: \"5\", report: \"6\", form: Json, hold: 1000, ring: 16, every: 64, frames: 16, budget: 1, keep: 12, guard: Block }))\n\
+    serve p 80 1 --record r --report t => Some(Serve(ServeCommand { session: RunCommand { program: \"p\", recording: \"r\", report: \"t\", form: Text, frame: Line, window: 4, hold: 0, ring: 8, every: 1, frames: 4, budget: 1000000, keep: 4, guard: Off }, port: 80, conns: 1, patience: 60, at_once: 1 }))\n\
+    serve --patience 0 p --record 80 --report 1 65535 --frame whole 4096 --form json --window 64 --ring 16 --every 64 --frames 16 --budget 68719476736 => Some(Serve(ServeCommand { session: RunCommand { program: \"p\", recording: \"80\", report: \"1\", form: Json, frame: Whole, window: 64, hold: 0, ring: 16, every: 64, frames: 16, budget: 68719476736, keep: 4, guard: Off }, port: 65535, conns: 4096, patience: 0, at_once: 1 }))\n\
+    serve 1 1 1 --record r --report t --patience 3600 --guard extent --keep 2 => Some(Serve(ServeCommand { session: RunCommand { program: \"1\", recording: \"r\", report: \"t\", form: Text, frame: Line, window: 4, hold: 0, ring: 8, every: 1, frames: 4, budget: 1000000, keep: 2, guard: Extent }, port: 1, conns: 1, patience: 3600, at_once: 1 }))\n\
+    serve p 80 2 --at-once 256 --record r --report t => Some(Serve(ServeCommand { session: RunCommand { program: \"p\", recording: \"r\", report: \"t\", form: Text, frame: Line, window: 4, hold: 0, ring: 8, every: 1, frames: 4, budget: 1000000, keep: 4, guard: Off }, port: 80, conns: 2, patience: 60, at_once: 256 }))\n\
+    diagnose p --record r --report t --diagnosis d => Some(Diagnose(DiagnoseCommand { session: RunCommand { program: \"p\", recording: \"r\", report: \"t\", form: Text, frame: Line, window: 4, hold: 0, ring: 8, every: 1, frames: 4, budget: 1000000, keep: 4, guard: Off }, diagnosis: \"d\" }))\n\
+    diagnose --diagnosis d --hold 7 --keep 8 --report t p --record r --form json => Some(Diagnose(DiagnoseCommand { session: RunCommand { program: \"p\", recording: \"r\", report: \"t\", form: Json, frame: Line, window: 4, hold: 7, ring: 8, every: 1, frames: 4, budget: 1000000, keep: 8, guard: Off }, diagnosis: \"d\" }))\n\
     drill 0 1 => Some(Drill(DrillCommand { seed: 0, count: 1 }))\n\
     drill 4294967295 100000 => Some(Drill(DrillCommand { seed: 4294967295, count: 100000 }))\n\
     drill 7 7 => Some(Drill(DrillCommand { seed: 7, count: 7 }))\n\
@@ -119,10 +120,15 @@ const REFUSED_ENDS: &str = "\
     --frames 1\n\
     --frames 17\n\
     --budget 0\n\
-    --budget 16777217\n\
-    --budget 4294967296\n\
-    --budget 4294967297\n\
+    --budget 68719476737\n\
     --budget 12345678901234567890\n\
+    --budget 18446744073709551617\n\
+    --hold 4294967296\n\
+    --keep 0\n\
+    --keep 04\n\
+    --keep 4294967296\n\
+    --keep\n\
+    --keep 4 --keep 4\n\
     --form xml\n\
     --form Text\n\
     --form \n\
@@ -214,13 +220,14 @@ const REFUSED: &str = "\n \n\
     standby p r c --record c\n\
     standby p r -c --record o\n\
     standby p r c --record o --budget 0\n\
-    standby p r c --record o --budget 16777217\n\
+    standby p r c --record o --budget 68719476737\n\
     standby p r c --record o --budget 01\n\
     standby p r c --record o --record o\n\
     standby p r c --record o --window 4\n\
     standby p r c --record o --frame line\n\
     standby p r c --record o --report t\n\
     standby p r c --record o --tell off\n\
+    standby p r c --record o --keep 4\n\
     resume\n\
     resume p r c --record o --report t\n\
     resume p r q c --record o\n\
@@ -238,6 +245,7 @@ const REFUSED: &str = "\n \n\
     resume p r q c --record o --report t --frame line\n\
     resume p r q c --record o --report t --hold 1001\n\
     resume p r q c --record o --report t --ring 0\n\
+    resume p r q c --record o --report t --keep 0\n\
     stand p r c --record o\n\
     run p --record r --report t --patience 5\n\
     serve\n\
@@ -332,7 +340,9 @@ const COMPLAINTS: &str =
     run p --frame lines => word 4: --frame is line or length or whole, not lines\n\
     run p --guard on => word 4: --guard is off or extent or block, not on\n\
     run p -h => word 3: -h is no option of run\n\
+    run p --keep 0 => word 4: --keep is 1 to 4294967295, not 0\n\
     run p q => word 3: q is one name too many for run\n\
+    run p --budget 68719476737 => word 4: --budget is 1 to 68719476736, not 68719476737\n\
     run  => word 2: PROGRAM is a name, not nothing\n\
     run => word 2: PROGRAM is missing\n\
     run p => word 3: --record is missing, a name\n\
@@ -351,7 +361,7 @@ const COMPLAINTS: &str =
     standby p r => word 4: COUNTS is missing\n\
     standby p r c => word 5: --record is missing, a name\n\
     standby p r c --window 4 => word 5: --window is no option of standby\n\
-    standby p r c --budget 0 => word 6: --budget is 1 to 16777216, not 0\n\
+    standby p r c --budget 0 => word 6: --budget is 1 to 68719476736, not 0\n\
     standby r r c --record o => word 3: PROGRAM and RECORD are two names, not r twice\n\
     standby c r c --record o => word 4: PROGRAM and COUNTS are two names, not c twice\n\
     standby p r r --record o => word 4: RECORD and COUNTS are two names, not r twice\n\
@@ -374,7 +384,8 @@ const RUN_USAGE: &str = "run PROGRAM and in any place, each once:
   --ring 1 to 16 (8)
   --every 1 to 64 (1)
   --frames 2 to 16 (4)
-  --budget 1 to 16777216 (1000000)
+  --budget 1 to 68719476736 (1000000)
+  --keep 1 to 4294967295 (4)
   --guard off or extent or block (off)
   --tell auto or on or off (auto)
   --durable on or off (off)
@@ -388,7 +399,8 @@ const RESUME_USAGE: &str = "resume PROGRAM RECORD REPORT COUNTS and in any place
   --ring 1 to 16 (8)
   --every 1 to 64 (1)
   --frames 2 to 16 (4)
-  --budget 1 to 16777216 (1000000)
+  --budget 1 to 68719476736 (1000000)
+  --keep 1 to 4294967295 (4)
   --guard off or extent or block (off)
   --tell auto or on or off (auto)
   --durable on or off (off)
@@ -396,7 +408,7 @@ const RESUME_USAGE: &str = "resume PROGRAM RECORD REPORT COUNTS and in any place
 
 const STANDBY_USAGE: &str = "standby PROGRAM RECORD COUNTS and in any place, each once:
   --record a name, always
-  --budget 1 to 16777216 (1000000)
+  --budget 1 to 68719476736 (1000000)
 ";
 
 const OTHERS_USAGE: &str = "asm SOURCE OUT
@@ -404,7 +416,7 @@ replay PROGRAM RECORD
 convert PROGRAM RECORD OUT
 standby PROGRAM RECORD COUNTS and in any place, each once:
   --record a name, always
-  --budget 1 to 16777216 (1000000)
+  --budget 1 to 68719476736 (1000000)
 resume PROGRAM RECORD REPORT COUNTS and in any place, each once:
   --record a name, always
   --report a name, always
@@ -413,7 +425,8 @@ resume PROGRAM RECORD REPORT COUNTS and in any place, each once:
   --ring 1 to 16 (8)
   --every 1 to 64 (1)
   --frames 2 to 16 (4)
-  --budget 1 to 16777216 (1000000)
+  --budget 1 to 68719476736 (1000000)
+  --keep 1 to 4294967295 (4)
   --guard off or extent or block (off)
   --tell auto or on or off (auto)
   --durable on or off (off)
@@ -429,7 +442,8 @@ const SERVE_USAGE: &str =
   --ring 1 to 16 (8)
   --every 1 to 64 (1)
   --frames 2 to 16 (4)
-  --budget 1 to 16777216 (1000000)
+  --budget 1 to 68719476736 (1000000)
+  --keep 1 to 4294967295 (4)
   --guard off or extent or block (off)
   --patience 0 to 3600 (60)
   --at-once 1 to 256 (1)
@@ -448,7 +462,8 @@ const DIAGNOSE_USAGE: &str = "diagnose PROGRAM and in any place, each once:
   --ring 1 to 16 (8)
   --every 1 to 64 (1)
   --frames 2 to 16 (4)
-  --budget 1 to 16777216 (1000000)
+  --budget 1 to 68719476736 (1000000)
+  --keep 1 to 4294967295 (4)
   --guard off or extent or block (off)
   --tell auto or on or off (auto)
   --durable on or off (off)
@@ -502,7 +517,8 @@ const SERVE_HELP: &str = "serve PROGRAM PORT CONNS --record NAME --report NAME [
   --ring 1 to 16 (8): How many checkpoints of the program are kept at most.
   --every 1 to 64 (1): How many items are taken from one checkpoint to the next at least.
   --frames 2 to 16 (4): How often the memory of the program is taken, for it and its checkpoints.
-  --budget 1 to 16777216 (1000000): How many instructions may come from one item to the next.
+  --budget 1 to 68719476736 (1000000): How many instructions may come from one item to the next. 1000000 take 4 ms, 250000000 a second.
+  --keep 1 to 4294967295 (4): For how many items more an environment that survived stays in force.
   --guard off or extent or block (off): Which accesses to the heap are refused, by its blocks.
   --patience 0 to 3600 (60): For how many seconds a client is waited for. With 0 it is without limit.
   --at-once 1 to 256 (1): How many clients are served at the same time. With 1 it is one after another.

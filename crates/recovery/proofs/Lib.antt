@@ -3,6 +3,7 @@ pub mod Stands
 pub mod Joining
 pub mod Few
 pub mod Starting
+pub mod Staying
 pub mod Running
 pub mod Coming
 pub mod Sending

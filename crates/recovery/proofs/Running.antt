@@ -1,22 +1,22 @@
 -- The guest of a trial runs to its next event: what that makes of the trial.
 use Rattle.rx_base.proofs.Budgets.{few_in_all}
 use Rattle.guest_cpu.specs.declared.event.Event.TheVariants as event
-use Rattle.run_history.specs.Touching.{Range}
 use Rattle.guest_cpu.specs.Running.{RunsBy}
 use Rattle.guest_cpu.proofs.ServingLemmas.{turns_serve}
 use Rattle.guest_cpu.proofs.OneMore.{one_more}
 use Rattle.guest_cpu.proofs.TurnEvents.{Means, turn_means}
 use Rattle.guest_cpu.proofs.TurnWrites.{WritesAs, turn_writes}
 use Rattle.guest_cpu.proofs.QuietRuns.{goes_one, goes_on, ComesWriting, comes_writing}
-use Rattle.recovery.proofs.Terms.{AllocError, Bool, List, None, Option, Some, [], ap, arith, drop, false, length, refl, subst, sym, take, true, ℕ, ◌*◌, ◌++◌, ◌+◌, ◌-◌, ◌<◌, ◌^◌, ◌∙◌, ◌∷◌, ◌≡◌, ◌≤◌, Ok, Result, replicate, slice_get, unwrap_or, Item, MAX_ITEMS, Send, sent_to, Choice, Heap, Env, Log, Ledger, agree, served_next_more, may_send, Machine, State, Limits, Override, Path, env_at, planned_next, served_next, limits_of, Event, runs_write, writes_on, writes_then, CpuState, live_of, with_live, GoesOn, IsSilent, Adds, standing_of, Live, Standing, Turn, live_after, turn, with_range, RunsWriting, Writes, writes, served_on, env_within, everywhere, IsUnharmed, CanGoOn, Failure, IsUnder, items_of, pieces_of, IsTrying, KeepsBase, KeepsSaved}
+use Rattle.recovery.proofs.Terms.{AllocError, Bool, List, None, Option, Some, [], ap, arith, drop, false, length, refl, subst, sym, take, true, ℕ, ◌*◌, ◌++◌, ◌+◌, ◌-◌, ◌<◌, ◌^◌, ◌∙◌, ◌∷◌, ◌≡◌, ◌≤◌, Ok, Result, replicate, slice_get, unwrap_or, Item, MAX_ITEMS, Send, sent_to, Choice, Heap, Env, Log, Ledger, agree, served_next_more, may_send, Machine, State, Limits, Override, Path, env_at, planned_next, served_next, Range, limits_of, Event, runs_write, writes_on, writes_then, CpuState, live_of, with_live, GoesOn, IsSilent, Adds, standing_of, Live, Standing, Turn, live_after, turn, with_range, RunsWriting, Writes, writes, served_on, env_within, everywhere, IsUnharmed, CanGoOn, Failure, IsUnder, items_of, pieces_of, IsTrying, KeepsBase, KeepsSaved}
 use Rattle.recovery.proofs.Few.{few_items}
 use Rattle.recovery.proofs.Starting.{failed_still}
+use Rattle.recovery.proofs.Staying.{turns_by}
 
 -- the plan of a trial on its way has its environment
 pub force_is : (keep : ℕ) (env : Env) (point taken : ℕ) → 1 ≤ keep → taken ≤ point → env_at (everywhere keep env point) taken ≡ env
 force_is keep env point taken some early = env_within [] 0 (point + keep) env taken (omega arith) (omega (arith, some, early))
 
-room : (steps at taken since budget : ℕ) → at ≡ steps → steps ≤ taken * (budget + 1) + since → since ≤ budget → taken ≤ MAX_ITEMS → budget ≤ 2 ^ 24 → at + budget < 2 ^ 64 - 1
+room : (steps at taken since budget : ℕ) → at ≡ steps → steps ≤ taken * (budget + 1) + since → since ≤ budget → taken ≤ MAX_ITEMS → budget ≤ 2 ^ 36 → at + budget < 2 ^ 64 - 1
 room steps at taken since budget same bounded last few budgeted =
     omega (arith, same, bounded, last, budgeted, few_in_all taken budget few (omega (arith, budgeted)))
 
@@ -168,7 +168,9 @@ module _ {R : Type 0} {failure : Failure} {point : ℕ} {checkpoint : Path} {env
 
   module _ (new : CpuState R) {budget : ℕ} (permits : Heap → ℕ → ℕ → Bool) (under : IsUnder failure budget permits) where
     ran_under : (result : Result Event AllocError) → Ran budget permits env old new result → RunsBy event.Emits (turn failure.rules.limits env) old.base (live_of old) result (live_of new)
-    ran_under result ran = subst (λ (limits : Limits). RunsBy event.Emits (turn limits env) old.base (live_of old) result (live_of new)) (sym under) ran
+    ran_under result ran =
+        subst (λ (limits : Limits). RunsBy event.Emits (turn limits env) old.base (live_of old) result (live_of new)) (sym under)
+        (subst (λ (next : Standing → Option (Turn Event)). RunsBy event.Emits next old.base (live_of old) result (live_of new)) (turns_by (record (limits_of budget permits) { keep = failure.rules.limits.keep }) env) ran)
 
     -- its run goes on so, and writes the pages that the guest marks
     pub ran_on : (result : Result Event AllocError) → Ran budget permits env old new result → RunsWriting failure.rules.limits (items_of failure) (everywhere failure.rules.limits.keep env point) old.base t.path old.written result (live_of new)

@@ -57,15 +57,15 @@ items_of failure = items_in failure.rules.bounds failure.entries
 abbrev pub pieces_of : Failure → List Send
 pieces_of failure = passed_in failure.rules.bounds failure.entries
 
--- a session allows its guest so many instructions between two items, by this rule
+-- a session allows its guest so many instructions between two items, by this rule, for however many items it keeps an environment
 abbrev pub IsUnder : Failure → ℕ → (Heap → ℕ → ℕ → Bool) → Type 0
-IsUnder failure budget permits = failure.rules.limits ≡ limits_of budget permits
+IsUnder failure budget permits = failure.rules.limits ≡ record (limits_of budget permits) { keep = failure.rules.limits.keep }
 
 -- the session failed so, with so many items taken
 pub record FailedAt {R : Type 0} (point : ℕ) (failure : Failure) (cpu : CpuState R) (log : Log) (ledger : Ledger) : Type 0 where
   pub has : HasFailed failure.rules failure.image failure.entries failure.plan failure.failed failure.ring cpu log ledger
   pub point_is : failure.failed.state.machine.taken ≡ point
-  pub few_steps : failure.rules.limits.budget ≤ 2 ^ 24
+  pub few_steps : failure.rules.limits.budget ≤ 2 ^ 36
   pub some_keep : 1 ≤ failure.rules.limits.keep
 
 -- from there trials can be made

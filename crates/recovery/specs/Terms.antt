@@ -26,17 +26,19 @@ pub use Rattle.guest_image.specs.declared.image.Image.{Image}
 pub use Rattle.guest_image.specs.Image.{base}
 pub use Rattle.run_history.specs.declared.answer.Cause.{Cause}
 pub use Rattle.run_history.specs.Call.{may_send}
-pub use Rattle.run_history.specs.Machine.{Machine, State, Wants}
+pub use Rattle.run_history.specs.Machine.{Fails, Machine, State, Wants}
 unfoldable pub use Rattle.run_history.specs.Machine.{start, start_machine}
-pub use Rattle.run_history.specs.Served.{AsksFor, FailsBy, Limits, Override, Path, Served, env_at, listed, origin, planned_next}
-unfoldable pub use Rattle.run_history.specs.Served.{served_next}
+pub use Rattle.run_history.specs.Served.{AsksFor, FailsBy, Limits, Override, Path, Served, does_with, env_at, is_refused, listed, origin, planned_next}
+unfoldable pub use Rattle.run_history.specs.Served.{grant, served_next, serves}
+pub use Rattle.run_history.specs.Touching.{Range}
+unfoldable pub use Rattle.run_history.specs.Touching.{instruction_at, touched}
 pub use Rattle.rv_exec.specs.Stepping.{limits_of}
 pub use Rattle.guest_cpu.specs.declared.event.Event.{Event}
 pub use Rattle.guest_cpu.specs.declared.marks.Marks.{Marks}
 pub use Rattle.guest_cpu.specs.Cpus.{CpuState, IsFreshCpu, live_of, with_live}
 pub use Rattle.guest_cpu.specs.Runs.{GoesOn, IsBounded, IsSilent, TakesOn}
 pub use Rattle.guest_cpu.specs.Serving.{Adds, standing_of}
-pub use Rattle.guest_cpu.specs.Standing.{Live, Standing, Turn, live_after, marks_of, with_range}
+pub use Rattle.guest_cpu.specs.Standing.{Live, Standing, Turn, live_after, marks_of, turn_of, with_range}
 unfoldable pub use Rattle.guest_cpu.specs.Standing.{turn}
 pub use Rattle.guest_cpu.specs.Writing.{RunsWriting, TakesWriting, Writes, writes}
 pub use Rattle.session_history.specs.Heeding.{Before, Bounds, LimitEvents, LimitItems, TooLong, events_of, heeded, items_in, nothing_before, received, refusal}

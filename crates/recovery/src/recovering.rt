@@ -58,7 +58,7 @@ impl<R: AccessRule> Recoverable<R> {
     fn walk_watched<W: Watch, L: Ledger>(
         &mut self,
         site: FailureSite,
-        budget: u32,
+        budget: u64,
         own: &mut Vec<Choice>,
         watch: &mut W,
         steps: &mut Steps<L>,
@@ -96,7 +96,7 @@ impl<R: AccessRule> Recoverable<R> {
     pub fn recover<W: Watch, L: Ledger>(
         &mut self,
         site: FailureSite,
-        budget: u32,
+        budget: u64,
         watch: &mut W,
         steps: &mut Steps<L>,
     ) -> Result<Recovered, AllocError>

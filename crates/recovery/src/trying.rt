@@ -38,7 +38,7 @@ pub struct TrialLimits {
     /// How many items the program had taken where it failed: a trial has come past that where it asks for one more.
     pub point: u64,
     /// How many instructions may come between two items.
-    pub budget: u32,
+    pub budget: u64,
 }
 
 // The guest stands on a checkpoint, and a trial begins there.

@@ -195,7 +195,7 @@ impl<R: AccessRule> Recoverable<R> {
     pub fn walk<L: Ledger>(
         &mut self,
         site: FailureSite,
-        budget: u32,
+        budget: u64,
         own: &mut Vec<Choice>,
         steps: &mut Steps<L>,
     ) -> Result<Walked, AllocError>

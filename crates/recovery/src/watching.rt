@@ -31,7 +31,7 @@ pub trait Watch {
         &mut self,
         held: &mut Recoverable<R>,
         point: u64,
-        budget: u32,
+        budget: u64,
         steps: &mut Steps<L>,
     ) -> Result<(), AllocError>
         requires failed { CanBeTried budget (R.rule held.old.cpu.rule) point held.old }
@@ -56,7 +56,7 @@ impl Watch for NoWatch {
         &mut self,
         held: &mut Recoverable<R>,
         _point: u64,
-        _budget: u32,
+        _budget: u64,
         _steps: &mut Steps<L>,
     ) -> Result<(), AllocError> {
         held.replies.discard();

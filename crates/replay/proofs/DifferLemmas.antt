@@ -48,8 +48,8 @@ unusable_found : (recording : Recorded) (s : Standing) (ask : Ask) (line : Line)
 unusable_found recording s ask line would here unusable = by (same_ask (unwrap_or line.ask ask) ask) refl
   where
     by : (same : Bool) → same_ask (unwrap_or line.ask ask) ask ≡ same
-        → HasFound recording s (Some (cond same (difference.Unusable s.guest.machine.allocations ask line.at line.zeroed) (difference.OtherAsk s.guest.machine.allocations ask (unwrap_or line.ask ask))))
-    by true same = (would, refl, record { line = line; is = here; tells = same-is (unwrap_or line.ask ask) ask same; address = refl; mark = refl; unusable = unusable })
+        → HasFound recording s (Some (cond same (difference.Unusable s.guest.machine.allocations ask line.at line.zeroed line.carried) (difference.OtherAsk s.guest.machine.allocations ask (unwrap_or line.ask ask))))
+    by true same = (would, refl, record { line = line; is = here; tells = same-is (unwrap_or line.ask ask) ask same; address = refl; mark = refl; carries = refl; unusable = unusable })
     by false apart = (would, refl, record { line = line; is = here; tells = told_is ask line.ask apart; other = other_is (unwrap_or line.ask ask) ask apart })
 
 pub unusable_differs : (recording : Recorded) (old : Option Difference) (s later : Standing) (end : Answer) (number : ℕ) (ask : Ask) (choice : Choice) (line : Line) (found : Difference)
@@ -113,7 +113,7 @@ module _ (recording : Recorded) (entries : List Entry) (replay : Replay) (used :
   found_is (difference.Failed cause) differs apart = same_place (difference.Failed cause) apart
   found_is (difference.NoLine number asked) differs apart = same_place (difference.NoLine number asked) apart
   found_is (difference.OtherAsk number asked told) differs apart = same_place (difference.OtherAsk number asked told) apart
-  found_is (difference.Unusable number asked at zeroed) differs apart = same_place (difference.Unusable number asked at zeroed) apart
+  found_is (difference.Unusable number asked at zeroed carried) differs apart = same_place (difference.Unusable number asked at zeroed carried) apart
   found_is (difference.LinesLeft count lines) differs apart = same_place (difference.LinesLeft count lines) apart
   found_is (difference.ItemsApart taken told) differs apart = same_place (difference.ItemsApart taken told) apart
 

@@ -28,7 +28,8 @@ pub same_answer : {line : Line} {one other : Choice} → IsOfLine line one → I
 same_answer {one = one} {other = other} first second asked =
     let at : one.at ≡ other.at = first.address ∙ sym second.address in
     let zeroed : one.zeroed ≡ other.zeroed = first.mark ∙ sym second.mark in
-    λ i. record { ask = asked i; at = at i; zeroed = zeroed i }
+    let carried : one.carried ≡ other.carried = first.carried ∙ sym second.carried in
+    λ i. record { ask = asked i; at = at i; zeroed = zeroed i; carried = carried i }
 
 -- an answer to an ask is the one that its line tells of there
 asked_by : (known : Option Ask) (choice : Choice) {ask : Ask} → HasAsk known choice → choice.ask ≡ ask → choice.ask ≡ unwrap_or known ask
@@ -40,7 +41,8 @@ choice_is {line = line} {choice = choice} {ask = ask} is asked =
     let same : choice.ask ≡ unwrap_or line.ask ask = asked_by line.ask choice is.asked asked in
     let at = is.address in
     let mark = is.mark in
-    λ i. record { ask = same i; at = at i; zeroed = mark i }
+    let carried = is.carried in
+    λ i. record { ask = same i; at = at i; zeroed = mark i; carried = carried i }
 
 -- and that is one of its line
 has_own : (known : Option Ask) (choice : Choice) (ask : Ask) → choice.ask ≡ unwrap_or known ask → HasAsk known choice
@@ -48,16 +50,16 @@ has_own None choice ask is = tt
 has_own (Some known) choice ask is = is
 
 pub by_is_of : (ask : Ask) (line : Line) → IsOfLine line (choice_by ask line)
-by_is_of ask line = record { asked = has_own line.ask (choice_by ask line) ask refl; address = refl; mark = refl }
+by_is_of ask line = record { asked = has_own line.ask (choice_by ask line) ask refl; address = refl; mark = refl; carried = refl }
 
 -- answers are those of their own lines, in both versions
 of_written : (choices : List Choice) → AreOfLines (map line_of choices) choices
 of_written [] = tt
-of_written (choice ∷ choices) = (record { asked = refl; address = refl; mark = refl }, of_written choices)
+of_written (choice ∷ choices) = (record { asked = refl; address = refl; mark = refl; carried = refl }, of_written choices)
 
 of_bare : (choices : List Choice) → AreOfLines (map bare_line choices) choices
 of_bare [] = tt
-of_bare (choice ∷ choices) = (record { asked = tt; address = refl; mark = refl }, of_bare choices)
+of_bare (choice ∷ choices) = (record { asked = tt; address = refl; mark = refl; carried = refl }, of_bare choices)
 
 pub of_own : (lines : List Line) (choices : List Choice) → AreLinesOf lines choices → AreOfLines lines choices
 of_own lines choices (inl is) = subst (λ (all : List Line). AreOfLines all choices) (sym is) (of_written choices)

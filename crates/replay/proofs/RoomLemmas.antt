@@ -1,7 +1,7 @@
 -- Wherever a session's run was answered with a block, fewer blocks were live than may be. So what the session knows of it is a record.
 use Rattle.std.proofs.lemmas.List.Sums.{length-filter, count_by-le-length}
 use Rattle.alloc_env.specs.declared.env.Env.{Env}
-use Rattle.alloc_env.specs.Serving.{Served, freed, in_place_of, served_ask, served_block, served_over}
+use Rattle.alloc_env.specs.Serving.{Served, carried_over, freed, in_place_of, served_ask, served_block, served_over}
 use Rattle.alloc_env.proofs.Mallocs.{Places, block-places}
 use Rattle.guest_image.specs.Image.{heap_start, heap_end}
 use Rattle.run_history.proofs.Layouts.{laid_out_next}
@@ -65,10 +65,10 @@ block_room env heap ask served sound is some =
     let few = places.sound.few in
     omega (arith, more, fewer, few)
 
--- what is freed behind it is no answer
-in_place_choice : (b : Bool) (served : Served) (heap : Heap) → (cond b served (record served { heap = heap })).choice ≡ served.choice
-in_place_choice true served heap = refl
-in_place_choice false served heap = refl
+-- what is carried to it, and what is freed behind it, leaves its address
+in_place_at : (b : Bool) (served : Served) (carried : ℕ) (heap : Heap) → (cond b served (record { choice = record served.choice { carried = carried }; heap = heap })).choice.at ≡ served.choice.at
+in_place_at true served carried heap = refl
+in_place_at false served carried heap = refl
 
 served_room : (env : Env) (heap : Heap) (ask : Ask) (served : Served) → IsHeap heap → served_ask env heap ask ≡ Some served → served.choice.at ≢ 0 → length (live_blocks heap.blocks) < most_blocks
 unfolding served_ask
@@ -77,15 +77,15 @@ served_room env heap ask served sound is some = of_replaced (replaced ask) is
     block : Served
     block = served_block env heap ask
 
-    of_choice : (other : Served) → other ≡ served → other.choice ≡ (served_block env heap ask).choice → length (live_blocks heap.blocks) < most_blocks
+    of_choice : (other : Served) → other ≡ served → other.choice.at ≡ (served_block env heap ask).choice.at → length (live_blocks heap.blocks) < most_blocks
     of_choice other same chosen =
         block_room env heap ask (served_block env heap ask) sound refl
-        (λ null. some (sym (ap (λ (s : Served). s.choice.at) same) ∙ ap (λ (c : Choice). c.at) chosen ∙ null))
+        (λ null. some (sym (ap (λ (s : Served). s.choice.at) same) ∙ chosen ∙ null))
 
-    over : (old : ℕ) (b : Bool) → cond b (Some (in_place_of env old (served_block env heap ask))) None ≡ Some served → length (live_blocks heap.blocks) < most_blocks
+    over : (old : ℕ) (b : Bool) → cond b (Some (in_place_of env heap old (bytes_asked ask) (served_block env heap ask))) None ≡ Some served → length (live_blocks heap.blocks) < most_blocks
     over old true h =
-        of_choice (in_place_of env old (served_block env heap ask)) (same_Some _ served h)
-        (in_place_choice ((served_block env heap ask).choice.at == 0) (served_block env heap ask) (freed env (served_block env heap ask).heap old))
+        of_choice (in_place_of env heap old (bytes_asked ask) (served_block env heap ask)) (same_Some _ served h)
+        (in_place_at ((served_block env heap ask).choice.at == 0) (served_block env heap ask) (carried_over env heap old (bytes_asked ask)) (freed env (served_block env heap ask).heap old))
     over old false h = absurd (none-some served h)
 
     of_replaced : (old : Option ℕ) → served_over env heap ask old ≡ Some served → length (live_blocks heap.blocks) < most_blocks

@@ -6,7 +6,7 @@ use Rattle.replay.proofs.LineLemmas.{line_at, same_answer}
 pub allowed_asked : (start end : ℕ) (live : List (ℕ × ℕ)) (ask : Ask) (choice : Choice) → is_allowed start end live ask choice ≡ true → choice.ask ≡ ask
 unfolding is_allowed
 allowed_asked start end live ask choice allowed =
-    same-is choice.ask ask (and_parts (same_ask choice.ask ask) (((choice.at == 0) && not choice.zeroed) || is_block start end live choice) allowed).0
+    same-is choice.ask ask (and_parts (same_ask choice.ask ask) (((choice.at == 0) && not choice.zeroed && (choice.carried == 0)) || is_block start end live choice) allowed).0
 
 -- an ask behind which a run goes on was answered so
 pub record IsAnswered (ask : Ask) (s t : State) (found : Option Choice) : Type 0 where

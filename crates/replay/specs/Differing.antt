@@ -17,12 +17,13 @@ pub record HasOtherAsk (recorded : Recorded) (number : ℕ) (asked told : Ask) :
   pub other : told ≢ asked
 
 -- the line of a number is of what was asked, or doesn't say of what, and its answer can't be used
-pub record HasUnusable (recorded : Recorded) (m : Machine) (number : ℕ) (asked : Ask) (at : ℕ) (zeroed : Bool) : Type 0 where
+pub record HasUnusable (recorded : Recorded) (m : Machine) (number : ℕ) (asked : Ask) (at : ℕ) (zeroed : Bool) (carried : ℕ) : Type 0 where
   pub line : Line
   pub is : slice_get recorded.lines number ≡ Some line
   pub tells : unwrap_or line.ask asked ≡ asked
   pub address : at ≡ line.at
   pub mark : zeroed ≡ line.zeroed
+  pub carries : carried ≡ line.carried
   pub unusable : IsUnusable m asked (Some line)
 
 -- What differs, where a run used so many of the record's lines, and stands there behind so many instructions.
@@ -32,8 +33,8 @@ IsApart recorded used steps ended m (difference.Failed cause) = WouldDo recorded
 IsApart recorded used steps ended m difference.InputEnded = WouldDo recorded steps ended m Wants
 IsApart recorded used steps ended m (difference.NoLine number asked) = WouldDo recorded steps ended m (Chooses asked) × (number ≡ used) × (slice_get recorded.lines used ≡ None)
 IsApart recorded used steps ended m (difference.OtherAsk number asked told) = WouldDo recorded steps ended m (Chooses asked) × (number ≡ used) × HasOtherAsk recorded used asked told
-IsApart recorded used steps ended m (difference.Unusable number asked at zeroed) =
-    WouldDo recorded steps ended m (Chooses asked) × (number ≡ used) × HasUnusable recorded m used asked at zeroed
+IsApart recorded used steps ended m (difference.Unusable number asked at zeroed carried) =
+    WouldDo recorded steps ended m (Chooses asked) × (number ≡ used) × HasUnusable recorded m used asked at zeroed carried
 IsApart recorded used steps ended m (difference.LinesLeft count lines) = (steps ≡ recorded.steps) × (count ≡ used) × (lines ≡ length recorded.lines) × (used < length recorded.lines)
 IsApart recorded used steps ended m (difference.ItemsApart taken told) =
     (steps ≡ recorded.steps) × (used ≡ length recorded.lines) × (taken ≡ m.taken) × (told ≡ recorded.taken) × (m.taken ≢ recorded.taken)

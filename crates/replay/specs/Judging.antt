@@ -18,7 +18,7 @@ ended_apart recorded code s = if nat_lt s.steps recorded.steps then Some (differ
 -- what differs where the answer to an ask can't be used
 abbrev pub unusable_apart : ℕ → Ask → Choice → Difference
 unusable_apart number asked choice =
-    if same_ask choice.ask asked then difference.Unusable number asked choice.at choice.zeroed else difference.OtherAsk number asked choice.ask
+    if same_ask choice.ask asked then difference.Unusable number asked choice.at choice.zeroed choice.carried else difference.OtherAsk number asked choice.ask
 
 -- all was as recorded, or the run doesn't go on as recorded
 abbrev pub judged : Option Difference → ℕ → Answer

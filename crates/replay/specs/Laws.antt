@@ -66,7 +66,7 @@ OnlyFaults =
 
 -- an answer's line in version 1, which doesn't say what was asked
 abbrev pub bare_line : Choice → Line
-bare_line choice = record { ask = None; at = choice.at; zeroed = choice.zeroed }
+bare_line choice = record { ask = None; at = choice.at; zeroed = choice.zeroed; carried = choice.carried }
 
 -- lines are those of these answers, in version 2 or in version 1
 abbrev pub AreLinesOf : List Line → List Choice → Type 0

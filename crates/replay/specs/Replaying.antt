@@ -16,11 +16,12 @@ abbrev pub HasAsk : Option Ask → Choice → Type 0
 HasAsk None choice = Unit {0}
 HasAsk (Some ask) choice = choice.ask ≡ ask
 
--- an answer of the allocator is the one that a line tells of: its address, its mark and, where the line has it, its ask
+-- an answer of the allocator is the one that a line tells of: its address, its mark, what it carries and, where the line has it, its ask
 pub record IsOfLine (line : Line) (choice : Choice) : Type 0 where
   pub asked : HasAsk line.ask choice
   pub address : choice.at ≡ line.at
   pub mark : choice.zeroed ≡ line.zeroed
+  pub carried : choice.carried ≡ line.carried
 
 -- answers are those that the first of these lines tell of, one each
 abbrev pub AreOfLines : List Line → List Choice → Type 0
@@ -68,7 +69,7 @@ AreAsked image recorded entries = (before after : List Entry) (event : LinkEvent
 
 -- the answer that a line tells of, where this was asked: it has the line's own ask, if there is one
 abbrev pub choice_by : Ask → Line → Choice
-choice_by ask line = record { ask = unwrap_or line.ask ask; at = line.at; zeroed = line.zeroed }
+choice_by ask line = record { ask = unwrap_or line.ask ask; at = line.at; zeroed = line.zeroed; carried = line.carried }
 
 -- An ask has no answer in a record: no line is left; or the next one tells of an answer to another ask, or of one that C doesn't allow; or it is a
 -- block, and as many stand as may.

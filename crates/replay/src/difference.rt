@@ -35,6 +35,7 @@ pub enum Difference {
         asked: Ask,
         at: u32,
         zeroed: bool,
+        carried: u32,
     },
     /// At the record's end so many of its lines were used, of more.
     LinesLeft {

@@ -35,6 +35,7 @@ fn choice_by(ask: Ask, line: Line) -> Choice
         ask: line.ask.unwrap_or(ask),
         at: line.at,
         zeroed: line.zeroed,
+        carried: line.carried,
     }
 }
 
@@ -48,6 +49,7 @@ fn unusable_apart(number: u64, asked: Ask, choice: Choice) -> Difference
             asked,
             at: choice.at,
             zeroed: choice.zeroed,
+            carried: choice.carried,
         }
     } else {
         Difference::OtherAsk {

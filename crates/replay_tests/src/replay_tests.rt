@@ -63,6 +63,7 @@ fn a_run_goes_as_recorded(rt: HostRuntime) -> Result<(), Fail> {
         let told = Told {
             choices: &[],
             asks: &[],
+            carried: &[],
             steps,
             taken,
         };
@@ -106,6 +107,7 @@ fn events_come_where_they_are_asked_for(rt: HostRuntime) -> Result<(), Fail> {
         let told = Told {
             choices: &[],
             asks: &[],
+            carried: &[],
             steps,
             taken,
         };
@@ -120,6 +122,7 @@ fn links_fail_and_connections_are_gone(rt: HostRuntime) -> Result<(), Fail> {
     let told = Told {
         choices: &[],
         asks: &[],
+        carried: &[],
         steps: 33,
         taken: 3,
     };
@@ -168,6 +171,7 @@ fn answers_are_the_recorded_ones(rt: HostRuntime) -> Result<(), Fail> {
         let told = Told {
             choices,
             asks: &[],
+            carried: &[],
             steps,
             taken: 0,
         };
@@ -198,17 +202,19 @@ fn each_call_asks_what_its_line_says(rt: HostRuntime) -> Result<(), Fail> {
         size: 40,
     };
     let choices: &[(u32, bool)] = &[(0x12000, true), (0x12020, false)];
-    // What stands in the two lines, and the answer.
-    let cases: [(&[Ask], Answer); 5] = [
-        (&[elements, again], Answer::Finished),
+    // What stands in the two lines, how many bytes they carry, and the answer.
+    let cases: [(&[Ask], &[u32], Answer); 7] = [
+        (&[elements, again], &[], Answer::Finished),
         // A record of version 1 takes what is asked.
-        (&[], Answer::Finished),
+        (&[], &[], Answer::Finished),
         (
             &[Ask::Calloc { count: 8, size: 3 }, again],
+            &[],
             Answer::Mismatch { step: 3 },
         ),
         (
             &[Ask::Malloc { size: 24 }, again],
+            &[],
             Answer::Mismatch { step: 3 },
         ),
         (
@@ -219,13 +225,18 @@ fn each_call_asks_what_its_line_says(rt: HostRuntime) -> Result<(), Fail> {
                     size: 41,
                 },
             ],
+            &[],
             Answer::Mismatch { step: 6 },
         ),
+        // Up to the new block's place, which is 8 bytes behind the old block.
+        (&[elements, again], &[0, 8], Answer::Finished),
+        (&[elements, again], &[0, 9], Answer::Mismatch { step: 6 }),
     ];
-    for (asks, answer) in cases {
+    for (asks, carried, answer) in cases {
         let told = Told {
             choices,
             asks,
+            carried,
             steps: 9,
             taken: 0,
         };
@@ -246,6 +257,7 @@ fn expect_row(rt: &impl Abort, alloc: Global, row: Row<'_>) -> Result<(), Fail> 
     let told = Told {
         choices,
         asks: &[],
+        carried: &[],
         steps,
         taken,
     };
@@ -320,6 +332,7 @@ fn a_run_that_fails_is_no_recorded_one(rt: HostRuntime) -> Result<(), Fail> {
         let told = Told {
             choices: &[],
             asks: &[],
+            carried: &[],
             steps,
             taken: 0,
         };
@@ -352,6 +365,7 @@ fn bare(choices: &[(u32, bool)], steps: u64, taken: u64) -> Told<'_> {
     Told {
         choices,
         asks: &[],
+        carried: &[],
         steps,
         taken,
     }
@@ -402,6 +416,7 @@ fn differs_by_an_answer_that_cannot_be(rt: HostRuntime) -> Result<(), Fail> {
         asked: SEVENTEEN,
         at,
         zeroed,
+        carried: 0,
     };
     let cases = [
         (bare(&[(0, true)], 6, 0), unusable(0, true)),
@@ -411,7 +426,7 @@ fn differs_by_an_answer_that_cannot_be(rt: HostRuntime) -> Result<(), Fail> {
 }
 
 #[test]
-fn differs_by_what_is_asked(rt: HostRuntime) -> Result<(), Fail> {
+fn differs_by_what_is_asked_and_carried(rt: HostRuntime) -> Result<(), Fail> {
     let elements = Ask::Calloc { count: 3, size: 8 };
     let turned = Ask::Calloc { count: 8, size: 3 };
     let again = Ask::Realloc {
@@ -425,6 +440,7 @@ fn differs_by_what_is_asked(rt: HostRuntime) -> Result<(), Fail> {
     let choices: &[(u32, bool)] = &[(0x12000, true), (0x12020, false)];
     let first: &[Ask] = &[turned, again];
     let second: &[Ask] = &[elements, longer];
+    let third: &[Ask] = &[elements, again];
     let cases = [
         (
             Told {
@@ -446,6 +462,20 @@ fn differs_by_what_is_asked(rt: HostRuntime) -> Result<(), Fail> {
                 number: 1,
                 asked: again,
                 told: longer,
+            },
+        ),
+        (
+            Told {
+                asks: third,
+                carried: &[0, 9],
+                ..bare(choices, 9, 0)
+            },
+            Difference::Unusable {
+                number: 1,
+                asked: again,
+                at: 0x12020,
+                zeroed: false,
+                carried: 9,
             },
         ),
     ];

@@ -31,12 +31,13 @@ pub struct Played<'a> {
     pub gones: &'a [(u64, usize)],
 }
 
-// What a record says of its run: each answer of the allocator, what was asked, and how many instructions and items. With no ask it is of
-// version 1.
+// What a record says of its run: each answer of the allocator, what was asked, how many bytes it carries, and how many instructions and items.
+// With no ask it is of version 1.
 #[derive(Clone, Copy)]
 pub struct Told<'a> {
     pub choices: &'a [(u32, bool)],
     pub asks: &'a [Ask],
+    pub carried: &'a [u32],
     pub steps: u64,
     pub taken: u64,
 }
@@ -54,6 +55,7 @@ fn recorded_of(alloc: Global, told: &Told<'_>) -> Result<Recorded, Fail> {
             ask: told.asks.get(number).copied(),
             at: *at,
             zeroed: *zeroed,
+            carried: told.carried.get(number).copied().unwrap_or(0),
         })?;
     }
     Ok(Recorded {

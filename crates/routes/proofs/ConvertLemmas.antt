@@ -52,7 +52,7 @@ read_fault_is recording _ choices result concludes is = cc
 
 -- lines that say what was asked are those of their answers
 own_line : (line : Line) (choice : Choice) → IsAskOf VERSION line.ask → IsOfLine line choice → line_of choice ≡ line
-own_line line choice known is = λ i. record { ask = of_ask line.ask known is.asked i; at = is.address i; zeroed = is.mark i }
+own_line line choice known is = λ i. record { ask = of_ask line.ask known is.asked i; at = is.address i; zeroed = is.mark i; carried = is.carried i }
   where
     of_ask : (ask : Option _) → IsAskOf VERSION ask → HasAsk ask choice → Some choice.ask ≡ ask
     of_ask None none has = absurd (let no : ⊥ = omega (arith, none) in no)

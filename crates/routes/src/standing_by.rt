@@ -50,13 +50,13 @@ pub fn catch_up_trunk<S: Source, K: Sink, L: Ledger>(
 pub fn serve_on_trunk<S: Source, K: Sink, L: Ledger>(
     follower: &mut Follower,
     counts: &Counts,
-    budget: u32,
+    budget: u64,
     link: &mut TrunkLink<S, K>,
     steps: &mut Steps<L>,
 ) -> Answer
     requires may { MayServe (seen_of S.told S.faults K.told K.faults link.old) follower.old }
     requires short { IsShort counts.now follower.old.kept.items None }
-    requires budget { (1 ≤ budget) × (budget ≤ 2 ^ 24) }
+    requires budget { (1 ≤ budget) × (budget ≤ 2 ^ 36) }
     ensures serves { (made : TrunkLink S K) (image : Image) (recorded : Recorded) (up : HasCaughtUp image recorded (told_of S.told K.told made) (seen_of S.told S.faults K.told K.faults link.old) follower.old)
         → IsNewTrunk S.told S.faults K.told K.faults made → TrunkWent S.fixed S.told K.fixed K.told made link.old
         → ServesOnTrunk image recorded budget counts.now up.entries (S.told made.source) (S.told link.new.source) (K.told made.sink) (K.told link.new.sink) result follower.new.player.choices.items follower.new.player.cpu.slots.live.steps follower.new.player.cpu.slots.live.guest.machine.taken }

@@ -5,7 +5,7 @@ use Rattle.rv_isa.specs.declared.instr.StoreOp.TheVariants.{Sb, Sh, Sw}
 use Rattle.rv_isa.specs.declared.instr.ImmOp.TheVariants.{Addi, Srai}
 use Rattle.rv_isa.specs.declared.instr.RegOp.TheVariants.{Add, Div}
 use Rattle.guest_image.proofs.Examples.{echo_bytes, echo_image}
-use Rattle.run_history.proofs.Terms.{Bool, List, None, Option, Some, [], false, map, refl, replicate, true, ℕ, ◌++◌, ◌∷◌, ◌≡◌, flat_map, negsuc, option_and_then, pos, Item, sent_to, Calloc, Malloc, Realloc, Choice, is_allowed, is_block, is_clear, Delay, Pad, Plain, Branch, Ecall, Jal, Load, Lui, Op, OpImm, Store, displaced, extended, indirect_target, is_less_signed, quotient_signed, shifted_right_signed, word_sum, base_op, branch_op, branch_row, imm_op, imm_row, load_op, load_row, op_row, reg_op, row, store_op, store_row, system_row, funct3, funct7, imm_b, imm_i, imm_j, imm_s, imm_u, little_bytes, little_number, opcode, rd, rs1, rs2, base, heap_end, heap_start, zeros, Area, permitted, read, AssertFailed, BadAccess, BadCall, BadFree, BadJump, Hang, Chooses, Emits, Ends, Fails, Goes, Machine, State, register, start_machine, with_register, auipc, branch, ebreak, fence, jal, jalr, load, op, op_imm, store, allocated, answered, call, freed, received, send, set_bytes, does, instruction, next, run, Guest, Limits, Override, env_at, serves}
+use Rattle.run_history.proofs.Terms.{Bool, List, None, Option, Some, [], false, map, refl, replicate, true, ℕ, ◌++◌, ◌∷◌, ◌≡◌, flat_map, negsuc, option_and_then, pos, Item, sent_to, Calloc, Malloc, Realloc, Choice, is_allowed, is_block, is_clear, may_carry, Delay, Pad, Plain, Branch, Ecall, Jal, Load, Lui, Op, OpImm, Store, displaced, extended, indirect_target, is_less_signed, quotient_signed, shifted_right_signed, word_sum, base_op, branch_op, branch_row, imm_op, imm_row, load_op, load_row, op_row, reg_op, row, store_op, store_row, system_row, funct3, funct7, imm_b, imm_i, imm_j, imm_s, imm_u, little_bytes, little_number, opcode, rd, rs1, rs2, base, heap_end, heap_start, zeros, Area, permitted, read, AssertFailed, BadAccess, BadCall, BadFree, BadJump, Hang, Chooses, Emits, Ends, Fails, Goes, Machine, State, register, start_machine, with_register, auipc, branch, ebreak, fence, jal, jalr, load, op, op_imm, store, allocated, answered, call, freed, received, send, set_bytes, does, instruction, next, run, Guest, Limits, Override, env_at, serves}
 
 -- A program that sends back each message. Its words, as an assembler gives them:
 abbrev pub echo : List ℕ
@@ -338,7 +338,7 @@ abbrev pub asking : Machine
 asking = record (sending 20 0 0) { blocks = (0x1010, 16) ∷ [] }
 
 abbrev pub choosing : ℕ → Bool → Option Choice
-choosing at zeroed = Some (record { ask = Malloc 20; at = at; zeroed = zeroed })
+choosing at zeroed = Some (record { ask = Malloc 20; at = at; zeroed = zeroed; carried = 0 })
 
 pub malloc_unanswered : call 3 None None asking ≡ Chooses (Malloc 20)
 malloc_unanswered = refl
@@ -390,63 +390,111 @@ answered_again first second at memory blocks =
 pub calloc_unanswered : call 7 None None (asking_again 3 4) ≡ Chooses (Calloc 3 4)
 calloc_unanswered = refl
 
-pub calloc_zeroes : call 7 None (Some (record { ask = Calloc 3 4; at = 0x1020; zeroed = true })) (asking_again 3 4) ≡
+pub calloc_zeroes : call 7 None (Some (record { ask = Calloc 3 4; at = 0x1020; zeroed = true; carried = 0 })) (asking_again 3 4) ≡
     Goes (answered_again 3 4 0x1020 (heap_bytes 12 20 (1 ∷ 2 ∷ 3 ∷ 4 ∷ []) (replicate 12 0)) ((0x1010, 4) ∷ (0x1020, 12) ∷ []))
 unfolding is_allowed is_block is_clear allocated set_bytes
 calloc_zeroes = refl
 
-pub calloc_unzeroed : call 7 None (Some (record { ask = Calloc 3 4; at = 0x1020; zeroed = false })) (asking_again 3 4) ≡ Chooses (Calloc 3 4)
+pub calloc_unzeroed : call 7 None (Some (record { ask = Calloc 3 4; at = 0x1020; zeroed = false; carried = 0 })) (asking_again 3 4) ≡ Chooses (Calloc 3 4)
 unfolding is_allowed is_block is_clear
 calloc_unzeroed = refl
 
 -- an answer whose numbers stand the other way round, and one to a malloc of as many bytes
-pub calloc_swapped : call 7 None (Some (record { ask = Calloc 4 3; at = 0x1020; zeroed = true })) (asking_again 3 4) ≡ Chooses (Calloc 3 4)
+pub calloc_swapped : call 7 None (Some (record { ask = Calloc 4 3; at = 0x1020; zeroed = true; carried = 0 })) (asking_again 3 4) ≡ Chooses (Calloc 3 4)
 unfolding is_allowed
 calloc_swapped = refl
 
-pub calloc_as_malloc : call 7 None (Some (record { ask = Malloc 12; at = 0x1020; zeroed = true })) (asking_again 3 4) ≡ Chooses (Calloc 3 4)
+pub calloc_as_malloc : call 7 None (Some (record { ask = Malloc 12; at = 0x1020; zeroed = true; carried = 0 })) (asking_again 3 4) ≡ Chooses (Calloc 3 4)
 unfolding is_allowed
 calloc_as_malloc = refl
 
 -- a product that is 0 in 32 bits
-pub calloc_too_many : call 7 None (Some (record { ask = Calloc 65536 65536; at = 0x1020; zeroed = true })) (asking_again 65536 65536) ≡ Chooses (Calloc 65536 65536)
+pub calloc_too_many : call 7 None (Some (record { ask = Calloc 65536 65536; at = 0x1020; zeroed = true; carried = 0 })) (asking_again 65536 65536) ≡ Chooses (Calloc 65536 65536)
 unfolding is_allowed is_block
 calloc_too_many = refl
 
 -- the block of 4 bytes becomes one of 6: its bytes are moved, and the two behind them stay; or are 0, where the answer is zeroed
-pub realloc_grows : call 8 None (Some (record { ask = Realloc 0x1010 6; at = 0x1020; zeroed = false })) (asking_again 0x1010 6) ≡
+pub realloc_grows : call 8 None (Some (record { ask = Realloc 0x1010 6; at = 0x1020; zeroed = false; carried = 0 })) (asking_again 0x1010 6) ≡
     Goes (answered_again 0x1010 6 0x1020 (heap_bytes 12 26 (1 ∷ 2 ∷ 3 ∷ 4 ∷ []) (1 ∷ 2 ∷ 3 ∷ 4 ∷ 1 ∷ 1 ∷ [])) ((0x1020, 6) ∷ []))
 unfolding is_allowed is_block is_clear allocated set_bytes
 realloc_grows = refl
 
-pub realloc_zeroes : call 8 None (Some (record { ask = Realloc 0x1010 6; at = 0x1020; zeroed = true })) (asking_again 0x1010 6) ≡
+pub realloc_zeroes : call 8 None (Some (record { ask = Realloc 0x1010 6; at = 0x1020; zeroed = true; carried = 0 })) (asking_again 0x1010 6) ≡
     Goes (answered_again 0x1010 6 0x1020 (heap_bytes 12 26 (1 ∷ 2 ∷ 3 ∷ 4 ∷ []) (1 ∷ 2 ∷ 3 ∷ 4 ∷ 0 ∷ 0 ∷ [])) ((0x1020, 6) ∷ []))
 unfolding is_allowed is_block is_clear allocated set_bytes
 realloc_zeroes = refl
 
 -- one of 2; one of none
-pub realloc_shrinks : call 8 None (Some (record { ask = Realloc 0x1010 2; at = 0x1020; zeroed = false })) (asking_again 0x1010 2) ≡
+pub realloc_shrinks : call 8 None (Some (record { ask = Realloc 0x1010 2; at = 0x1020; zeroed = false; carried = 0 })) (asking_again 0x1010 2) ≡
     Goes (answered_again 0x1010 2 0x1020 (heap_bytes 12 30 (1 ∷ 2 ∷ 3 ∷ 4 ∷ []) (1 ∷ 2 ∷ [])) ((0x1020, 2) ∷ []))
 unfolding is_allowed is_block is_clear allocated set_bytes
 realloc_shrinks = refl
 
-pub realloc_to_none : call 8 None (Some (record { ask = Realloc 0x1010 0; at = 0x1020; zeroed = false })) (asking_again 0x1010 0) ≡
+pub realloc_to_none : call 8 None (Some (record { ask = Realloc 0x1010 0; at = 0x1020; zeroed = false; carried = 0 })) (asking_again 0x1010 0) ≡
     Goes (answered_again 0x1010 0 0x1020 (heap_bytes 28 0 (1 ∷ 2 ∷ 3 ∷ 4 ∷ []) (replicate 16 1)) ((0x1020, 0) ∷ []))
 unfolding is_allowed is_block is_clear allocated set_bytes
 realloc_to_none = refl
 
 -- the old block stands while the new one is placed, and stays where the answer is null
-pub realloc_in_place : call 8 None (Some (record { ask = Realloc 0x1010 2; at = 0x1010; zeroed = false })) (asking_again 0x1010 2) ≡ Chooses (Realloc 0x1010 2)
+pub realloc_in_place : call 8 None (Some (record { ask = Realloc 0x1010 2; at = 0x1010; zeroed = false; carried = 0 })) (asking_again 0x1010 2) ≡ Chooses (Realloc 0x1010 2)
 unfolding is_allowed is_block is_clear
 realloc_in_place = refl
 
-pub realloc_null : call 8 None (Some (record { ask = Realloc 0x1010 6; at = 0; zeroed = false })) (asking_again 0x1010 6) ≡
+pub realloc_null : call 8 None (Some (record { ask = Realloc 0x1010 6; at = 0; zeroed = false; carried = 0 })) (asking_again 0x1010 6) ≡
     Goes (answered_again 0x1010 6 0 (heap_bytes 28 0 (1 ∷ 2 ∷ 3 ∷ 4 ∷ []) (replicate 16 1)) ((0x1010, 4) ∷ []))
 unfolding is_allowed allocated set_bytes
 realloc_null = refl
 
+-- three bytes behind the four of the block are carried: they stand in the new one and behind it
+abbrev pub asking_past : ℕ → Machine
+asking_past size = record (asking_again 0x1010 size) { memory = heap_bytes 25 0 (1 ∷ 2 ∷ 3 ∷ 4 ∷ 5 ∷ 6 ∷ 7 ∷ []) (replicate 16 1) }
+
+abbrev pub answered_past : ℕ → List Area → Machine
+answered_past size memory =
+    record (asking_past size) { pc = 16; registers = with_register 10 0x1020 (asking_past size).registers; memory = memory; blocks = (0x1020, size) ∷ []; allocations = 1; since = 1 }
+
+abbrev pub carrying : ℕ → ℕ → ℕ → Bool → Option Choice
+carrying size at carried zeroed = Some (record { ask = Realloc 0x1010 size; at = at; zeroed = zeroed; carried = carried })
+
+pub realloc_carries : call 8 None (carrying 6 0x1020 3 false) (asking_past 6) ≡
+    Goes (answered_past 6 (heap_bytes 9 25 (1 ∷ 2 ∷ 3 ∷ 4 ∷ 5 ∷ 6 ∷ 7 ∷ []) (1 ∷ 2 ∷ 3 ∷ 4 ∷ 5 ∷ 6 ∷ 7 ∷ [])))
+unfolding is_allowed is_block is_clear may_carry allocated set_bytes
+realloc_carries = refl
+
+-- where the answer is zeroed, zeros stand behind what was carried, up to the block's end; or none, where that is past it
+pub realloc_carries_zeroed : call 8 None (carrying 12 0x1020 3 true) (asking_past 12) ≡
+    Goes (answered_past 12 (heap_bytes 9 20 (1 ∷ 2 ∷ 3 ∷ 4 ∷ 5 ∷ 6 ∷ 7 ∷ []) (1 ∷ 2 ∷ 3 ∷ 4 ∷ 5 ∷ 6 ∷ 7 ∷ 0 ∷ 0 ∷ 0 ∷ 0 ∷ 0 ∷ [])))
+unfolding is_allowed is_block is_clear may_carry allocated set_bytes
+realloc_carries_zeroed = refl
+
+pub realloc_carries_past : call 8 None (carrying 2 0x1020 3 true) (asking_past 2) ≡
+    Goes (answered_past 2 (heap_bytes 9 27 (1 ∷ 2 ∷ 3 ∷ 4 ∷ 5 ∷ 6 ∷ 7 ∷ []) (1 ∷ 2 ∷ 3 ∷ 4 ∷ 5 ∷ [])))
+unfolding is_allowed is_block is_clear may_carry allocated set_bytes
+realloc_carries_past = refl
+
+-- no more may be carried than lie in the heap, nor any onto a live block, nor onto what is carried; and none beside null, nor by malloc
+pub realloc_carries_too_many : call 8 None (carrying 6 0x1030 13 false) (asking_past 6) ≡ Chooses (Realloc 0x1010 6)
+unfolding is_allowed is_block is_clear may_carry
+realloc_carries_too_many = refl
+
+pub realloc_carries_onto : call 8 None (carrying 6 0x1020 12 false) (record (asking_past 6) { blocks = (0x1010, 4) ∷ (0x102f, 1) ∷ [] }) ≡ Chooses (Realloc 0x1010 6)
+unfolding is_allowed is_block is_clear may_carry
+realloc_carries_onto = refl
+
+pub realloc_carries_over : call 8 None (carrying 6 0x1020 13 false) (asking_past 6) ≡ Chooses (Realloc 0x1010 6)
+unfolding is_allowed is_block is_clear may_carry
+realloc_carries_over = refl
+
+pub realloc_carries_null : call 8 None (carrying 6 0 3 false) (asking_past 6) ≡ Chooses (Realloc 0x1010 6)
+unfolding is_allowed is_block is_clear
+realloc_carries_null = refl
+
+pub malloc_carries : call 3 None (Some (record { ask = Malloc 20; at = 0x1020; zeroed = false; carried = 1 })) asking ≡ Chooses (Malloc 20)
+unfolding is_allowed is_block is_clear may_carry
+malloc_carries = refl
+
 -- of null it is as malloc; of what isn't live it is bad, answered or not
-pub realloc_of_null : call 8 None (Some (record { ask = Realloc 0 6; at = 0x1020; zeroed = false })) (asking_again 0 6) ≡
+pub realloc_of_null : call 8 None (Some (record { ask = Realloc 0 6; at = 0x1020; zeroed = false; carried = 0 })) (asking_again 0 6) ≡
     Goes (answered_again 0 6 0x1020 (heap_bytes 28 0 (1 ∷ 2 ∷ 3 ∷ 4 ∷ []) (replicate 16 1)) ((0x1010, 4) ∷ (0x1020, 6) ∷ []))
 unfolding is_allowed is_block is_clear allocated set_bytes
 realloc_of_null = refl

@@ -1,6 +1,6 @@
 -- Laws of runs: they compose, they don't depend on items and answers of the allocator behind those that they take, and what a
 -- machine does by itself is what a run does.
-use Rattle.run_history.proofs.Terms.{Bool, List, None, Option, Some, [], ap, arith, cond, eqb, false, length, length-append, refl, replicate, suc, sym, true, zero, ℕ, ◌++◌, ◌+◌, ◌-◌, ◌∙◌, ◌∷◌, ◌≡◌, ◌≢◌, ◌≤◌, get_or_push, length-replicate, length_push, none-some, slice_get-get_or, slice_get_past, slice_get, Item, Ask, Choice, bytes_asked, replaced, read, Chooses, Effect, Emits, Ends, Fails, Goes, Machine, State, Wants, register, with_register, allocated, chooses, connections_after, kept_bytes, kept_count, received, set_bytes, set_count, takes, after, does, effect, next, run}
+use Rattle.run_history.proofs.Terms.{Bool, List, None, Option, Some, [], ap, arith, cond, eqb, false, length, length-append, max, refl, replicate, suc, sym, true, zero, ℕ, ◌++◌, ◌+◌, ◌-◌, ◌∙◌, ◌∷◌, ◌≡◌, ◌≢◌, ◌≤◌, get_or_push, length-replicate, length_push, none-some, slice_get-get_or, slice_get_past, slice_get, Item, Ask, Choice, bytes_asked, moved_count, replaced, read, Chooses, Effect, Emits, Ends, Fails, Goes, Machine, State, Wants, register, with_register, allocated, chooses, connections_after, moved_bytes, received, set_bytes, set_count, takes, after, does, effect, next, run}
 use Rattle.run_history.proofs.Repeats.{repeated_from, repeated_join, repeated_one, repeated_as}
 use Rattle.run_history.proofs.Shapes.{MaySend, Alone, Shape, Same, Takes, Picks, does_shape, length-bytes_at, length-with_register}
 
@@ -193,7 +193,7 @@ allocated_keeps choice m =
       registers = length-with_register 10 choice.at m.registers;
     }
 
--- as many bytes of a new block are set as are counted
+-- as many bytes are set from a new block's first on as are counted
 pub length-set_bytes : (m : Machine) (choice : Choice) → length (set_bytes m choice) ≡ set_count m.blocks choice
 unfolding set_bytes
 length-set_bytes m choice = of_null (eqb choice.at 0)
@@ -201,23 +201,19 @@ length-set_bytes m choice = of_null (eqb choice.at 0)
     size : ℕ
     size = bytes_asked choice.ask
 
-    kept : ℕ
-    kept = kept_count m.blocks size (replaced choice.ask)
+    came : ℕ
+    came = moved_count m.blocks choice (replaced choice.ask)
 
-    length-kept : (over : Option ℕ) → length (kept_bytes m size over) ≡ kept_count m.blocks size over
-    length-kept None = refl
-    length-kept (Some old) = length-bytes_at read m.memory old (kept_count m.blocks size (Some old))
+    length-moved : (over : Option ℕ) → length (moved_bytes m choice over) ≡ moved_count m.blocks choice over
+    length-moved None = refl
+    length-moved (Some old) = length-bytes_at read m.memory old (moved_count m.blocks choice (Some old))
 
-    few : (over : Option ℕ) → kept_count m.blocks size over ≤ size
-    few None = omega arith
-    few (Some old) = omega (arith)
-
-    of_zeroed : (zeroed : Bool) → length (kept_bytes m size (replaced choice.ask) ++ cond zeroed (replicate (size - kept) 0) []) ≡ cond zeroed size kept
+    of_zeroed : (zeroed : Bool) → length (moved_bytes m choice (replaced choice.ask) ++ cond zeroed (replicate (size - came) 0) []) ≡ cond zeroed (max size came) came
     of_zeroed true =
-        length-append (kept_bytes m size (replaced choice.ask)) (replicate (size - kept) 0)
-        ∙ (let a = length-kept (replaced choice.ask) in let b = length-replicate {A = ℕ} (size - kept) 0 in let c = few (replaced choice.ask) in omega (arith, a, b, c))
-    of_zeroed false = length-append (kept_bytes m size (replaced choice.ask)) [] ∙ (let a = length-kept (replaced choice.ask) in omega (arith, a))
+        length-append (moved_bytes m choice (replaced choice.ask)) (replicate (size - came) 0)
+        ∙ (let a = length-moved (replaced choice.ask) in let b = length-replicate {A = ℕ} (size - came) 0 in omega (arith, a, b))
+    of_zeroed false = length-append (moved_bytes m choice (replaced choice.ask)) [] ∙ (let a = length-moved (replaced choice.ask) in omega (arith, a))
 
-    of_null : (null : Bool) → length (cond null [] (kept_bytes m size (replaced choice.ask) ++ cond choice.zeroed (replicate (size - kept) 0) [])) ≡ cond null 0 (cond choice.zeroed size kept)
+    of_null : (null : Bool) → length (cond null [] (moved_bytes m choice (replaced choice.ask) ++ cond choice.zeroed (replicate (size - came) 0) [])) ≡ cond null 0 (cond choice.zeroed (max size came) came)
     of_null true = refl
     of_null false = of_zeroed choice.zeroed

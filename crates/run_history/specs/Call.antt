@@ -1,6 +1,6 @@
 -- One guest call: an ECALL, with its number in x17. A call that answers goes on behind the ECALL.
-use Rattle.std.specs.Prelude.{ℕ, ◌+◌, ◌-◌, Bool, true, false, not, List, [], ◌++◌, length, min, take, replicate, Option, Some, None, slice_get, slice_set, unwrap_or, nat_lt, if◌then◌else◌, ◌==◌}
-use Rattle.run_history.specs.Terms.{Item, Ask, Calloc, Malloc, Realloc, Choice, bytes_asked, is_allowed, is_defined, live_with, replaced, size_at, without_live, bytes_at, permitted, put_bytes, read, write, AssertFailed, BadAccess, BadCall, BadFree}
+use Rattle.std.specs.Prelude.{ℕ, ◌+◌, ◌-◌, Bool, true, false, not, List, [], ◌++◌, length, max, take, replicate, Option, Some, None, slice_get, slice_set, unwrap_or, nat_lt, if◌then◌else◌, ◌==◌}
+use Rattle.run_history.specs.Terms.{Item, Ask, Calloc, Malloc, Realloc, Choice, bytes_asked, is_allowed, is_defined, live_with, moved_count, replaced, without_live, bytes_at, permitted, put_bytes, read, write, AssertFailed, BadAccess, BadCall, BadFree}
 use Rattle.run_history.specs.Machine.{Machine, register, with_register, next_pc, Effect, Goes, Emits, Ends, Wants, Chooses, Fails}
 
 -- the connections that may be sent to, once an item was taken: an open (kind 1) adds its own, a close (3) removes it
@@ -49,32 +49,27 @@ send m =
     if register m 12 == 0 then Goes (answered 0 m) else
     Emits (register m 10) (bytes_at read m.memory (register m 11) (register m 12)) (answered 0 m)
 
--- how many bytes a new block of a size gets from the one that it replaces: as many as both have
-abbrev pub kept_count : List (ℕ × ℕ) → ℕ → Option ℕ → ℕ
-kept_count live size None = 0
-kept_count live size (Some old) = min (unwrap_or (size_at old live) 0) size
+-- the bytes that come to a new block from the place of the one that it replaces, as they are before: those that it gets, and those carried behind them
+abbrev pub moved_bytes : Machine → Choice → Option ℕ → List ℕ
+moved_bytes m choice None = []
+moved_bytes m choice (Some old) = bytes_at read m.memory old (moved_count m.blocks choice (Some old))
 
--- those bytes, as they are before
-abbrev pub kept_bytes : Machine → ℕ → Option ℕ → List ℕ
-kept_bytes m size None = []
-kept_bytes m size (Some old) = bytes_at read m.memory old (kept_count m.blocks size (Some old))
-
--- how many of a new block's bytes are set, from the first on: those that it gets, and where it is zeroed all others to 0
+-- how many bytes are set from a new block's first on: those that come to it, and where it is zeroed all others of it to 0
 abbrev pub set_count : List (ℕ × ℕ) → Choice → ℕ
 set_count live choice =
     if choice.at == 0 then 0 else
-    if choice.zeroed then bytes_asked choice.ask else
-    kept_count live (bytes_asked choice.ask) (replaced choice.ask)
+    if choice.zeroed then max (bytes_asked choice.ask) (moved_count live choice (replaced choice.ask)) else
+    moved_count live choice (replaced choice.ask)
 
 -- what they are set to
 unfoldable pub set_bytes : Machine → Choice → List ℕ
 set_bytes m choice =
-    let size = bytes_asked choice.ask in
-    let zeros = if choice.zeroed then replicate (size - kept_count m.blocks size (replaced choice.ask)) 0 else [] in
-    if choice.at == 0 then [] else kept_bytes m size (replaced choice.ask) ++ zeros
+    let zeros = if choice.zeroed then replicate (bytes_asked choice.ask - moved_count m.blocks choice (replaced choice.ask)) 0 else [] in
+    if choice.at == 0 then [] else moved_bytes m choice (replaced choice.ask) ++ zeros
 
 -- The machine once the allocator answered: x10 is the block's address, or 0. Where it isn't 0 the block is live, its first bytes are those of
--- the one that it replaces, which isn't live any more, and where it is zeroed its others are 0; else they are as they were.
+-- the one that it replaces, which isn't live any more, and where it is zeroed its others are 0; else they are as they were. What the answer
+-- carries beside comes too, though it goes past the block's end.
 unfoldable pub allocated : Choice → Machine → Machine
 allocated choice m = record m {
   pc = next_pc m;

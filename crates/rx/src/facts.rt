@@ -80,13 +80,22 @@ fn number<'a>(name: &'static str, number: u64) -> Fact<'a> {
     named(name, Value::Number(number))
 }
 
+// How many instructions of a program run in a millisecond: rx does some 250 million a second.
+const A_MILLISECOND: u64 = 250_000;
+
+// How many milliseconds so many instructions take, in whole ones.
+fn milliseconds_of(budget: u64) -> u64 {
+    budget.div_ceil(A_MILLISECOND)
+}
+
 // The words of a session.
 fn session_words<'a>(alloc: Global, run: &RunCommand<'a>) -> Result<Vec<Fact<'a>>, AllocError> {
     let words = vec![in alloc;
         named("program", Value::Read(run.program)),
         named("recording", Value::Written(run.recording, Kind::Record)),
         named("report", Value::Written(run.report, Kind::Report)),
-        number("budget", u64::from(run.budget)),
+        number("budget", run.budget),
+        number("milliseconds", milliseconds_of(run.budget)),
     ]?;
     Ok(words)
 }
@@ -130,7 +139,8 @@ pub fn words_of<'a>(alloc: Global, command: &Command<'a>) -> Result<Vec<Fact<'a>
             named("recorded", Value::Read(standby.recorded)),
             named("counts", Value::Read(standby.counts)),
             named("recording", Value::Written(standby.recording, Kind::Record)),
-            number("budget", u64::from(standby.budget)),
+            number("budget", standby.budget),
+            number("milliseconds", milliseconds_of(standby.budget)),
         ]?,
         Command::Resume(resume) => vec![in alloc;
             named("program", Value::Read(resume.program)),
@@ -139,7 +149,8 @@ pub fn words_of<'a>(alloc: Global, command: &Command<'a>) -> Result<Vec<Fact<'a>
             named("counts", Value::Read(resume.counts)),
             named("recording", Value::Written(resume.recording, Kind::Record)),
             named("report", Value::Written(resume.report, Kind::Report)),
-            number("budget", u64::from(resume.budget)),
+            number("budget", resume.budget),
+            number("milliseconds", milliseconds_of(resume.budget)),
         ]?,
         Command::Drill(_) | Command::Frame | Command::Unframe => Vec::new(alloc),
     };
@@ -215,7 +226,10 @@ pub fn add_difference(facts: &mut Vec<Fact<'_>>, difference: Difference) -> Resu
             cause: Cause::AssertFailed(code),
         } => { facts.push(number("code", u64::from(code)))? }
         Difference::OtherAsk { told, .. } => facts.push(named("told", Value::Ask(told)))?,
-        Difference::Unusable { at, .. } => facts.push(named("at", Value::Address(at)))?,
+        Difference::Unusable { at, carried, .. } => {
+            facts.push(named("at", Value::Address(at)))?;
+            facts.push(number("carried", u64::from(carried)))?
+        }
         Difference::LinesLeft { used, lines } => {
             facts.push(number("used", used))?;
             facts.push(number("lines", lines))?

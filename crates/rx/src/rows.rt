@@ -144,7 +144,7 @@ pub fn rest_of(
                 } else {
                     ""
                 },
-                ". They have to be of this program, and of this input from its beginning, made under no larger budget and no weaker guard",
+                ". They have to be of this program, and of this input from its beginning, made under no larger budget, under no weaker guard and with the same --keep",
             ],
             (_, Some(difference)) => [
                 difference_text(difference),
@@ -158,7 +158,7 @@ pub fn rest_of(
         Answer::GaveUp { cause, .. } => [
             match cause {
                 Cause::Hang =>
-                    "{budget} instructions came since the last item or the start, which is the limit that --budget sets",
+                    "{budget} instructions came since the last item or the start, which is the limit that --budget sets (some {milliseconds} ms); if the server was only slow, a larger --budget lets it pass",
                 _ => cause_text(cause),
             },
             match command {
@@ -221,6 +221,8 @@ fn difference_text(difference: Difference) -> &'static str {
         Difference::NoLine { .. } => "; then it calls {asked}, and {recorded} has no answer left",
         Difference::OtherAsk { .. } =>
             "; then it calls {asked}, and line {line} of {recorded} has {told}",
+        Difference::Unusable { carried, .. } if carried > 0 =>
+            "; then it calls {asked}, and line {line} of {recorded} answers {at} and carries {carried} bytes, which can't be",
         Difference::Unusable { zeroed: false, .. } =>
             "; then it calls {asked}, and line {line} of {recorded} answers {at}, which can't be",
         Difference::Unusable { zeroed: true, .. } =>

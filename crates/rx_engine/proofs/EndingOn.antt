@@ -4,7 +4,7 @@ use Rattle.guest_cpu.specs.declared.event.Event.TheVariants as step
 use Rattle.session_following.specs.declared.judging.StandKind.TheVariants as kind
 use Rattle.session_following.specs.declared.unfollowed.Unfollowed.TheVariants as unfollowed
 use Rattle.session_following.proofs.PlanLemmas.{up_to_same}
-use Rattle.rx_engine.proofs.Terms.{List, None, [], ap, append-nil, arith, inl, length, refl, subst, sym, ℕ, ◌+◌, ◌∙◌, ◌≡◌, ◌≤◌, IsSome, KEEP, LinkEvent, Tells, Told, Seen, Heap, Env, Image, Fails, FailsBy, Limits, Path, guest_of, serves, Standing, items_in, Rules, Noted, heard_alone, AtExit, AtFailure, Handed, HasReached, AreWellPlaced, plan_of, IsCounted, rules_by, SessionState, Unfollowed, exit_on, exit_stands, judged_exit, unfollowed_exit, ends_at_exit, ends_at_failure, judged_at, short_there, unlike_there, IsMovedFrom, unfollowed_of, IsInPlace, IsShort, IsUnlike, IsJudgedAt, before_moved, before_released, IsUnfollowed, IsUnfollowedBy, FailsOn, HasReachedOn, HasRunOn, IsReleasedAtExit}
+use Rattle.rx_engine.proofs.Terms.{List, None, [], ap, append-nil, arith, inl, length, refl, subst, sym, ℕ, ◌+◌, ◌∙◌, ◌≡◌, ◌≤◌, IsSome, LinkEvent, Tells, Told, Seen, Heap, Env, Image, Fails, FailsBy, Limits, Path, guest_of, serves, Standing, items_in, Rules, Noted, heard_alone, AtExit, AtFailure, Handed, HasReached, AreWellPlaced, plan_of, IsCounted, rules_by, SessionState, Unfollowed, exit_on, exit_stands, judged_exit, unfollowed_exit, ends_at_exit, ends_at_failure, judged_at, short_there, unlike_there, IsMovedFrom, unfollowed_of, IsInPlace, IsShort, IsUnlike, IsJudgedAt, before_moved, before_released, IsUnfollowed, IsUnfollowedBy, FailsOn, HasReachedOn, HasRunOn, IsReleasedAtExit}
 
 -- at its failure
 module _ {R : Type 0} {rules here : Rules} {image : Image} {handed : Handed} {told : Told} {seen : Seen} {before noted : Noted} {missing : List ℕ} {session : SessionState R} (w : FailsOn rules here image handed told seen before noted missing session) where
@@ -76,7 +76,7 @@ module _ {R : Type 0} (permits : R → Heap → ℕ → ℕ → Bool) {rules : R
   judged_ended = judged_exit permits h moved_exit replies_exit choices_exit counted_exit
 
   -- It is released there.
-  pub released_exit : {new : SessionState R} → new ≡ record session { before = new.before; hold = new.hold } → new.hold ≡ session.options.hold → new.before ≡ before_released (before_moved session.before session.cpu.slots.live []) (plan_of KEEP handed.episodes)
+  pub released_exit : {new : SessionState R} → new ≡ record session { before = new.before; hold = new.hold } → new.hold ≡ session.options.hold → new.before ≡ before_released (before_moved session.before session.cpu.slots.live []) (plan_of session.options.keep handed.episodes)
       → HasReached rules.limits handed h.runs.ran.now (AtExit ended_exit) → IsReleasedAtExit rules (rules_by permits new) image handed told seen before noted code new
   released_exit {new = new} same hold came reached =
       let replies : new.replies ≡ old.replies = ap (λ (s : SessionState R). s.replies) same ∙ replies_exit in
@@ -89,7 +89,7 @@ module _ {R : Type 0} (permits : R → Heap → ℕ → ℕ → Bool) {rules : R
         steps = ap (λ (s : SessionState R). s.steps) same ∙ (counted_exit.steps ∙ sym (ap (λ (s : SessionState R). s.cpu.slots.live.steps) same));
       } in
       exit_on permits h moved replies choices counted (hold ∙ (ap (λ (s : SessionState R). s.options.hold) is ∙ (ap (λ (s : SessionState R). s.options.hold) h.same ∙ sym h.stood.hold_is)))
-      (came ∙ ap (λ (s : SessionState R). before_released (before_moved s.before s.cpu.slots.live []) (plan_of KEEP handed.episodes)) is) (reached_ended ended_exit (exit_stands permits h moved replies choices counted) reached)
+      (came ∙ ap (λ (s : SessionState R). before_released (before_moved s.before s.cpu.slots.live []) (plan_of s.options.keep handed.episodes)) is) (reached_ended ended_exit (exit_stands permits h moved replies choices counted) reached)
 
   -- It isn't released there.
   pub unlike_exit : {step : ℕ} → AreWellPlaced handed.episodes → session.steps ≡ step → IsUnlike rules.limits (items_in rules.bounds (heard_alone h.stood.events)) handed h.runs.ran.now

@@ -33,7 +33,7 @@ module _ {R : Type 0} where
   fails_as permits {image = image} {began = began} {seen = seen} {cause = cause} same = subst (λ (s : SessionState R). IsFailing (rules_by permits s) image began seen cause s) same
 
   -- what its recovery asks for, where its guest stands so
-  pub recovers_at : {rules : Rules} {image : Image} {began : Since} {seen : Seen} {cause : Cause} {old : SessionState R} {pc : ℕ} (f : IsFailing rules image began seen cause old) → rules.limits.budget ≤ 2 ^ 24 → 1 ≤ rules.limits.keep → rules.bounds.max_items ≤ MAX_ITEMS → pc ≡ old.cpu.slots.live.guest.machine.pc
+  pub recovers_at : {rules : Rules} {image : Image} {began : Since} {seen : Seen} {cause : Cause} {old : SessionState R} {pc : ℕ} (f : IsFailing rules image began seen cause old) → rules.limits.budget ≤ 2 ^ 36 → 1 ≤ rules.limits.keep → rules.bounds.max_items ≤ MAX_ITEMS → pc ≡ old.cpu.slots.live.guest.machine.pc
       → HasToRecover (record { point = old.taken; cause = cause; pc = pc }) (failure_of f) (held_in old)
   recovers_at {cause = cause} {old = old} f budget keep items is = subst (λ n. HasToRecover (record { point = old.taken; cause = cause; pc = n }) (failure_of f) (held_in old)) (sym is) (to_recover f budget keep items)
 

@@ -3,7 +3,7 @@ pub use Rattle.std.specs.declared.alloc.AllocError.{AllocError}
 pub use Rattle.std.proofs.Common.{Err, List, None, Ok, Option, Some, [], ap, append-nil, arith, drop, inl, inr, length, map, min, refl, rules, subst, sym, take, ℕ, ◌*◌, ◌++◌, ◌+◌, ◌-◌, ◌<◌, ◌^◌, ◌∙◌, ◌∷◌, ◌≡◌, ◌≤◌}
 pub use Rattle.std.proofs.lemmas.Bool.{false≢true}
 pub use Rattle.std.specs.Prelude.{Bool, IfOk, IfSome, IsSome, Result, false, if◌then◌else◌, slice_get, true, ◌==◌, ◌≢◌, ◌⊎◌}
-pub use Rattle.rx_base.specs.declared.item.TheConstants.{KEEP, MAX_ITEMS}
+pub use Rattle.rx_base.specs.declared.item.TheConstants.{MAX_ITEMS}
 pub use Rattle.rx_base.proofs.Composing.{rose_later}
 pub use Rattle.rx_base.specs.Sends.{Send, sent_to}
 pub use Rattle.links.specs.declared.journal.LinkEvent.{LinkEvent}

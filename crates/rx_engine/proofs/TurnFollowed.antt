@@ -235,7 +235,7 @@ module _ {R : Type 0} {old mid : SessionState R} where
       subst (λ (s : SessionState R). KeepsOldest old s) (sym is) (record { oldest = first.oldest; first = first.first; recorded = first.recorded; sends = first.sends; keeping = first.keeping })
 
 -- Its guest has done few instructions: so many come between two items, and so many items.
-pub follows_fits : {R : Type 0} {rules here : Rules} {image : Image} {handed : Handed} {told : Told} {seen : Seen} {before noted : Noted} {missing : List ℕ} {session : SessionState R} → here.limits.budget ≤ 2 ^ 24 → here.bounds.max_items ≤ MAX_ITEMS → Follows rules here image handed told seen before noted missing session
+pub follows_fits : {R : Type 0} {rules here : Rules} {image : Image} {handed : Handed} {told : Told} {seen : Seen} {before noted : Noted} {missing : List ℕ} {session : SessionState R} → here.limits.budget ≤ 2 ^ 36 → here.bounds.max_items ≤ MAX_ITEMS → Follows rules here image handed told seen before noted missing session
     → session.cpu.slots.live.steps < 1152921504606846976
 follows_fits {rules = rules} {here = here} budget items s =
     let now : Path = s.now in

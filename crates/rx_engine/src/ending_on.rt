@@ -76,6 +76,7 @@ impl<R: AccessRule> Session<R> {
                     past: &self.past,
                     cpu: &self.held.cpu,
                     episodes: handed.episodes,
+                    keep: self.options.keep,
                 });
                 Ok(Turned::Exits(code))
             }

@@ -10,7 +10,7 @@ use guest_space::AccessRule;
 use links::Link;
 use recovery::{Adopted, FailureSite, Recovered, Watch};
 use run_history::Cause;
-use rx_base::{IoFault, KEEP, Steps};
+use rx_base::{IoFault, Steps};
 use session_history::{SessionBreak, SessionEnd, Stop};
 use session_notes::Notes;
 use std::alloc::AllocError;
@@ -89,7 +89,7 @@ impl<R: AccessRule> Session<R> {
             Ok(recovered) => match recovered.adopted {
                 Some(adopted) => {
                     self.env = adopted.env;
-                    self.until = point + KEEP;
+                    self.until = point + self.options.keep as u64;
                     self.count_run();
                     Ok(recovered)
                 }

@@ -1,13 +1,13 @@
 -- The answers of the allocator that a run used are those that a record may have.
 use Rattle.std.specs.Prelude.{nat_lt}
 use Rattle.block_book.specs.Block.{touched, lies_in}
-use Rattle.block_book.specs.Answer.{bytes_asked, is_allowed, is_block, is_calloc, is_clear, same_ask}
+use Rattle.block_book.specs.Answer.{bytes_asked, is_allowed, is_block, is_calloc, is_clear, kept_count, may_carry, moved_count, replaced, same_ask}
 use Rattle.guest_image.proofs.Valid.{stack_top_below}
 use Rattle.guest_image.specs.Image.{heap_end, heap_start}
 use Rattle.guest_cpu.proofs.StartLemmas.{heap_above_null}
 use Rattle.block_book.specs.declared.choice.Ask.{Ask}
 use Rattle.block_book.specs.declared.choice.Ask.TheVariants.{Calloc as AskCalloc, Malloc as AskMalloc, Realloc as AskRealloc}
-use Rattle.rx_serve.proofs.Terms.{Bool, List, Some, [], ap, arith, eqb, false, get_or, inl, inr, leb, not, refl, subst, sym, true, true≢false, ℕ, ◌%◌, ◌&&◌, ◌+◌, ◌<◌, ◌^◌, ◌∙◌, ◌∷◌, ◌≡◌, ◌≤◌, and_parts, cases_eq, cases_lt, eqb-true, leb-true, ltb-true, or_cases, All-cons, All-from_get_or, All-head, All-nil, All-tail, same_Some, slice_get-get_or, All, slice_get, ◌==◌, ◌||◌, Item, Choice, Image, repeated_keeps, allocated_keeps, next_parts, received_keeps, allocated, received, Machine, State, start, start_machine, Run, next, ByChoice, ByEnd, ByItem, ByItself, BySend, Moved, moved, IsAsk, IsChoice, is_ask, AreAsks}
+use Rattle.rx_serve.proofs.Terms.{Bool, List, None, Option, Some, [], ap, arith, eqb, false, get_or, inl, inr, leb, not, refl, subst, sym, true, true≢false, ℕ, ◌%◌, ◌&&◌, ◌+◌, ◌<◌, ◌^◌, ◌∙◌, ◌∷◌, ◌≡◌, ◌≤◌, and_parts, cases_eq, cases_lt, eqb-true, leb-true, ltb-true, or_cases, All-cons, All-from_get_or, All-head, All-nil, All-tail, same_Some, slice_get-get_or, All, IsSome, slice_get, ◌==◌, ◌||◌, Item, Choice, Image, repeated_keeps, allocated_keeps, next_parts, received_keeps, allocated, received, Machine, State, start, start_machine, Run, next, ByChoice, ByEnd, ByItem, ByItself, BySend, Moved, moved, IsAsk, IsChoice, is_ask, AreAsks}
 
 -- a block that C allows begins in the heap, and ends there
 clear_within : (start end : ℕ) (live : List (ℕ × ℕ)) (at size : ℕ) → is_clear start end live at size ≡ true → (start ≤ at) × (at < end)
@@ -21,6 +21,8 @@ record IsPlaced (choice : Choice) : Type 0 where
   address : choice.at < 2 ^ 32
   null : choice.at ≡ 0 → choice.zeroed ≡ false
   zeros : is_calloc choice.ask ≡ true → 0 < choice.at → choice.zeroed ≡ true
+  carried : choice.carried < 2 ^ 32
+  carries : 0 < choice.carried → (0 < choice.at) × IsSome (replaced choice.ask)
 
 -- a block is zeroed, or it isn't one of calloc
 zeroed_so : (zeroed calloc : Bool) → (zeroed || not calloc) ≡ true → calloc ≡ true → zeroed ≡ true
@@ -32,12 +34,39 @@ plain_so : (zeroed : Bool) → not zeroed ≡ true → zeroed ≡ false
 plain_so true is = absurd (true≢false (sym is))
 plain_so false is = refl
 
-null_placed : (choice : Choice) → ((choice.at == 0) && not choice.zeroed) ≡ true → IsPlaced choice
+null_placed : (choice : Choice) → ((choice.at == 0) && not choice.zeroed && (choice.carried == 0)) ≡ true → IsPlaced choice
 null_placed choice is =
-    let parts = and_parts (choice.at == 0) (not choice.zeroed) is in
+    let both = and_parts ((choice.at == 0) && not choice.zeroed) (choice.carried == 0) is in
+    let parts = and_parts (choice.at == 0) (not choice.zeroed) both.0 in
+    let none = eqb-true choice.carried 0 both.1 in
     elim (cases_eq choice.at 0) [
-      | inl null ↦ record { address = omega (arith, null); null = λ _. plain_so choice.zeroed parts.1; zeros = λ calloc some. absurd (omega (arith, null, some)) }
+      | inl null ↦ record {
+        address = omega (arith, null);
+        null = λ _. plain_so choice.zeroed parts.1;
+        zeros = λ calloc some. absurd (omega (arith, null, some));
+        carried = omega (arith, none);
+        carries = λ some. absurd (omega (arith, none, some));
+      }
       | inr some ↦ absurd (some (eqb-true choice.at 0 parts.0))
+    ]
+
+-- bytes are carried in place of a block of the heap
+carried_placed : (start end : ℕ) (live : List (ℕ × ℕ)) (choice : Choice) (over : Option ℕ) → may_carry start end live choice over ≡ true → 0 < start → end ≤ 2 ^ 32 → (choice.carried < 2 ^ 32) × IsSome over
+unfolding may_carry
+carried_placed start end live choice None may above below = absurd (true≢false (sym may))
+carried_placed start end live choice (Some old) may above below =
+    let count : ℕ = kept_count live (bytes_asked choice.ask) (Some old) + choice.carried in
+    let parts = and_parts (leb start old) (leb (old + count) end) (and_parts (lies_in old count start end) (is_clear start end live choice.at count) (and_parts _ _ may).0).0 in
+    let low : start ≤ old = leb-true start old parts.0 in
+    let high : old + (kept_count live (bytes_asked choice.ask) (Some old) + choice.carried) ≤ end = leb-true (old + count) end parts.1 in
+    (omega (arith, low, high, above, below), refl)
+
+carries_so : (start end : ℕ) (live : List (ℕ × ℕ)) (choice : Choice) → ((choice.carried == 0) || may_carry start end live choice (replaced choice.ask)) ≡ true → 0 < start → end ≤ 2 ^ 32
+    → (choice.carried < 2 ^ 32) × (0 < choice.carried → IsSome (replaced choice.ask))
+carries_so start end live choice is above below =
+    elim (or_cases (choice.carried == 0) (may_carry start end live choice (replaced choice.ask)) is) [
+      | inl zero ↦ let none = eqb-true choice.carried 0 zero in (omega (arith, none), λ some. absurd (omega (arith, none, some)))
+      | inr may ↦ let found = carried_placed start end live choice (replaced choice.ask) may above below in (found.0, λ some. found.1)
     ]
 
 -- a block in a heap above address 0 and below 2 ^ 32
@@ -45,19 +74,24 @@ block_placed : (start end : ℕ) (live : List (ℕ × ℕ)) (choice : Choice) �
 unfolding is_block
 block_placed start end live choice is above below =
     let size = bytes_asked choice.ask in
-    let parts = and_parts (nat_lt size (2 ^ 32) && is_clear start end live choice.at size) (choice.zeroed || not (is_calloc choice.ask)) is in
+    let marked : Bool = choice.zeroed || not (is_calloc choice.ask) in
+    let both = and_parts (nat_lt size (2 ^ 32) && is_clear start end live choice.at size && marked) ((choice.carried == 0) || may_carry start end live choice (replaced choice.ask)) is in
+    let parts = and_parts (nat_lt size (2 ^ 32) && is_clear start end live choice.at size) marked both.0 in
+    let carries = carries_so start end live choice both.1 above below in
     let within = clear_within start end live choice.at size (and_parts (nat_lt size (2 ^ 32)) (is_clear start end live choice.at size) parts.0).1 in
     record {
       address = omega (arith, within.1, below);
       null = λ null. absurd (omega (arith, within.0, above, null));
       zeros = λ calloc some. zeroed_so choice.zeroed (is_calloc choice.ask) parts.1 calloc;
+      carried = carries.0;
+      carries = λ some. (omega (arith, within.0, above), carries.1 some);
     }
 
 -- an answer that C allows there
 allowed_placed : (start end : ℕ) (live : List (ℕ × ℕ)) (ask : Ask) (choice : Choice) → is_allowed start end live ask choice ≡ true → 0 < start → end ≤ 2 ^ 32 → IsPlaced choice
 unfolding is_allowed
 allowed_placed start end live ask choice may above below =
-    elim (or_cases ((choice.at == 0) && not choice.zeroed) (is_block start end live choice) (and_parts (same_ask choice.ask ask) _ may).1) [
+    elim (or_cases ((choice.at == 0) && not choice.zeroed && (choice.carried == 0)) (is_block start end live choice) (and_parts (same_ask choice.ask ask) _ may).1) [
       | inl null ↦ null_placed choice null
       | inr block ↦ block_placed start end live choice block above below
     ]
@@ -122,7 +156,7 @@ all_placed image items choices steps state ran =
     let had =
     repeated_keeps (next items choices) (λ x y. HasUsed image choices x → HasUsed image choices y) (λ x used. used) (λ x y z one other used. other (one used))
     (λ x y goes. next_used image items choices x y goes) steps (start image) state ran.ran (begins_used image choices) in
-    let none : Choice = record { ask = AskMalloc 0; at = 0; zeroed = false } in
+    let none : Choice = record { ask = AskMalloc 0; at = 0; zeroed = false; carried = 0 } in
     All-from_get_or IsPlaced choices none
     (λ k less. had.used k (get_or choices k none) (omega (arith, less, ran.used)) (slice_get-get_or choices k none less))
 
@@ -138,7 +172,7 @@ ask_fine (AskRealloc old size) is =
     (ltb-true old (2 ^ 32) parts.0, ltb-true size (2 ^ 32) parts.1)
 
 choice_fine : (choice : Choice) → is_ask choice.ask ≡ true → IsPlaced choice → IsChoice choice
-choice_fine choice ask placed = record { asked = (refl, ask_fine choice.ask ask); address = placed.address; null = placed.null; zeros = placed.zeros }
+choice_fine choice ask placed = record { asked = (refl, ask_fine choice.ask ask); address = placed.address; null = placed.null; zeros = placed.zeros; carried = placed.carried; carries = placed.carries }
 
 both_fine : (choices : List Choice) → AreAsks choices → All IsPlaced choices → All IsChoice choices
 both_fine [] asks placed = All-nil IsChoice

@@ -13,7 +13,7 @@ window_is value (window, others) options is =
     subst (λ (o : Options). IsWindow o.window) (sym is) (record { whole = omega arith; least = omega arith; most = omega arith })
 
 pub options_in_range : (value : RunValue) → RangesHold value → (options : Options) → options ≡ options_of value → AreInRange options
-options_in_range value (window, (hold, (ring, (every, (frames, (budget, others)))))) options is =
+options_in_range value (window, (hold, (ring, (every, (frames, (budget, (keep, others))))))) options is =
     subst AreInRange (sym is) (record {
       hold = hold.1;
       some_ring = ring.0;
@@ -24,6 +24,7 @@ options_in_range value (window, (hold, (ring, (every, (frames, (budget, others))
       few_frames = frames.1;
       some_budget = budget.0;
       few_budget = budget.1;
+      some_keep = keep.0;
       some_items = omega arith;
       few_items = omega arith;
       some_events = omega arith;
@@ -42,9 +43,9 @@ unfolding conns_row
 conns_few value ((port, (conns, others)), none) = conns
 
 -- the budget of a takeover
-pub budget_few : (value : StandbyValue) → HasRanges (standby value) → (1 ≤ value.budget) × (value.budget ≤ 2 ^ 24)
+pub budget_few : (value : StandbyValue) → HasRanges (standby value) → (1 ≤ value.budget) × (value.budget ≤ 2 ^ 36)
 budget_few value (budget, others) = budget
 
 -- and of clients at the same time
 pub at_once_few : (value : ServeValue) → HasRanges (serve value) → (1 ≤ value.at_once) × (value.at_once ≤ 256)
-at_once_few value ((port, (conns, (window, (ring, (every, (frames, (budget, (patience, (at_once, others))))))))), none) = at_once
+at_once_few value ((port, (conns, (window, (ring, (every, (frames, (budget, (keep, (patience, (at_once, others)))))))))), none) = at_once

@@ -82,7 +82,7 @@ module _ (counts : List (ℕ × ℕ)) (kept : List Kept) (sends : List Send) (sa
 -- ---- its counts fit into a record
 
 pub counts_fit : {image : Image} {recorded : Recorded} {budget : ℕ} {counts : List (ℕ × ℕ)} {from : List Entry} {source source_later : Option Stream} {sink sink_later : Option (List ℕ)} {end : Answer} {choices : List Choice} {steps taken : ℕ}
-    → ServesOnTrunk image recorded budget counts from source source_later sink sink_later end choices steps taken → IsRecord recorded → recorded.steps < 2 ^ 62 → budget ≤ 2 ^ 24 → (steps < 2 ^ 63) × (taken ≤ MAX_ITEMS)
+    → ServesOnTrunk image recorded budget counts from source source_later sink sink_later end choices steps taken → IsRecord recorded → recorded.steps < 2 ^ 62 → budget ≤ 2 ^ 36 → (steps < 2 ^ 63) × (taken ≤ MAX_ITEMS)
 counts_fit {recorded = recorded} {budget = budget} {steps = steps} {taken = taken} serves is short low =
     let path = serves.path in
     let seam = serves.followed.seam in

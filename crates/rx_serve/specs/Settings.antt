@@ -18,6 +18,7 @@ options_of value = record {
   every = value.every;
   frames = value.frames;
   budget = value.budget;
+  keep = value.keep;
   max_items = MAX_ITEMS;
   max_events = MAX_EVENTS;
 }

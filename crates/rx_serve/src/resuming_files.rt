@@ -104,6 +104,7 @@ fn choice_of(line: Line) -> Choice
         ask,
         at: line.at,
         zeroed: line.zeroed,
+        carried: line.carried,
     }
 }
 

@@ -25,6 +25,7 @@ pub fn options_of(run: &RunCommand<'_>) -> Options
         every: run.every,
         frames: run.frames,
         budget: run.budget,
+        keep: run.keep,
         max_items: MAX_ITEMS,
         max_events: MAX_EVENTS,
     }

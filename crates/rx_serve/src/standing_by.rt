@@ -100,7 +100,7 @@ fn take_over<F: Files, S: Source, K: Sink, L: Ledger>(
     steps: &mut Steps<L>,
 ) -> End
     requires ready { IsReady takeover.now.image takeover.now.recorded takeover.now.counts }
-    requires budget { (1 ≤ standby.now.budget) × (standby.now.budget ≤ 2 ^ 24) }
+    requires budget { (1 ≤ standby.now.budget) × (standby.now.budget ≤ 2 ^ 36) }
     requires new { IsNewTrunk S.told S.faults K.told K.faults link.old }
     ensures takes { TakesOver (standby_shown standby.now) takeover.now.image takeover.now.recorded takeover.now.counts (outside (F.told files.old) (F.calls files.old) (S.told link.old.source) (K.told link.old.sink) steps.old) (outside (F.told files.new) (F.calls files.new) (S.told link.new.source) (K.told link.new.sink) steps.new) result }
     ensures faults { HasFaults (faults (F.faults files.old) (S.faults link.old.source) (K.faults link.old.sink)) (faults (F.faults files.new) (S.faults link.new.source) (K.faults link.new.sink)) result.answer }
@@ -137,7 +137,7 @@ fn take_over_trunk<F: Files, S: Source, K: Sink, L: Ledger>(
     steps: &mut Steps<L>,
 ) -> End
     requires ready { IsReady takeover.now.image takeover.now.recorded takeover.now.counts }
-    requires budget { (1 ≤ standby.now.budget) × (standby.now.budget ≤ 2 ^ 24) }
+    requires budget { (1 ≤ standby.now.budget) × (standby.now.budget ≤ 2 ^ 36) }
     ensures takes { TakesOver (standby_shown standby.now) takeover.now.image takeover.now.recorded takeover.now.counts (outside (F.told files.old) (F.calls files.old) (S.told input.old) (K.told output.old) steps.old) (outside (F.told files.new) (F.calls files.new) (S.told input.new) (K.told output.new) steps.new) result }
     ensures faults { HasFaults (faults (F.faults files.old) (S.faults input.old) (K.faults output.old)) (faults (F.faults files.new) (S.faults input.new) (K.faults output.new)) result.answer }
     ensures status { result.status ≡ status_of result.answer }
@@ -157,7 +157,7 @@ pub(crate) fn stand_by<F: Files, S: Source, K: Sink, L: Ledger>(
     output: &mut K,
     steps: &mut Steps<L>,
 ) -> End
-    requires budget { (1 ≤ standby.now.budget) × (standby.now.budget ≤ 2 ^ 24) }
+    requires budget { (1 ≤ standby.now.budget) × (standby.now.budget ≤ 2 ^ 36) }
     ensures ends { StandbyEnds (standby_shown standby.now) (outside (F.told files.old) (F.calls files.old) (S.told input.old) (K.told output.old) steps.old) (outside (F.told files.new) (F.calls files.new) (S.told input.new) (K.told output.new) steps.new) result }
     ensures faults { HasFaults (faults (F.faults files.old) (S.faults input.old) (K.faults output.old)) (faults (F.faults files.new) (S.faults input.new) (K.faults output.new)) result.answer }
     ensures status { result.status ≡ status_of result.answer }

@@ -2,7 +2,7 @@
 use Rattle.std.proofs.lemmas.Bool.{and_parts}
 use Rattle.msg_frame.specs.declared.framing.Framing.TheVariants as framing
 use Rattle.text_lines.proofs.Digits.{number-decimal, behind-decimal, two-decimals}
-use Rattle.schedule_file.proofs.Terms.{Bool, List, None, Option, Some, [], ap, arith, drop, false, refl, true, ℕ, ◌&&◌, ◌++◌, ◌<◌, ◌^◌, ◌∙◌, ◌∷◌, ◌≡◌, ◌≤◌, nat_tests, decimal, nat_le, nat_lt, slice_index, ◌==◌, MAX_ITEMS, Ask, Calloc, Malloc, Realloc, Framing, by_option, written_complete, written_sound, behind_digits, first_number, number_from, second_number, Finish, Head, Line, MAX_WINDOW, VERSION, arguments, eight_digits, end_line, frame_name, head_line, letter, line_text, mark, IsAnswer, IsAsk, IsAskOf, WasCalloc, answer_of, ask_told, asked_told, end_of, end_told, frame_told, head_of, head_told, hex_at, is_answer, is_ask, is_ask_of, is_end, is_head, is_marked, line_told, was_calloc, written_end, written_head}
+use Rattle.schedule_file.proofs.Terms.{Bool, List, None, Option, Some, [], ap, arith, cases_eq, cond, drop, false, inl, inr, length, not, refl, sym, take, true, ℕ, ◌&&◌, ◌++◌, ◌<◌, ◌^◌, ◌∙◌, ◌∷◌, ◌≡◌, ◌≤◌, nat_tests, decimal, nat_le, nat_lt, slice_index, ◌==◌, MAX_ITEMS, Ask, Calloc, Malloc, Realloc, Framing, by_option, written_complete, written_sound, behind_digits, first_number, number_from, second_number, Finish, Head, Line, MAX_WINDOW, VERSION, arguments, carried_part, eight_digits, end_line, frame_name, head_line, letter, line_text, mark, spaced, IsAnswer, IsAsk, IsAskOf, WasCalloc, WasReplacing, answer_of, ask_told, asked_told, end_of, end_told, frame_told, head_of, head_told, hex_at, hex_from, is_answer, is_ask, is_ask_of, is_carrying, is_end, is_head, is_marked, line_told, was_calloc, was_replacing, written_end, written_head}
 use Rattle.schedule_file.proofs.Digits.{hex-front}
 
 -- ---- the first line
@@ -67,11 +67,11 @@ head_of-sound line head h = written_sound is_head written_head (head_told line) 
 
 -- ---- an answer of the allocator
 
-abbrev pub line_with : Option Ask → ℕ → Bool → Line
-line_with ask address zeroed = record { ask = ask; at = address; zeroed = zeroed }
+abbrev pub line_with : Option Ask → ℕ → Bool → ℕ → Line
+line_with ask address zeroed carried = record { ask = ask; at = address; zeroed = zeroed; carried = carried }
 
-line_same : (line : Line) (ask : Option Ask) (address : ℕ) (zeroed : Bool) → ask ≡ line.ask → address ≡ line.at → zeroed ≡ line.zeroed → line_with ask address zeroed ≡ line
-line_same line ask address zeroed h i k = rw (h, i, k) refl
+line_same : (line : Line) (ask : Option Ask) (address : ℕ) (zeroed : Bool) (carried : ℕ) → ask ≡ line.ask → address ≡ line.at → zeroed ≡ line.zeroed → carried ≡ line.carried → line_with ask address zeroed carried ≡ line
+line_same line ask address zeroed carried h i k l = rw (h, i, k, l) refl
 
 by_mark : (zeroed : Bool) → (mark zeroed == 122) ≡ zeroed
 by_mark true = refl
@@ -87,28 +87,52 @@ realloc_same : (n m old size : ℕ) → n ≡ old → m ≡ size → Realloc n m
 realloc_same n m old size h k = rw (h, k) refl
 
 -- what was asked, as it stands in a line
-told_ask : (ask : Ask) (address : ℕ) (zeroed : Bool) → IsAsk ask → ask_told (line_text (line_with (Some ask) address zeroed)) ≡ ask
+told_ask : (ask : Ask) (address : ℕ) (zeroed : Bool) (carried : ℕ) → IsAsk ask → ask_told (line_text (line_with (Some ask) address zeroed carried)) ≡ ask
 unfolding line_text
-told_ask (Malloc size) address zeroed h = malloc_same _ size (hex-front size (10 ∷ []) h)
-told_ask (Calloc count size) address zeroed h = calloc_same _ _ count size (hex-front count (32 ∷ (eight_digits size ++ 10 ∷ [])) h.0) (hex-front size (10 ∷ []) h.1)
-told_ask (Realloc old size) address zeroed h = realloc_same _ _ old size (hex-front old (32 ∷ (eight_digits size ++ 10 ∷ [])) h.0) (hex-front size (10 ∷ []) h.1)
+told_ask (Malloc size) address zeroed carried h = malloc_same _ size (hex-front size (10 ∷ []) h)
+told_ask (Calloc count size) address zeroed carried h = calloc_same _ _ count size (hex-front count (32 ∷ (eight_digits size ++ 10 ∷ [])) h.0) (hex-front size (10 ∷ []) h.1)
+told_ask (Realloc old size) address zeroed carried h =
+    let behind : List ℕ = carried_part carried ++ 10 ∷ [] in
+    realloc_same _ _ old size (hex-front old (32 ∷ (eight_digits size ++ behind)) h.0) (hex-front size behind h.1)
 
-told_asked : (version : ℕ) (ask : Option Ask) (address : ℕ) (zeroed : Bool) → IsAskOf version ask → asked_told version (line_text (line_with ask address zeroed)) ≡ ask
-told_asked version None address zeroed h = rw h refl
-told_asked version (Some ask) address zeroed h = rw h.0 (ap (λ (told : Ask). Some told) (told_ask ask address zeroed h.1))
+told_asked : (version : ℕ) (ask : Option Ask) (address : ℕ) (zeroed : Bool) (carried : ℕ) → IsAskOf version ask → asked_told version (line_text (line_with ask address zeroed carried)) ≡ ask
+told_asked version None address zeroed carried h = rw h refl
+told_asked version (Some ask) address zeroed carried h = rw h.0 (ap (λ (told : Ask). Some told) (told_ask ask address zeroed carried h.1))
 
-told_address : (ask : Option Ask) (address : ℕ) (zeroed : Bool) → address < 2 ^ 32 → hex_at 2 (line_text (line_with ask address zeroed)) ≡ address
+told_address : (ask : Option Ask) (address : ℕ) (zeroed : Bool) (carried : ℕ) → address < 2 ^ 32 → hex_at 2 (line_text (line_with ask address zeroed carried)) ≡ address
 unfolding line_text
-told_address ask address zeroed h = hex-front address (32 ∷ mark zeroed ∷ (arguments ask ++ 10 ∷ [])) h
+told_address ask address zeroed carried h = hex-front address (32 ∷ mark zeroed ∷ (arguments ask carried ++ 10 ∷ [])) h
 
-told_mark : (ask : Option Ask) (address : ℕ) (zeroed : Bool) → (slice_index (line_text (line_with ask address zeroed)) 11 == 122) ≡ zeroed
+told_mark : (ask : Option Ask) (address : ℕ) (zeroed : Bool) (carried : ℕ) → (slice_index (line_text (line_with ask address zeroed carried)) 11 == 122) ≡ zeroed
 unfolding line_text
-told_mark ask address zeroed = by_mark zeroed
+told_mark ask address zeroed carried = by_mark zeroed
 
-line_told-line : (version : ℕ) (line : Line) → IsAskOf version line.ask → line.at < 2 ^ 32 → line_told version (line_text line) ≡ line
-line_told-line version line asked small =
-    line_same line (asked_told version (line_text line)) (hex_at 2 (line_text line)) (slice_index (line_text line) 11 == 122)
-    (told_asked version line.ask line.at line.zeroed asked) (told_address line.ask line.at line.zeroed small) (told_mark line.ask line.at line.zeroed)
+-- what stands behind the second argument, or nothing
+abbrev hex_front : List ℕ → ℕ
+hex_front bytes = cond (nat_lt (length bytes) 8) 0 (hex_from 0 (take 8 bytes))
+
+told_behind : (carried : ℕ) (none : Bool) → (carried == 0) ≡ none → carried < 2 ^ 32 → hex_front (drop 1 (cond none [] (spaced carried) ++ 10 ∷ [])) ≡ carried
+told_behind carried true e small = let none : carried ≡ 0 = grind (arith, nat_tests) in sym none
+told_behind carried false e small = hex-front carried (10 ∷ []) small
+
+none_carried : (carried : ℕ) → (0 < carried → ⊥) → 0 ≡ carried
+none_carried carried h = elim (cases_eq carried 0) [ inl none ↦ sym none | inr some ↦ absurd (h (omega (arith, some))) ]
+
+none_replaced : false ≡ true → ⊥
+none_replaced h = cc
+
+told_carried : (ask : Option Ask) (address : ℕ) (zeroed : Bool) (carried : ℕ) → carried < 2 ^ 32 → (0 < carried → WasReplacing ask) → hex_at 31 (line_text (line_with ask address zeroed carried)) ≡ carried
+unfolding line_text
+told_carried None address zeroed carried small h = none_carried carried h
+told_carried (Some (Malloc size)) address zeroed carried small h = none_carried carried (λ some. none_replaced (h some))
+told_carried (Some (Calloc count size)) address zeroed carried small h = none_carried carried (λ some. none_replaced (h some))
+told_carried (Some (Realloc old size)) address zeroed carried small h = told_behind carried (carried == 0) refl small
+
+line_told-line : (version : ℕ) (line : Line) → IsAnswer version line → line_told version (line_text line) ≡ line
+line_told-line version line is =
+    line_same line (asked_told version (line_text line)) (hex_at 2 (line_text line)) (slice_index (line_text line) 11 == 122) (hex_at 31 (line_text line))
+    (told_asked version line.ask line.at line.zeroed line.carried is.asked) (told_address line.ask line.at line.zeroed line.carried is.address) (told_mark line.ask line.at line.zeroed line.carried)
+    (told_carried line.ask line.at line.zeroed line.carried is.carried (λ some. (is.carries some).1))
 
 -- the tests of a line are its facts
 
@@ -157,27 +181,64 @@ calloc_fact : (ask : Option Ask) → WasCalloc ask → was_calloc ask ≡ true
 calloc_fact None h = absurd h
 calloc_fact (Some ask) h = h
 
+carry_test : (replacing : Bool) (address carried : ℕ) → carried < 2 ^ 32 → (0 < carried → (0 < address) × (replacing ≡ true)) → is_carrying replacing address carried ≡ true
+carry_test replacing address carried small h = by (carried == 0) refl
+  where
+    by : (none : Bool) → (carried == 0) ≡ none → cond none true (nat_lt carried (2 ^ 32) && (not (address == 0) && replacing)) ≡ true
+    by true e = refl
+    by false e =
+        let some : 0 < carried = grind (arith, nat_tests) in
+        let both = h some in
+        let above : 0 < address = both.0 in
+        let named : (address == 0) ≡ false = grind (arith, nat_tests) in
+        rw (small_test carried small, named) both.1
+
+carry_facts : (replacing : Bool) (address carried : ℕ) → is_carrying replacing address carried ≡ true → (carried < 2 ^ 32) × (0 < carried → (0 < address) × (replacing ≡ true))
+carry_facts replacing address carried h = by (carried == 0) refl h
+  where
+    by : (none : Bool) → (carried == 0) ≡ none → cond none true (nat_lt carried (2 ^ 32) && (not (address == 0) && replacing)) ≡ true → (carried < 2 ^ 32) × (0 < carried → (0 < address) × (replacing ≡ true))
+    by true e k = let none : carried ≡ 0 = same_fact carried 0 e in (omega (arith, none), λ some. absurd (omega (arith, none, some)))
+    by false e k =
+        let parts = and_parts (nat_lt carried (2 ^ 32)) (not (address == 0) && replacing) k in
+        let both = and_parts (not (address == 0)) replacing parts.1 in
+        let named : not (address == 0) ≡ true = both.0 in
+        (small_fact carried parts.0, λ some. (grind (arith, nat_tests), both.1))
+
+replacing_test : (ask : Option Ask) → was_replacing ask ≡ true → WasReplacing ask
+replacing_test None h = absurd (cc)
+replacing_test (Some ask) h = h
+
+replacing_fact : (ask : Option Ask) → WasReplacing ask → was_replacing ask ≡ true
+replacing_fact None h = absurd h
+replacing_fact (Some ask) h = h
+
 pub is_answer-from : (version : ℕ) (line : Line) → IsAnswer version line → is_answer version line ≡ true
 is_answer-from version line h =
-    rw (asked_test version line.ask h.asked, small_test line.at h.address)
-    (mark_test (was_calloc line.ask) line.at line.zeroed h.null (λ asked some. h.zeros (calloc_test line.ask asked) some))
+    rw (asked_test version line.ask h.asked, small_test line.at h.address, mark_test (was_calloc line.ask) line.at line.zeroed h.null (λ asked some. h.zeros (calloc_test line.ask asked) some))
+    (carry_test (was_replacing line.ask) line.at line.carried h.carried (λ some. ((h.carries some).0, replacing_fact line.ask (h.carries some).1)))
 
 pub is_answer-facts : (version : ℕ) (line : Line) → is_answer version line ≡ true → IsAnswer version line
 is_answer-facts version line h =
-    let both = and_parts (is_ask_of version line.ask) (nat_lt line.at (2 ^ 32) && is_marked (was_calloc line.ask) line.at line.zeroed) h in
-    let rest = and_parts (nat_lt line.at (2 ^ 32)) (is_marked (was_calloc line.ask) line.at line.zeroed) both.1 in
-    let marks = mark_facts (was_calloc line.ask) line.at line.zeroed rest.1 in
+    let marked : Bool = is_marked (was_calloc line.ask) line.at line.zeroed in
+    let carrying : Bool = is_carrying (was_replacing line.ask) line.at line.carried in
+    let both = and_parts (is_ask_of version line.ask) (nat_lt line.at (2 ^ 32) && (marked && carrying)) h in
+    let rest = and_parts (nat_lt line.at (2 ^ 32)) (marked && carrying) both.1 in
+    let last = and_parts marked carrying rest.1 in
+    let marks = mark_facts (was_calloc line.ask) line.at line.zeroed last.0 in
+    let carries = carry_facts (was_replacing line.ask) line.at line.carried last.1 in
     record {
       asked = asked_fact version line.ask both.0;
       address = small_fact line.at rest.0;
       null = marks.0;
       zeros = λ asked some. marks.1 (calloc_fact line.ask asked) some;
+      carried = carries.0;
+      carries = λ some. let found = carries.1 some in (found.0, replacing_test line.ask found.1);
     }
 
 pub answer_of-line : (version : ℕ) (line : Line) → IsAnswer version line → answer_of version (line_text line) ≡ Some line
 unfolding answer_of
 answer_of-line version line h =
-    written_complete (is_answer version) line_text (line_told version (line_text line)) line (is_answer-from version line h) (line_told-line version line h.asked h.address)
+    written_complete (is_answer version) line_text (line_told version (line_text line)) line (is_answer-from version line h) (line_told-line version line h)
 
 pub answer_of-sound : (version : ℕ) (line : List ℕ) (answer : Line) → answer_of version line ≡ Some answer → IsAnswer version answer × (line_text answer ≡ line)
 unfolding answer_of

@@ -1,5 +1,5 @@
 -- The text of a record, one spelling for each. Every line ends with a line feed.
-use Rattle.std.specs.Prelude.{ℕ, suc, zero, ◌+◌, ◌/◌, ◌%◌, Bool, List, [], ◌∷◌, ◌++◌, Option, None, Some, flat_map, codes, nat_lt, if◌then◌else◌}
+use Rattle.std.specs.Prelude.{ℕ, suc, zero, ◌+◌, ◌/◌, ◌%◌, Bool, List, [], ◌∷◌, ◌++◌, Option, None, Some, flat_map, codes, nat_lt, ◌==◌, if◌then◌else◌}
 use Rattle.msg_frame.specs.declared.framing.Framing.TheVariants as framing
 use Rattle.schedule_file.specs.Terms.{decimal, Ask, Calloc, Malloc, Realloc, Choice, Framing, Line}
 
@@ -36,12 +36,16 @@ letter (Some (Realloc old size)) = 114
 abbrev pub spaced : ℕ → List ℕ
 spaced n = 32 ∷ eight_digits n
 
--- the arguments of the call, in their order
-abbrev pub arguments : Option Ask → List ℕ
-arguments None = []
-arguments (Some (Malloc size)) = spaced size
-arguments (Some (Calloc count size)) = spaced count ++ spaced size
-arguments (Some (Realloc old size)) = spaced old ++ spaced size
+-- how many bytes were carried, unless none were
+abbrev pub carried_part : ℕ → List ℕ
+carried_part carried = if carried == 0 then [] else spaced carried
+
+-- the arguments of the call, in their order; and behind those of realloc how many bytes were carried
+abbrev pub arguments : Option Ask → ℕ → List ℕ
+arguments None carried = []
+arguments (Some (Malloc size)) carried = spaced size
+arguments (Some (Calloc count size)) carried = spaced count ++ spaced size
+arguments (Some (Realloc old size)) carried = spaced old ++ spaced size ++ carried_part carried
 
 -- z where the block was zeroed, else -
 abbrev pub mark : Bool → ℕ
@@ -51,10 +55,10 @@ mark zeroed = if zeroed then 122 else 45
 abbrev pub front : ℕ → ℕ → Bool → List ℕ
 front letter address zeroed = letter ∷ (spaced address ++ 32 ∷ mark zeroed ∷ [])
 
--- the line of an answer of the allocator: `m AAAAAAAA M SSSSSSSS`, `c AAAAAAAA M NNNNNNNN SSSSSSSS` or `r AAAAAAAA M OOOOOOOO SSSSSSSS`,
--- and `m AAAAAAAA M` in version 1, whatever was asked
+-- the line of an answer of the allocator: `m AAAAAAAA M SSSSSSSS`, `c AAAAAAAA M NNNNNNNN SSSSSSSS`, `r AAAAAAAA M OOOOOOOO SSSSSSSS` or
+-- `r AAAAAAAA M OOOOOOOO SSSSSSSS CCCCCCCC`, and `m AAAAAAAA M` in version 1, whatever was asked
 unfoldable pub line_text : Line → List ℕ
-line_text line = front (letter line.ask) line.at line.zeroed ++ (arguments line.ask ++ 10 ∷ [])
+line_text line = front (letter line.ask) line.at line.zeroed ++ (arguments line.ask line.carried ++ 10 ∷ [])
 
 -- the last line: `end STEPS TAKEN`
 unfoldable pub end_line : ℕ → ℕ → List ℕ
@@ -71,7 +75,7 @@ record_text version window frame lines steps taken = head_line version window fr
 -- ---- the lines of answers as they are written: with what was asked
 
 abbrev pub line_of : Choice → Line
-line_of choice = record { ask = Some choice.ask; at = choice.at; zeroed = choice.zeroed }
+line_of choice = record { ask = Some choice.ask; at = choice.at; zeroed = choice.zeroed; carried = choice.carried }
 
 abbrev pub choice_line : Choice → List ℕ
 choice_line choice = line_text (line_of choice)

@@ -1,6 +1,6 @@
 -- Which values a record may have, and what a reading of a text is.
-use Rattle.std.specs.Prelude.{◌≡◌, ℕ, ◌^◌, ◌<◌, ◌≤◌, true, false, List, map, All, Option, None, Some}
-use Rattle.schedule_file.specs.Terms.{MAX_ITEMS, Ask, Calloc, Malloc, Realloc, Choice, is_calloc, Framing, Line, Recorded, MAX_WINDOW, VERSION}
+use Rattle.std.specs.Prelude.{◌≡◌, ℕ, ◌^◌, ◌<◌, ◌≤◌, true, false, List, map, All, Option, None, Some, IsSome}
+use Rattle.schedule_file.specs.Terms.{MAX_ITEMS, Ask, Calloc, Malloc, Realloc, Choice, is_calloc, replaced, Framing, Line, Recorded, MAX_WINDOW, VERSION}
 use Rattle.schedule_file.specs.Lines.{line_of, record_text}
 
 -- the numbers of an ask have 32 bits
@@ -18,12 +18,20 @@ abbrev pub WasCalloc : Option Ask → Type 0
 WasCalloc None = ⊥
 WasCalloc (Some ask) = is_calloc ask ≡ true
 
--- the line of an answer in a version: a null pointer isn't zeroed, and a block that calloc asked for is
+-- the answer was to stand in place of a block
+abbrev pub WasReplacing : Option Ask → Type 0
+WasReplacing None = ⊥
+WasReplacing (Some ask) = IsSome (replaced ask)
+
+-- The line of an answer in a version: a null pointer isn't zeroed, and a block that calloc asked for is. Bytes are carried only to a block that stands
+-- in place of another one.
 pub record IsAnswer (version : ℕ) (line : Line) : Type 0 where
   pub asked : IsAskOf version line.ask
   pub address : line.at < 2 ^ 32
   pub null : line.at ≡ 0 → line.zeroed ≡ false
   pub zeros : WasCalloc line.ask → 0 < line.at → line.zeroed ≡ true
+  pub carried : line.carried < 2 ^ 32
+  pub carries : 0 < line.carried → (0 < line.at) × WasReplacing line.ask
 
 -- an answer of the allocator that has a line
 abbrev pub IsChoice : Choice → Type 0

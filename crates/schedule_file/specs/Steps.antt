@@ -2,16 +2,17 @@
 use Rattle.std.specs.Prelude.{◌≡◌, ℕ, List, ◌++◌, All, Option, None}
 use Rattle.schedule_file.specs.Terms.{first_line, Finish, Head, Line, Unfinished}
 use Rattle.schedule_file.specs.declared.writing.LineBytes.{LineBytes}
-use Rattle.schedule_file.specs.declared.writing.LineBytes.TheVariants.{Alone, One, Two}
+use Rattle.schedule_file.specs.declared.writing.LineBytes.TheVariants.{Alone, One, Three, Two}
 use Rattle.schedule_file.specs.Lines.{lines_text}
 use Rattle.schedule_file.specs.Records.{IsAnswer}
 use Rattle.schedule_file.specs.Telling.{answer_of}
 
--- the bytes of a line, by how many arguments it has
+-- the bytes of a line, by how many numbers stand behind its front
 abbrev pub bytes_of : LineBytes → List ℕ
 bytes_of (Alone bytes) = bytes
 bytes_of (One bytes) = bytes
 bytes_of (Two bytes) = bytes
+bytes_of (Three bytes) = bytes
 
 -- a text is the lines of some answers in a version and what stands behind them
 pub record IsBehind (version : ℕ) (text : List ℕ) (lines : List Line) (rest : List ℕ) : Type 0 where

@@ -1,9 +1,9 @@
 -- What a line is read as. A line tells some values by its places, whatever stands there; it is of its form exactly where they are
 -- in their ranges and it is what is written of them.
-use Rattle.std.specs.Prelude.{ℕ, ◌+◌, ◌-◌, ◌*◌, ◌^◌, Bool, false, not, ◌&&◌, ◌||◌, List, [], ◌∷◌, length, take, drop, Option, Some, None, slice_index, nat_le, nat_lt, if◌then◌else◌, ◌==◌}
+use Rattle.std.specs.Prelude.{ℕ, ◌+◌, ◌-◌, ◌*◌, ◌^◌, Bool, true, false, not, ◌&&◌, ◌||◌, List, [], ◌∷◌, length, take, drop, Option, Some, None, is_some, slice_index, nat_le, nat_lt, if◌then◌else◌, ◌==◌}
 use Rattle.msg_frame.specs.declared.framing.Framing.TheVariants as framing
 use Rattle.text_lines.specs.Written.{if_written}
-use Rattle.schedule_file.specs.Terms.{MAX_ITEMS, Ask, Calloc, Malloc, Realloc, is_calloc, Framing, behind_digits, first_number, number_from, second_number, Finish, Head, Line, MAX_WINDOW, VERSION}
+use Rattle.schedule_file.specs.Terms.{MAX_ITEMS, Ask, Calloc, Malloc, Realloc, is_calloc, replaced, Framing, behind_digits, first_number, number_from, second_number, Finish, Head, Line, MAX_WINDOW, VERSION}
 use Rattle.schedule_file.specs.Lines.{head_line, line_text, end_line}
 
 -- the number that a lower-case hexadecimal digit stands for
@@ -58,7 +58,7 @@ abbrev pub asked_told : ℕ → List ℕ → Option Ask
 asked_told version line = if version == 1 then None else Some (ask_told line)
 
 abbrev pub line_told : ℕ → List ℕ → Line
-line_told version line = record { ask = asked_told version line; at = hex_at 2 line; zeroed = slice_index line 11 == 122 }
+line_told version line = record { ask = asked_told version line; at = hex_at 2 line; zeroed = slice_index line 11 == 122; carried = hex_at 31 line }
 
 abbrev pub is_ask : Ask → Bool
 is_ask (Malloc size) = nat_lt size (2 ^ 32)
@@ -77,8 +77,18 @@ was_calloc (Some ask) = is_calloc ask
 abbrev pub is_marked : Bool → ℕ → Bool → Bool
 is_marked calloc address zeroed = if address == 0 then not zeroed else zeroed || not calloc
 
+abbrev pub was_replacing : Option Ask → Bool
+was_replacing None = false
+was_replacing (Some ask) = is_some (replaced ask)
+
+-- bytes are carried only to a block that stands in place of another one
+abbrev pub is_carrying : Bool → ℕ → ℕ → Bool
+is_carrying replacing address carried = if carried == 0 then true else nat_lt carried (2 ^ 32) && (not (address == 0) && replacing)
+
 abbrev pub is_answer : ℕ → Line → Bool
-is_answer version line = is_ask_of version line.ask && (nat_lt line.at (2 ^ 32) && is_marked (was_calloc line.ask) line.at line.zeroed)
+is_answer version line =
+    is_ask_of version line.ask
+    && (nat_lt line.at (2 ^ 32) && (is_marked (was_calloc line.ask) line.at line.zeroed && is_carrying (was_replacing line.ask) line.at line.carried))
 
 unfoldable pub answer_of : ℕ → List ℕ → Option Line
 answer_of version line = if_written (is_answer version) line_text (line_told version line) line

@@ -4,7 +4,7 @@ pub use Rattle.rx_base.specs.declared.item.TheConstants.{MAX_ITEMS}
 pub use Rattle.block_book.specs.declared.choice.Ask.{Ask}
 pub use Rattle.block_book.specs.declared.choice.Ask.TheVariants.{Calloc, Malloc, Realloc}
 pub use Rattle.block_book.specs.declared.choice.Choice.{Choice}
-pub use Rattle.block_book.specs.Answer.{is_calloc}
+pub use Rattle.block_book.specs.Answer.{is_calloc, replaced}
 pub use Rattle.msg_frame.specs.declared.framing.Framing.{Framing}
 pub use Rattle.text_lines.specs.Lines.{IsTorn, behind_line, first_line, is_line, lines_of}
 pub use Rattle.text_lines.specs.Numbers.{behind_digits, clipped, first_number, number_from, second_number}

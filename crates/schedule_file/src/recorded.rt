@@ -14,13 +14,14 @@ pub const VERSION: u8 = 2;
 /// The largest window, in MiB.
 pub const MAX_WINDOW: u32 = 64;
 
-/// What a line says of an answer of the allocator: what was asked, or None in version 1; the block's address, or 0; and whether
-/// its bytes were set to 0.
+/// What a line says of an answer of the allocator: what was asked, or None in version 1; the block's address, or 0; whether its
+/// bytes were set to 0; and how many bytes were carried to it, behind those that realloc keeps.
 #[derive(Clone, Copy, Debug, PartialEq, Eq)]
 pub struct Line {
     pub ask: Option<Ask>,
     pub at: u32,
     pub zeroed: bool,
+    pub carried: u32,
 }
 
 /// The lines of the answers, in the order of the calls.

@@ -3,7 +3,7 @@
 ghost use Rattle.std.specs.Prelude.{◌≡◌, ◌==◌, ◌&&◌, ◌^◌, nat_le, nat_lt, slice_index};
 ghost use Rattle.schedule_file.specs.declared.recorded.TheConstants.{VERSION};
 ghost use Rattle.text_lines.specs.Written.{Tells};
-ghost use Rattle.schedule_file.specs.Telling.{frame_told, hex_from, hex_at, ask_told, asked_told, line_told, is_ask_of, is_marked, was_calloc, is_answer, head_of, answer_of, end_of};
+ghost use Rattle.schedule_file.specs.Telling.{frame_told, hex_from, hex_at, ask_told, asked_told, line_told, is_ask_of, is_carrying, is_marked, was_calloc, was_replacing, is_answer, head_of, answer_of, end_of};
 
 use crate::numbers::hex_value;
 use crate::recorded::{Finish, Head, Line, MAX_WINDOW, VERSION};
@@ -121,6 +121,7 @@ fn line_told(version: u8, line: &[u8]) -> Line
         ask: asked_told(version, line),
         at: hex_at(line, 2),
         zeroed: is_zeroed(line),
+        carried: hex_at(line, 31),
     }
 }
 
@@ -154,11 +155,34 @@ fn is_marked(calloc: bool, address: u32, zeroed: bool) -> bool
     }
 }
 
+fn was_replacing(ask: Option<Ask>) -> bool
+    ensures { result ≡ was_replacing ask }
+{
+    match ask {
+        Some(Ask::Realloc { old, size: _ }) => old != 0,
+        _ => false,
+    }
+}
+
+// Bytes are carried only to a block that stands in place of another one.
+fn is_carrying(replacing: bool, address: u32, carried: u32) -> bool
+    ensures { result ≡ is_carrying replacing address carried }
+{
+    if carried == 0 {
+        true
+    } else {
+        address != 0 && replacing
+    }
+}
+
 fn is_answer(version: u8, line: Line) -> bool
     ensures { result ≡ is_answer version line }
 {
     let calloc = was_calloc(line.ask);
-    is_ask_of(version, line.ask) && is_marked(calloc, line.at, line.zeroed)
+    let replacing = was_replacing(line.ask);
+    is_ask_of(version, line.ask)
+        && is_marked(calloc, line.at, line.zeroed)
+        && is_carrying(replacing, line.at, line.carried)
 }
 
 // The answer that a line says, if it is the line of one in a version.

@@ -1,11 +1,11 @@
 // The lines of a record.
-ghost use Rattle.std.specs.Prelude.{◌≡◌, ◌+◌, ◌≤◌, ◌<◌, ◌^◌, ◌++◌, [], ◌∷◌, true, false, length, OnOk, OnErr};
+ghost use Rattle.std.specs.Prelude.{◌≡◌, ◌+◌, ◌≤◌, ◌<◌, ◌^◌, ◌++◌, [], ◌∷◌, true, false, length, IsSome, OnOk, OnErr};
 ghost use Rattle.std.specs.Vec.{vec_len, vec_capacity};
-ghost use Rattle.block_book.specs.Answer.{is_calloc};
+ghost use Rattle.block_book.specs.Answer.{is_calloc, replaced};
 ghost use Rattle.schedule_file.specs.declared.recorded.TheConstants.{VERSION};
 ghost use Rattle.rx_base.specs.declared.item.TheConstants.{MAX_ITEMS};
 ghost use Rattle.text_lines.specs.Written.{Writes};
-ghost use Rattle.schedule_file.specs.Lines.{frame_name, front, spaced, head_line, line_text, choice_line, end_line};
+ghost use Rattle.schedule_file.specs.Lines.{carried_part, frame_name, front, spaced, head_line, line_text, choice_line, end_line};
 ghost use Rattle.schedule_file.specs.Steps.{bytes_of};
 
 use crate::numbers::eight_digits;
@@ -49,12 +49,13 @@ pub fn head_line(alloc: Global, window: u32, frame: Framing) -> Result<Bytes, Al
     head_text(alloc, VERSION, window, frame)
 }
 
-// The bytes of the line of an answer: of one with no argument, with one and with two.
+// The bytes of the line of an answer: of one with no number behind its front, with one, two and three.
 #[derive(Clone, Copy)]
 pub(crate) enum LineBytes {
     Alone([u8; 13]),
     One([u8; 22]),
     Two([u8; 31]),
+    Three([u8; 40]),
 }
 
 impl LineBytes {
@@ -65,6 +66,7 @@ impl LineBytes {
             LineBytes::Alone(bytes) => bytes,
             LineBytes::One(bytes) => bytes,
             LineBytes::Two(bytes) => bytes,
+            LineBytes::Three(bytes) => bytes,
         }
     }
 }
@@ -110,6 +112,31 @@ fn with_two(letter: u8, line: Line, first: u32, second: u32) -> LineBytes
     ])
 }
 
+// A front, two arguments, and how many bytes were carried.
+fn with_three(line: Line, old: u32, size: u32) -> LineBytes
+    ensures { bytes_of result ≡ front 114 line.at line.zeroed ++ (spaced old ++ (spaced size ++ (spaced line.carried ++ 10 ∷ []))) }
+{
+    let [r, s, t, u, v, w, x, y, z, p, q, mark] = front(b'r', line);
+    let [a, b, c, d, e, f, g, h] = eight_digits(old);
+    let [i, j, k, l, m, n, o, last] = eight_digits(size);
+    let [aa, bb, cc, dd, ee, ff, gg, hh] = eight_digits(line.carried);
+    LineBytes::Three([
+        r, s, t, u, v, w, x, y, z, p, q, mark, b' ', a, b, c, d, e, f, g, h, b' ', i, j, k, l, m,
+        n, o, last, b' ', aa, bb, cc, dd, ee, ff, gg, hh, b'\n',
+    ])
+}
+
+// The line of an answer to realloc.
+fn realloc_text(line: Line, old: u32, size: u32) -> LineBytes
+    ensures { bytes_of result ≡ front 114 line.at line.zeroed ++ (spaced old ++ spaced size ++ carried_part line.carried ++ 10 ∷ []) }
+{
+    if line.carried == 0 {
+        with_two(b'r', line, old, size)
+    } else {
+        with_three(line, old, size)
+    }
+}
+
 // The line of an answer, with its line feed.
 #[tactic(auto, unfolding(crate::specs::Lines::line_text))]
 pub(crate) fn line_text(line: Line) -> LineBytes
@@ -119,7 +146,7 @@ pub(crate) fn line_text(line: Line) -> LineBytes
         None => alone(b'm', line),
         Some(Ask::Malloc { size }) => with_one(b'm', line, size),
         Some(Ask::Calloc { count, size }) => with_two(b'c', line, count, size),
-        Some(Ask::Realloc { old, size }) => with_two(b'r', line, old, size),
+        Some(Ask::Realloc { old, size }) => realloc_text(line, old, size),
     }
 }
 
@@ -131,15 +158,17 @@ fn choice_text(choice: Choice) -> LineBytes
         ask: Some(choice.ask),
         at: choice.at,
         zeroed: choice.zeroed,
+        carried: choice.carried,
     })
 }
 
 /// The line of an answer of the allocator, with its line feed: `m AAAAAAAA M SSSSSSSS` of malloc, `c AAAAAAAA M NNNNNNNN SSSSSSSS`
 /// of calloc, `r AAAAAAAA M OOOOOOOO SSSSSSSS` of realloc. It has the address, the count or the old address, and the size. M is `z`
-/// where the block was zeroed, else `-`.
+/// where the block was zeroed, else `-`. Where bytes are carried, ` CCCCCCCC` stands behind them: how many.
 pub fn choice_line(alloc: Global, choice: Choice) -> Result<Bytes, AllocError>
     requires null { choice.at ≡ 0 → choice.zeroed ≡ false }
     requires zeros { is_calloc choice.ask ≡ true → 0 < choice.at → choice.zeroed ≡ true }
+    requires carries { 0 < choice.carried → (0 < choice.at) × IsSome (replaced choice.ask) }
     ensures { Writes (choice_line choice) result }
 {
     let text = choice_text(choice);

@@ -100,7 +100,7 @@ module _ {R : Type 0} where
       record {
         stands =
             rebased {rules = here} {events = events_in (heard_alone events)} {had = held handed.counts to.state.sends} handed.counts (plan_up_to plan to.state.machine.taken) there (sym (append-nil (events_in (heard_alone events)))) refl says replies no_trial
-            (in_force_here plan to.state.machine.taken new env until) (inl (omega (arith, until, f.some_keep)));
+            (in_force_here plan to.state.machine.taken new env until);
         env = env;
         until = until;
         some_keep = f.some_keep;
@@ -172,7 +172,7 @@ module _ {R : Type 0} where
             rebased {rules = here} {events = events_in (heard_alone (events ++ event ∷ []))} {had = held handed.counts now.state.sends} handed.counts (plan_up_to plan now.state.machine.taken) there events_are refl
             (says_itself here image (items_in here.bounds (entry.Took event ∷ [])) (plan_up_to plan now.state.machine.taken) now)
             (replies_after here (entry.Took event ∷ []) (followed_before rules.limits.keep handed (events ++ event ∷ []) now) events_are (sym (append-nil (held handed.counts now.state.sends))) (λ conn. refl) replies) no_trial
-            (in_force_here plan now.state.machine.taken new env until) (inl (omega (arith, until, f.some_keep)));
+            (in_force_here plan now.state.machine.taken new env until);
         env = env;
         until = until;
         some_keep = f.some_keep;
@@ -225,7 +225,7 @@ module _ {R : Type 0} where
             stands =
                 rebased {rules = here} {events = events_in (heard_alone events)} {had = held handed.counts to.state.sends} handed.counts (plan_up_to plan to.state.machine.taken) there (sym (append-nil (events_in (heard_alone events)))) refl says
                 (replies_after here [] (followed_before rules.limits.keep handed events to) (sym (append-nil (events_in (heard_alone events)))) (ap (λ (p : Path). held handed.counts p.state.sends) (sym same) ∙ sym (append-nil (held handed.counts now.state.sends))) (λ conn. refl) replies)
-                h.passed.no_trial (in_force_here plan to.state.machine.taken new env until) (inl (omega (arith, until, f.some_keep)));
+                h.passed.no_trial (in_force_here plan to.state.machine.taken new env until);
             env = env;
             until = until;
             some_keep = f.some_keep;
@@ -265,7 +265,7 @@ module _ {R : Type 0} where
         stands =
             rebased {rules = here} {session = after} {events = events_in (heard_alone events)} {had = held handed.counts to.state.sends} handed.counts (plan_up_to plan to.state.machine.taken) (with_env there) (sym (append-nil (events_in (heard_alone events)))) refl says
             (replies_after here [] (followed_before rules.limits.keep handed events to) (sym (append-nil (events_in (heard_alone events)))) (ap (held handed.counts) took.sends ∙ sym (append-nil (held handed.counts now.state.sends))) (λ conn. refl) replies)
-            g.passed.no_trial (in_force_here plan to.state.machine.taken after env until) (inl (omega (arith, until, f.some_keep)));
+            g.passed.no_trial (in_force_here plan to.state.machine.taken after env until);
         env = env;
         until = until;
         some_keep = f.some_keep;
@@ -276,9 +276,8 @@ module _ {R : Type 0} where
   -- It is released where its run has reached what was handed over: what it followed is a part before an ordinary session, which has just begun there, once its environment is that of the report from there on.
   pub released_following : {rules : Rules} {image : Image} {handed : Handed} {events : List LinkEvent} {now : Path} {began : Since} {phases : Phases} {old : SessionState R} {env : Env} {until : ℕ} → rules.bounds.before ≡ nothing_before → IsFollowing rules image handed events now began phases old
       → (stand : Stand rules.limits (plan_of rules.limits.keep handed.episodes) now) → HasReached rules.limits handed now stand → IsInForce (plan_of rules.limits.keep handed.episodes) now.state.machine.taken env until
-      → (until < now.state.machine.taken + rules.limits.keep) ⊎ ((until ≡ now.state.machine.taken + rules.limits.keep) × AsksFor rules.limits [] now now.state.machine.taken)
       → HasFollowed rules image handed events now × HasJustBegun (rules_behind rules handed events now) image began phases (record old { env = env; until = until })
-  released_following {rules = rules} {image = image} {handed = handed} {events = events} {now = now} {began = began} {phases = phases} {old = old} {env = env} {until = until} alone f stand reached in_force past =
+  released_following {rules = rules} {image = image} {handed = handed} {events = events} {now = now} {began = began} {phases = phases} {old = old} {env = env} {until = until} alone f stand reached in_force =
       let plan : List Override = plan_of rules.limits.keep handed.episodes in
       let here : Rules = rules_following rules handed events now in
       let items : List Item = items_in here.bounds [] in
@@ -294,7 +293,7 @@ module _ {R : Type 0} where
         },
         rebased {rules = here} {session = record old { env = env; until = until }} {events = events_in (heard_alone events)} {had = held handed.counts now.state.sends} handed.counts plan (with_env there) (sym (append-nil (events_in (heard_alone events)))) refl says
             (replies_after here [] (came_before (events_in (heard_alone events)) (held handed.counts now.state.sends) plan now) (sym (append-nil (events_in (heard_alone events)))) (sym (append-nil (held handed.counts now.state.sends))) (λ conn. refl) f.stands.replies)
-            f.stands.no_trial in_force past,
+            f.stands.no_trial in_force,
       )
 
 -- the start sent nothing, and took nothing
@@ -304,7 +303,7 @@ start_sends image = refl
 
 module _ {R : Type 0} where
   -- A session that was begun, with the start as its checkpoint, follows once its environment is that of the report.
-  pub started_following : {rules : Rules} {image : Image} (handed : Handed) {began : Since} {seen : Seen} {session : SessionState R} → rules.bounds.before ≡ nothing_before → 2 ≤ rules.limits.keep → (g : IsGoing rules image began seen session) → IsMarked began seen.told → session.steps ≡ 0
+  pub started_following : {rules : Rules} {image : Image} (handed : Handed) {began : Since} {seen : Seen} {session : SessionState R} → rules.bounds.before ≡ nothing_before → 1 ≤ rules.limits.keep → (g : IsGoing rules image began seen session) → IsMarked began seen.told → session.steps ≡ 0
       → IsFollowing rules image handed [] (origin image) began seen.phases (record session { env = env_at (plan_of rules.limits.keep handed.episodes) 0; until = 1 })
   started_following {rules = rules} {image = image} handed {began = began} {seen = seen} {session = session} alone some g mark none =
       let plan : List Override = plan_of rules.limits.keep handed.episodes in
@@ -329,7 +328,7 @@ module _ {R : Type 0} where
         stands =
             rebased {rules = rules} {session = after} {events = []} {had = held handed.counts to.state.sends} handed.counts (plan_up_to plan to.state.machine.taken) (with_env there) no_events refl
             (says_start rules image items g.story.survivor.plan (plan_up_to plan to.state.machine.taken) to (ap (λ (p : Path). p.steps) (sym here) ∙ no_steps))
-            (replies_after rules [] (followed_before rules.limits.keep handed [] to) no_events had (λ conn. refl) replies) g.passed.no_trial (in_force_here plan to.state.machine.taken after env until) (inl (omega (arith, until, some)));
+            (replies_after rules [] (followed_before rules.limits.keep handed [] to) no_events had (λ conn. refl) replies) g.passed.no_trial (in_force_here plan to.state.machine.taken after env until);
         env = env;
         until = until;
         some_keep = some;

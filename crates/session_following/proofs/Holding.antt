@@ -90,7 +90,6 @@ module _ {R : Type 0} (rules : Rules) (hold : ℕ) where
       early = f.saved.early;
       requests = requests_holding rules hold image (keeping_of session) _ _ f.saved.requests;
       in_force = f.saved.in_force;
-      past = f.saved.past;
     };
     replies = f.replies;
     no_trial = f.no_trial;

@@ -1,26 +1,28 @@
--- A session that follows meets what the parts of an ordinary one ask for: it stands between two events of its guest, or waits for an item; and a send may be noted.
+-- A session that follows meets what the parts of an ordinary one ask for: it waits for an item, and a send may be noted.
 use Rattle.run_history.specs.Call.{may_send}
 use Rattle.link_gate.specs.Passing.{AreStampedBy}
 use Rattle.recovery.proofs.Sending.{between_behind, times_low}
 use Rattle.session_state.proofs.passing.PassLemmas.{stamped_by}
-use Rattle.session_following.proofs.Terms.{List, [], ap, append-nil, arith, drop, refl, subst, sym, take, true, ℕ, ◌<◌, ◌∙◌, ◌≡◌, Send, LinkEvent, Grew, Phases, Seen, IsOpened, NotBefore, times_of, Shows, Image, AsksFor, Path, items_in, Rules, Noted, held_is_in_order, Handed, held, plan_of, TellsMore, AreTables, SessionState, IsBetween, IsGoing, IsWaitingFor, Since, plan_up_to, IsFollowing, rules_following, marked, nothing_told}
-use Rattle.session_following.proofs.Rebased.{just_due, just_going, just_hearing}
+use Rattle.session_following.proofs.Terms.{List, [], ap, append-nil, arith, drop, inl, inr, refl, subst, sym, take, true, ℕ, ◌+◌, ◌<◌, ◌∙◌, ◌≡◌, cases_lt, Send, LinkEvent, Grew, Phases, Seen, IsOpened, NotBefore, times_of, Shows, Image, AsksFor, Path, items_in, Rules, Noted, asks_under_all, held_is_in_order, Handed, held, plan_of, TellsMore, AreTables, SessionState, EndsWithin, IsWaitingFor, Since, plan_up_to, IsFollowing, rules_following, marked, nothing_told}
+use Rattle.session_following.proofs.Rebased.{just_hearing}
 use Rattle.session_following.proofs.Steps.{IsMarked}
 
 module _ {R : Type 0} where
-  -- it stands between two events of its guest, since now, where it holds back more items than it may receive
-  pub between_following : {rules : Rules} {image : Image} {handed : Handed} {events : List LinkEvent} {now : Path} {began : Since} {seen : Seen} {session : SessionState R} → IsFollowing rules image handed events now began seen.phases session → began.told ≡ seen.told → began.lost ≡ 0
-      → Grew began.noted_before.episodes began.noted.episodes [] → TellsMore began.tables_before began.tables (AreTables (rules_following rules handed events now) [] [] []) → rules.bounds.max_items < rules.hold → IsBetween (rules_following rules handed events now) image began seen session
-  between_following {rules = rules} {image = image} {handed = handed} {events = events} {now = now} {began = began} {seen = seen} {session = session} f told lost episodes tables most =
-      let g : IsGoing (rules_following rules handed events now) image began seen session = just_going f.stands told lost episodes tables in
-      record { going = g; due = just_due (rules_following rules handed events now) g.story (let few = g.goes.few in omega (arith, few, most)) }
+  -- its environment is in force up to the next item alone, for which it asks: so it ends within as many items as environments are kept for
+  ends_following : {rules : Rules} {image : Image} {handed : Handed} {events : List LinkEvent} {now : Path} {began : Since} {phases : Phases} {session : SessionState R} → IsFollowing rules image handed events now began phases session
+      → AsksFor rules.limits (plan_up_to (plan_of rules.limits.keep handed.episodes) now.state.machine.taken) now now.state.machine.taken → EndsWithin rules.limits session.until now
+  ends_following {rules = rules} {handed = handed} {now = now} {session = session} f asks =
+      elim (cases_lt session.until (now.state.machine.taken + rules.limits.keep)) [
+        | inl less ↦ inl less
+        | inr most ↦ inr (omega (arith, f.until, f.some_keep, most), asks_under_all rules.limits (plan_up_to (plan_of rules.limits.keep handed.episodes) now.state.machine.taken) [] now now.state.machine.taken asks)
+      ]
 
-  -- or it waits for an item
+  -- it waits for an item, where it holds back more items than it may receive
   pub waiting_following : {rules : Rules} {image : Image} {handed : Handed} {events : List LinkEvent} {now : Path} {began : Since} {seen : Seen} {session : SessionState R} → IsFollowing rules image handed events now began seen.phases session → began.told ≡ seen.told → began.lost ≡ 0
       → Grew began.noted_before.episodes began.noted.episodes [] → TellsMore began.tables_before began.tables (AreTables (rules_following rules handed events now) [] [] []) → rules.bounds.max_items < rules.hold
       → AsksFor rules.limits (plan_up_to (plan_of rules.limits.keep handed.episodes) now.state.machine.taken) now now.state.machine.taken → IsWaitingFor (rules_following rules handed events now) image began seen session
   waiting_following {rules = rules} {handed = handed} {events = events} {now = now} f told lost episodes tables most asks =
-      just_hearing f.stands told lost episodes tables asks (let few = f.stands.goes.few in omega (arith, few, most))
+      just_hearing f.stands (ends_following f asks) told lost episodes tables asks (let few = f.stands.goes.few in omega (arith, few, most))
 
   -- a connection to which its guest may send was opened
   pub opened_following : {rules : Rules} {image : Image} {handed : Handed} {events : List LinkEvent} {now : Path} {began : Since} {phases : Phases} {session : SessionState R} (conn : ℕ) → IsFollowing rules image handed events now began phases session → may_send now.state.machine conn ≡ true → IsOpened session.replies conn

@@ -1,6 +1,6 @@
 -- A session with no recovery, whose journal has events alone, stands as one that has just begun where its run stands, with all before it that came; and one that has just begun goes on as any session.
 use Rattle.session_history.proofs.Sessions.{serving_first}
-use Rattle.session_following.proofs.Terms.{List, None, [], ap, arith, length, refl, subst, sym, ℕ, ◌++◌, ◌+◌, ◌<◌, ◌∙◌, ◌≡◌, ◌≤◌, ◌⊎◌, Item, Send, Entry, LinkEvent, tells_nothing, Grew, Phases, Tells, Told, Seen, Image, AsksFor, Override, Path, Served, origin, served_same, Before, events_of, items_in, received, KeepsReplies, Rules, Survivor, opens, IsSoundBefore, starting_path, timed_from, held, stands_of, AreBehind, IsInForce, KeepsRing, TellsMore, HandlesRequests, keeping_of, AreTables, spent, SessionState, AnswersFor, GoesWith, HasPassedDue, IsGoing, IsTold, IsWaitingFor, Since, Story, came_before, rules_after, HasJustBegun, begun_story, story_alone}
+use Rattle.session_following.proofs.Terms.{List, None, [], ap, arith, length, refl, subst, sym, ℕ, ◌++◌, ◌+◌, ◌<◌, ◌∙◌, ◌≡◌, ◌≤◌, ◌⊎◌, Item, Send, Entry, LinkEvent, tells_nothing, Grew, Phases, Tells, Told, Seen, Image, AsksFor, Override, Path, Served, origin, served_same, Before, events_of, items_in, received, KeepsReplies, Rules, Survivor, opens, IsSoundBefore, starting_path, timed_from, held, stands_of, AreBehind, IsInForce, KeepsRing, TellsMore, HandlesRequests, keeping_of, AreTables, spent, SessionState, AnswersFor, EndsWithin, GoesWith, HasPassedDue, IsGoing, IsTold, IsWaitingFor, Since, Story, came_before, rules_after, HasJustBegun, begun_story, story_alone}
 use Rattle.session_following.proofs.Based.{SaysAs, items_after, phases_after_all, same_events, same_heeded}
 use Rattle.session_following.proofs.Rings.{carries_after, ring_after}
 use Rattle.session_following.proofs.Handled.{handled_after}
@@ -43,9 +43,8 @@ module _ {R : Type 0} where
   pub rebased : {rules : Rules} {image : Image} {began : Since} {phases : Phases} {survivor : Survivor} {since : List Entry} {session : SessionState R} {events : List LinkEvent} {had : List Send} (counts : List (ℕ × ℕ)) (other : List Override) → StandsThere rules image began phases survivor since session
       → events ≡ events_of rules.bounds since → had ≡ held counts survivor.now.state.sends → SaysAs rules image (items_in rules.bounds since) survivor.plan other survivor.now
       → KeepsReplies (rules_after rules (came_before events had other survivor.now)).bounds [] None survivor.now.state.sends session.replies → session.replies.trial ≡ None → IsInForce other survivor.now.state.machine.taken session.env session.until
-      → (session.until < survivor.now.state.machine.taken + rules.limits.keep) ⊎ ((session.until ≡ survivor.now.state.machine.taken + rules.limits.keep) × AsksFor rules.limits [] survivor.now survivor.now.state.machine.taken)
       → HasJustBegun (rules_after rules (came_before events had other survivor.now)) image began phases session
-  rebased {rules = rules} {image = image} {began = began} {survivor = survivor} {since = since} {session = session} {events = events} {had = had} counts other there same had_is says replies no_trial in_force past =
+  rebased {rules = rules} {image = image} {began = began} {survivor = survivor} {since = since} {session = session} {events = events} {had = had} counts other there same had_is says replies no_trial in_force =
       let now : Path = survivor.now in
       let what : Before = came_before events had other now in
       let a = there.answers in
@@ -73,36 +72,37 @@ module _ {R : Type 0} where
           early = there.early;
           requests = handled_after rules image (keeping_of session) since there.more events had survivor.plan other survivor.begun now same there.plan there.begun there.brings says there.way there.requests;
           in_force = in_force;
-          past = past;
         };
         replies = replies;
         no_trial = no_trial;
       }
 
-  -- It goes on as any session, since now.
-  pub just_going : {rules : Rules} {image : Image} {began : Since} {seen : Seen} {session : SessionState R} → HasJustBegun rules image began seen.phases session → began.told ≡ seen.told → began.lost ≡ 0 → Grew began.noted_before.episodes began.noted.episodes []
+  -- It goes on as any session, since now, where it is past the failure behind which its environment was adopted.
+  pub just_going : {rules : Rules} {image : Image} {began : Since} {seen : Seen} {session : SessionState R} → HasJustBegun rules image began seen.phases session → EndsWithin rules.limits session.until (starting_path rules image) → began.told ≡ seen.told → began.lost ≡ 0 → Grew began.noted_before.episodes began.noted.episodes []
       → TellsMore began.tables_before began.tables (AreTables rules [] [] []) → IsGoing rules image began seen session
-  just_going {rules = rules} {image = image} {began = began} {seen = seen} f told lost episodes tables = record {
+  just_going {rules = rules} {image = image} {began = began} {seen = seen} f past told lost episodes tables = record {
     story = begun_story rules image;
     told = just_told f.sound told lost episodes tables;
     answers = f.answers;
     goes = f.goes;
     saved = f.saved;
+    past = past;
     passed = record { replies = f.replies; no_trial = f.no_trial; done = λ send stands due. absurd due };
     latest = λ last found. absurd (let no : ⊥ = cc in no);
   }
 
   -- where its run asks for an item it hears
-  pub just_hearing : {rules : Rules} {image : Image} {began : Since} {seen : Seen} {session : SessionState R} (f : HasJustBegun rules image began seen.phases session) → began.told ≡ seen.told → began.lost ≡ 0 → Grew began.noted_before.episodes began.noted.episodes []
+  pub just_hearing : {rules : Rules} {image : Image} {began : Since} {seen : Seen} {session : SessionState R} (f : HasJustBegun rules image began seen.phases session) → EndsWithin rules.limits session.until (starting_path rules image) → began.told ≡ seen.told → began.lost ≡ 0 → Grew began.noted_before.episodes began.noted.episodes []
       → TellsMore began.tables_before began.tables (AreTables rules [] [] []) → AsksFor rules.limits rules.bounds.before.plan (starting_path rules image) (starting_path rules image).state.machine.taken
       → (starting_path rules image).state.machine.taken < rules.hold → IsWaitingFor rules image began seen session
-  just_hearing {rules = rules} {image = image} {seen = seen} f told lost episodes tables asks held_back = record {
+  just_hearing {rules = rules} {image = image} {seen = seen} f past told lost episodes tables asks held_back = record {
     hearing = record {
       story = begun_story rules image;
       told = just_told f.sound told lost episodes tables;
       answers = f.answers;
       goes = f.goes;
       saved = f.saved;
+      past = past;
       passed = record { replies = f.replies; no_trial = f.no_trial; done = λ send stands due. absurd due };
       asks = asks;
       latest = λ last found. absurd (let no : ⊥ = cc in no);

@@ -2,7 +2,7 @@
 use Rattle.session_history.specs.declared.ends.SessionEnd.TheVariants as session_end
 use Rattle.session_history.specs.declared.ends.Stop.TheVariants as stop
 use Rattle.session_state.proofs.recovering.TableLemmas.{tables_here, told_unwatched}
-use Rattle.session_following.proofs.Terms.{Bool, List, None, Some, [], ap, append-nil, arith, cond, inl, inr, ltb, refl, subst, sym, ℕ, ◌+◌, ◌<◌, ◌∙◌, ◌∷◌, ◌≡◌, ◌≤◌, ◌⊎◌, cases_lt, le-ltb, IsSome, Item, Send, LinkEvent, Grew, events_in, Seen, Plain, Ledger, Image, AsksFor, Override, Path, Served, env_at, origin, GoesOn, IsSilent, standing_of, Writes, served_on, Before, events_of, items_in, nothing_before, KeepsItems, KeepsReplies, Rules, timed_from, HasFollowed, heard_alone, rules_behind, AtExit, Handed, HasReached, held, plan_of, IsInForce, TellsMore, answers_for, none_lost, none_noted, received_is, HasSameSide, saved_on, requests_on, keeping_of, AreTables, IsCounted, SessionState, IsEnding, IsTold, Since, came_before, plan_up_to, begun_story, IsFollowing, rules_following}
+use Rattle.session_following.proofs.Terms.{Bool, List, None, Some, [], ap, append-nil, arith, cond, inl, inr, ltb, refl, subst, sym, ℕ, ◌+◌, ◌<◌, ◌∙◌, ◌∷◌, ◌≡◌, ◌≤◌, ◌⊎◌, cases_lt, le-ltb, IsSome, Item, Send, LinkEvent, Grew, events_in, Seen, Plain, Ledger, Image, AsksFor, Override, Path, Served, env_at, origin, GoesOn, IsSilent, standing_of, Writes, served_on, Before, events_of, items_in, nothing_before, KeepsItems, KeepsReplies, Rules, timed_from, HasFollowed, heard_alone, rules_behind, AtExit, Handed, HasReached, held, plan_of, IsInForce, TellsMore, answers_for, none_lost, none_noted, received_is, HasSameSide, saved_on, requests_on, keeping_of, AreTables, IsCounted, SessionState, EndsWithin, IsEnding, IsTold, Since, came_before, plan_up_to, begun_story, IsFollowing, rules_following}
 use Rattle.session_following.proofs.Based.{SaysAs, items_after, replies_after}
 use Rattle.session_following.proofs.Following.{items_following, whole_following}
 use Rattle.session_following.proofs.Handled.{handled_after}
@@ -19,7 +19,7 @@ newest_in_force override plan taken begun = record {
 
 -- It ends within so many items where its failure was at this point, and the run asks for an item no earlier.
 pub newest_past : (rules : Rules) (until point : ℕ) (now : Path) → until ≡ point + rules.limits.keep → point ≤ now.state.machine.taken → AsksFor rules.limits [] now now.state.machine.taken
-    → (until < now.state.machine.taken + rules.limits.keep) ⊎ ((until ≡ now.state.machine.taken + rules.limits.keep) × AsksFor rules.limits [] now now.state.machine.taken)
+    → EndsWithin rules.limits until now
 newest_past rules until point now is reached asks =
     elim (cases_lt until (now.state.machine.taken + rules.limits.keep)) [
       | inl less ↦ inl less

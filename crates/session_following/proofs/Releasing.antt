@@ -6,7 +6,7 @@ use Rattle.session_history.specs.declared.ends.SessionBreak.TheVariants as sessi
 use Rattle.session_history.specs.declared.ends.Stop.TheVariants as stop
 use Rattle.session_state.proofs.ending.EndLemmas.{served_off}
 use Rattle.session_state.proofs.ending.LeavingLemmas.{left_by}
-use Rattle.session_following.proofs.Terms.{Bool, List, None, Option, Some, [], ap, append-nil, arith, drop, inl, inr, length, refl, subst, sym, take, true, ℕ, ◌+◌, ◌<◌, ◌∙◌, ◌∷◌, ◌≡◌, ◌≤◌, ◌⊎◌, last_or, All, Err, IfSome, IsSome, ◌≢◌, Item, KEEP, Send, LinkEvent, Grew, Phases, Tells, Told, Seen, Choice, Heap, Env, Image, AsksFor, Override, Path, Served, origin, CpuState, standing_of, Standing, Writes, Stop, served_on, Before, items_in, nothing_before, Rules, Episode, Try, Noted, asks_under_all, heard_alone, rules_behind, AtExit, AtFailure, AtRequest, Handed, HasReached, IsPastFailure, Stand, adopted_try, plan_of, IsInForce, TellsMore, taken_all, IsTrimmed, LeavesBy, keeping_of, rules_in, AreTables, Telling, BreaksPassing, IsCounted, StopsBy, TrimsAt, rules_by, SessionState, IsGoing, Since, told_since, Unfollowed, plan_up_to, rules_after, HasJustBegun, before_moved, before_released, rules_following, EndsAfter, IsFollowedBy, IsMissing, Agree, IsJudgedAt, kind_of, IsUnfollowed, IsUnfollowedBy, TookOver, Follows, HasReachedOn, HasRunOn, IsReleased, IsReleasedAtExit, held_back, holding, marked}
+use Rattle.session_following.proofs.Terms.{Bool, List, None, Option, Some, [], ap, append-nil, arith, drop, inl, inr, length, refl, subst, sym, take, true, ℕ, ◌+◌, ◌<◌, ◌∙◌, ◌∷◌, ◌≡◌, ◌≤◌, ◌⊎◌, last_or, All, Err, IfSome, IsSome, ◌≢◌, Item, Send, LinkEvent, Grew, Phases, Tells, Told, Seen, Choice, Heap, Env, Image, AsksFor, Override, Path, Served, origin, CpuState, standing_of, Standing, Writes, Stop, served_on, Before, items_in, nothing_before, Rules, Episode, Try, Noted, asks_under_all, heard_alone, rules_behind, AtExit, AtFailure, AtRequest, Handed, HasReached, IsPastFailure, Stand, adopted_try, plan_of, IsInForce, TellsMore, taken_all, IsTrimmed, LeavesBy, keeping_of, rules_in, AreTables, Telling, BreaksPassing, IsCounted, StopsBy, TrimsAt, rules_by, SessionState, EndsWithin, IsGoing, Since, told_since, Unfollowed, plan_up_to, rules_after, HasJustBegun, before_moved, before_released, rules_following, EndsAfter, IsFollowedBy, IsMissing, Agree, IsJudgedAt, kind_of, IsUnfollowed, IsUnfollowedBy, TookOver, Follows, HasReachedOn, HasRunOn, IsReleased, IsReleasedAtExit, held_back, holding, marked}
 use Rattle.session_following.proofs.Following.{released_following, whole_following}
 use Rattle.session_following.proofs.Holding.{following_holding}
 use Rattle.session_following.proofs.Moving.{moved_before}
@@ -33,14 +33,14 @@ module _ {R : Type 0} (permits : R → Heap → ℕ → ℕ → Bool) (rules : R
 module _ {R : Type 0} (permits : R → Heap → ℕ → ℕ → Bool) {rules : Rules} {image : Image} {handed : Handed} {told : Told} {seen : Seen} {before noted : Noted} where
   -- It is released where its run has reached what was handed over.
   pub released_on : {missing : List ℕ} {old new : SessionState R} {env : Env} {until : ℕ} → rules.bounds.before ≡ nothing_before → (s : Follows rules (rules_by permits old) image handed told seen before noted missing old) → (stand : Stand rules.limits (plan_of rules.limits.keep handed.episodes) s.now)
-      → HasReached rules.limits handed s.now stand → IsInForce (plan_of KEEP handed.episodes) s.now.state.machine.taken env until
-      → (until < s.now.state.machine.taken + rules.limits.keep) ⊎ ((until ≡ s.now.state.machine.taken + rules.limits.keep) × AsksFor rules.limits [] s.now s.now.state.machine.taken) → new ≡ record old { env = env; until = until; before = new.before; hold = rules.hold } → new.before ≡ before_released old.before (plan_of KEEP handed.episodes)
+      → HasReached rules.limits handed s.now stand → IsInForce (plan_of old.options.keep handed.episodes) s.now.state.machine.taken env until
+      → EndsWithin rules.limits until s.now → new ≡ record old { env = env; until = until; before = new.before; hold = rules.hold } → new.before ≡ before_released old.before (plan_of old.options.keep handed.episodes)
       → IsReleased rules (rules_by permits new) image handed told seen before noted new
   released_on {old = old} {new = new} {env = env} {until = until} alone s stand reached in_force past same came =
       let f = following_holding rules.hold s.follows in
-      let keeps : KEEP ≡ rules.limits.keep = ap (λ (x : Rules). x.limits.keep) s.here_is in
+      let keeps : old.options.keep ≡ rules.limits.keep = ap (λ (x : Rules). x.limits.keep) s.here_is in
       let forced = subst (λ (keep : ℕ). IsInForce (plan_of keep handed.episodes) s.now.state.machine.taken env until) keeps in_force in
-      let r = released_following alone f stand reached forced past in
+      let r = released_following alone f stand reached forced in
       record {
         events = s.events;
         released = s.now;
@@ -51,6 +51,7 @@ module _ {R : Type 0} (permits : R → Heap → ℕ → ℕ → Bool) {rules : R
             here_released permits rules handed s.events s.now s.now old new s.here_is (ap (λ (t : SessionState R). t.options) same) (ap (λ (t : SessionState R). t.cpu.rule) same) (ap (λ (t : SessionState R). t.hold) same)
             (came ∙ ap (λ (keep : ℕ). before_released old.before (plan_of keep handed.episodes)) keeps ∙ ap (λ (b : Before). before_released b (plan_of rules.limits.keep handed.episodes)) (ap (λ (x : Rules). x.bounds.before) s.here_is));
         begun = subst (λ (t : SessionState R). HasJustBegun (rules_behind rules handed s.events s.now) image (marked before noted) seen.phases t) (sym same) (past_begun new.before rules.hold r.1);
+        past = subst (λ (t : SessionState R). EndsWithin rules.limits t.until s.now) (sym same) past;
       }
 
 -- Where its guest ended itself: the run up to there, and what the session answers for.
@@ -120,11 +121,11 @@ module _ {R : Type 0} (permits : R → Heap → ℕ → ℕ → Bool) {rules : R
       }
 
   -- It is released there.
-  pub exit_on : new.hold ≡ rules.hold → new.before ≡ before_released (before_moved old.before old.cpu.slots.live []) (plan_of KEEP handed.episodes) → HasReached rules.limits handed to (AtExit exit_stands) → IsReleasedAtExit rules (rules_by permits new) image handed told seen before noted code new
+  pub exit_on : new.hold ≡ rules.hold → new.before ≡ before_released (before_moved old.before old.cpu.slots.live []) (plan_of old.options.keep handed.episodes) → HasReached rules.limits handed to (AtExit exit_stands) → IsReleasedAtExit rules (rules_by permits new) image handed told seen before noted code new
   exit_on hold came reached =
       let s = h.stood in
       let cpu : new.cpu ≡ old.cpu = ap (λ (t : SessionState R). t.cpu) same in
-      let keeps : KEEP ≡ rules.limits.keep = ap (λ (r : Rules). r.limits.keep) s.here_is in
+      let keeps : old.options.keep ≡ rules.limits.keep = ap (λ (r : Rules). r.limits.keep) s.here_is in
       let ends = λ (tables : Option (List (List Try))). exited_following {began = told_since seen.told before noted tables tables 0} {seen = seen} {new = new} {code = code} s.alone (since_following refl refl (following_holding rules.hold s.follows)) refl refl s.episodes
       (tables_none (rules_behind rules handed s.events to) tables) (side_of h.same h.cpu same) (replies ∙ ap (λ (t : SessionState R). t.replies) h.same) (chosen ∙ ap (λ (t : SessionState R). t.choices) h.same) counted h.runs.ran.goes h.runs.ran.comes.0
       (subst (λ (c : CpuState R). Writes rules.limits (items_in (rules_following rules handed s.events s.now).bounds []) h.was.cpu.base s.now h.was.cpu.written to c.written) (sym cpu) h.runs.wrote) h.runs.ran.comes.1
@@ -162,7 +163,7 @@ module _ {R : Type 0} where
       → IsGoing here image (told_since seen.told before noted tables tables 0) seen session
   released_goes {rules = rules} {image = image} {handed = handed} {seen = seen} {before = before} {noted = noted} {session = session} tables r =
       subst (λ (x : Rules). IsGoing x image (told_since seen.told before noted tables tables 0) seen session) (sym r.here_is)
-      (just_going (begun_since tables r.begun) refl refl r.episodes (tables_none (rules_behind rules handed r.events r.released) tables))
+      (just_going (begun_since tables r.begun) r.past refl refl r.episodes (tables_none (rules_behind rules handed r.events r.released) tables))
 
   -- Where the link failed as it passed what was due, or memory ran out, it is told so.
   pub took_off : {rules here : Rules} {image : Image} {handed : Handed} {told : Told} {there seen : Seen} {before noted : Noted} {old new : SessionState R} {counted : ℕ} (tables : Option (List (List Try))) (why : Stop) → (r : IsReleased rules here image handed told there before noted old)
@@ -193,7 +194,7 @@ followed_last taken (Some episode) adopted past = (adopted, past)
 
 -- where the environment ends that is in force then
 ends_past : (rules : Rules) (now : Path) (until : ℕ) (o : Option Episode) → 1 ≤ rules.limits.keep → EndsAfter rules.limits.keep o until → IfSome o (λ (e : Episode). (e.point < now.state.machine.taken) ⊎ ((e.point ≤ now.state.machine.taken) × AsksFor rules.limits [] now now.state.machine.taken))
-    → (until < now.state.machine.taken + rules.limits.keep) ⊎ ((until ≡ now.state.machine.taken + rules.limits.keep) × AsksFor rules.limits [] now now.state.machine.taken)
+    → EndsWithin rules.limits until now
 ends_past rules now until None some is past = inl (omega (arith, some, is))
 ends_past rules now until (Some episode) some is past =
     elim past [
@@ -223,11 +224,10 @@ module _ {R : Type 0} where
       low e (inl before) = omega (arith, before, r.stands.follows.stands.answers.taken)
       low e (inr at_request) = omega (arith, at_request.0, r.stands.follows.stands.answers.taken)
 
-  pub released_past : (permits : R → Heap → ℕ → ℕ → Bool) {rules : Rules} {image : Image} {handed : Handed} {told : Told} {seen : Seen} {before noted : Noted} {missing : List ℕ} {session : SessionState R} {until : ℕ} → (r : HasReachedOn rules (rules_by permits session) image handed told seen before noted missing session) → EndsAfter KEEP (last_or None handed.episodes) until
-      → (until < r.stands.now.state.machine.taken + rules.limits.keep) ⊎ ((until ≡ r.stands.now.state.machine.taken + rules.limits.keep) × AsksFor rules.limits [] r.stands.now r.stands.now.state.machine.taken)
-  released_past permits {rules = rules} {handed = handed} {until = until} r ends =
-      let keeps : KEEP ≡ rules.limits.keep = ap (λ (x : Rules). x.limits.keep) r.stands.here_is in
-      let two = r.stands.follows.some_keep in
-      ends_past rules r.stands.now until (last_or None handed.episodes) (omega (arith, two)) (subst (λ (keep : ℕ). EndsAfter keep (last_or None handed.episodes) until) keeps ends)
+  pub released_past : (permits : R → Heap → ℕ → ℕ → Bool) {rules : Rules} {image : Image} {handed : Handed} {told : Told} {seen : Seen} {before noted : Noted} {missing : List ℕ} {session : SessionState R} {until : ℕ} → (r : HasReachedOn rules (rules_by permits session) image handed told seen before noted missing session) → EndsAfter session.options.keep (last_or None handed.episodes) until
+      → EndsWithin rules.limits until r.stands.now
+  released_past permits {rules = rules} {handed = handed} {session = session} {until = until} r ends =
+      let keeps : session.options.keep ≡ rules.limits.keep = ap (λ (x : Rules). x.limits.keep) r.stands.here_is in
+      ends_past rules r.stands.now until (last_or None handed.episodes) r.stands.follows.some_keep (subst (λ (keep : ℕ). EndsAfter keep (last_or None handed.episodes) until) keeps ends)
       (if_last (IsPastFailure r.stand) (λ (e : Episode). (e.point < r.stands.now.state.machine.taken) ⊎ ((e.point ≤ r.stands.now.state.machine.taken) × AsksFor rules.limits [] r.stands.now r.stands.now.state.machine.taken)) (last_or None handed.episodes)
       (λ e past. past_stand r.stands r.stand r.lives e past) r.reached.past)

@@ -1,12 +1,13 @@
 -- Why a session that follows stops before it is released: it is judged where it stands, or its link is heard in vain.
+use Rattle.rx_base.specs.declared.item.TheConstants.{MAX_ITEMS}
 use Rattle.item_log.specs.Log as logs
+use Rattle.rx_base.proofs.Budgets.{few_in_all}
 use Rattle.link_gate.specs.declared.heard.HearFault.TheVariants as fault
 use Rattle.session_history.specs.Heeding as unheeded
 use Rattle.session_state.proofs.guest.ChoiceLemmas.{few_choices}
-use Rattle.session_following.proofs.Terms.{Bool, List, Option, [], ap, append-nil, arith, inl, inr, length, refl, subst, sym, true, ℕ, ◌++◌, ◌+◌, ◌<◌, ◌∙◌, ◌∷◌, ◌≡◌, ◌≤◌, ◌⊎◌, length-replicate, Err, IsSome, replicate, ◌^◌, ◌≢◌, Item, MAX_ITEMS, LinkEvent, Coming, Tells, Told, events_in, Seen, Log, Ledger, Image, Cause, AsksFor, FailsBy, Path, Stop, events_alone, events_of, items_in, refusal, Rules, HearFault, ComesLast, HearsBy, Noted, apart_asks_fails, apart_ended, heard_alone, AtExit, AtFailure, AtRequest, Handed, IsStuck, Stand, AreWellPlaced, plan_of, between_counted, between_fits, taken_all, IsStopAt, SessionState, StandKind, rules_following, EndsEarly, IsInPlace, IsShort, IsUnlike, NoPlan, OtherAnswer, OtherPlace, Agree, IsJudgedAt, kind_of, HasEndedBehind, HasEndedThere, IsUnfollowedBy, Follows, WaitsOn, held_back, nothing_told}
+use Rattle.session_following.proofs.Terms.{Bool, List, Option, [], ap, append-nil, arith, inl, inr, length, refl, subst, sym, true, ℕ, ◌++◌, ◌+◌, ◌<◌, ◌∙◌, ◌∷◌, ◌≡◌, ◌≤◌, ◌⊎◌, length-replicate, Err, IsSome, replicate, ◌^◌, ◌≢◌, Item, LinkEvent, Coming, Tells, Told, events_in, Seen, Log, Ledger, Image, Cause, AsksFor, FailsBy, Path, Stop, events_alone, events_of, items_in, refusal, Rules, HearFault, ComesLast, HearsBy, Noted, apart_asks_fails, apart_ended, heard_alone, AtExit, AtFailure, AtRequest, Handed, IsStuck, Stand, AreWellPlaced, plan_of, taken_all, IsStopAt, SessionState, StandKind, rules_following, EndsEarly, IsInPlace, IsShort, IsUnlike, NoPlan, OtherAnswer, OtherPlace, Agree, IsJudgedAt, kind_of, HasEndedBehind, HasEndedThere, IsUnfollowedBy, Follows, WaitsOn, held_back}
 use Rattle.session_following.specs.declared.judging.StandKind.TheVariants as stands
 use Rattle.session_following.specs.declared.unfollowed.Unfollowed.TheVariants as unfollowed
-use Rattle.session_following.proofs.Meets.{between_following}
 use Rattle.session_following.proofs.Waiting.{asks_more, tells_none, tells_one}
 
 -- what came behind the events that were heard, and why the session stops then
@@ -85,16 +86,18 @@ module _ {R : Type 0} where
 
 module _ {R : Type 0} where
   -- so their number fits
-  pub chosen_fits : {rules here : Rules} {image : Image} {handed : Handed} {told : Told} {seen : Seen} {before noted : Noted} {missing : List ℕ} {session : SessionState R} → here.limits.budget ≤ 2 ^ 24 → here.bounds.max_items ≤ MAX_ITEMS → Follows rules here image handed told seen before noted missing session
+  pub chosen_fits : {rules here : Rules} {image : Image} {handed : Handed} {told : Told} {seen : Seen} {before noted : Noted} {missing : List ℕ} {session : SessionState R} → here.limits.budget ≤ 2 ^ 36 → here.bounds.max_items ≤ MAX_ITEMS → Follows rules here image handed told seen before noted missing session
       → session.recorded + length session.choices < 18446744073709551616
-  chosen_fits {rules = rules} {here = here} {seen = seen} {session = session} few_budget few_items s =
-      let few = few_chosen s in
+  chosen_fits {rules = rules} {here = here} few_budget few_items s =
+      let now : Path = s.now in
       let budget : here.limits.budget ≡ rules.limits.budget = ap (λ (r : Rules). r.limits.budget) s.here_is in
       let items : here.bounds.max_items ≡ rules.bounds.max_items = ap (λ (r : Rules). r.bounds.max_items) s.here_is in
-      let b = between_following {seen = record seen { told = nothing_told }} s.follows refl refl s.episodes ([], refl, tt) (omega (arith, items, few_items)) in
-      let fits = between_fits (omega (arith, budget, few_budget)) (omega (arith, items, few_items)) b in
-      let counted = between_counted b in
-      omega (arith, few, fits, counted.steps)
+      let most = s.follows.stands.goes.few in
+      let few : now.state.machine.taken ≤ MAX_ITEMS = omega (arith, most, items, few_items) in
+      let product = few_in_all now.state.machine.taken rules.limits.budget few (omega (arith, budget, few_budget)) in
+      let since = s.follows.stands.goes.bounded.since in
+      let steps = s.follows.stands.goes.bounded.steps in
+      omega (arith, few_chosen s, s.follows.stands.answers.steps, since, steps, product, budget, few_budget)
 
 -- more items than a run takes
 abbrev pub enough : ℕ → List Item

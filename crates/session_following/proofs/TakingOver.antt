@@ -1,5 +1,6 @@
 -- A session that takes over, before it followed anything, and where it begins to.
-use Rattle.session_following.proofs.Terms.{Bool, List, Some, [], ap, arith, drop, inr, length, length-append, refl, subst, sym, take, ℕ, ◌++◌, ◌∙◌, ◌∷◌, ◌≡◌, ◌≤◌, KEEP, Send, LinkEvent, grew_nothing, tells_nothing, Grew, IsFresh, Seen, Heap, Image, start, start_machine, Override, Path, env_at, origin, standing_of, served_same, items_in, nothing_before, Rules, Noted, start_taken, heard_alone, Handed, plan_of, alone, stands_of, KeepsRing, starts_at, starts_between, rules_in, rules_by, IsBegun, SessionState, Unfollowed, came_before, rules_after, before_begun, path_at, IsFollowing, followed_before, IsMissing, IsUnfollowed, IsUnfollowedBy, Follows, held_back, marked, nothing_told}
+use Rattle.session_state.proofs.ending.StartLemmas.{starts_at, starts_between}
+use Rattle.session_following.proofs.Terms.{Bool, List, Some, [], ap, arith, drop, inr, length, length-append, refl, subst, sym, take, ℕ, ◌++◌, ◌∙◌, ◌∷◌, ◌≡◌, ◌≤◌, Send, LinkEvent, grew_nothing, tells_nothing, Grew, IsFresh, Seen, Heap, Image, start, start_machine, Override, Path, env_at, origin, standing_of, served_same, items_in, nothing_before, Rules, Noted, start_taken, heard_alone, Handed, plan_of, alone, stands_of, KeepsRing, rules_in, rules_by, IsBegun, SessionState, Unfollowed, came_before, rules_after, before_begun, path_at, IsFollowing, followed_before, IsMissing, IsUnfollowed, IsUnfollowedBy, Follows, held_back, marked, nothing_told}
 use Rattle.session_following.proofs.Following.{start_sends, started_following}
 use Rattle.session_following.proofs.Holding.{following_holding}
 use Rattle.session_following.proofs.Meets.{is_marked}
@@ -36,15 +37,14 @@ module _ {R : Type 0} where
   -- A session that was begun follows from the start of its program, once the start is its first checkpoint, in the environment of the report, and nothing is passed.
   pub begins_on : (permits : R → Heap → ℕ → ℕ → Bool) {image : Image} {handed : Handed} {seen : Seen} {shown : Noted} {missing : List ℕ} {old mid new : SessionState R} → IsBegun image old.options old.cpu.rule old → IsFresh seen.phases
       → ((any : Rules) → KeepsRing any image [] [] (origin image) (origin image ∷ []) mid.cpu old.log old.replies) → mid ≡ record old { cpu = mid.cpu } → mid.cpu.slots.live ≡ old.cpu.slots.live → mid.cpu.rule ≡ old.cpu.rule → stands_of mid.cpu.slots.saved ≡ alone 0 mid.cpu.slots.pages
-      → IsMissing handed.counts [] missing → new ≡ record mid { env = new.env; until = 1; before = new.before; hold = 4294967295 } → new.env ≡ env_at (plan_of KEEP handed.episodes) 0 → new.before ≡ before_begun mid.cpu.slots.live new.env
+      → IsMissing handed.counts [] missing → new ≡ record mid { env = new.env; until = 1; before = new.before; hold = 4294967295 } → new.env ≡ env_at (plan_of old.options.keep handed.episodes) 0 → new.before ≡ before_begun mid.cpu.slots.live new.env
       → Follows (rules_by permits old) (rules_by permits new) image handed seen.told seen shown shown missing new
   begins_on permits {image = image} {handed = handed} {seen = seen} {shown = shown} {missing = missing} {old = old} {mid = mid} {new = new} begun fresh keeps same live rule stands lacks is env came =
       let rules : Rules = rules_by permits old in
       let plan : List Override = plan_of rules.limits.keep handed.episodes in
       let nothing : rules.bounds.before ≡ nothing_before = begun.nothing_came in
       let b = starts_between permits {image = image} {seen = record seen { told = nothing_told }} {noted = shown} {tables = Some []} {session = old} {after = mid} begun fresh keeps same live stands in
-      let two : 2 ≤ rules.limits.keep = omega arith in
-      let f = started_following handed nothing two b.going (is_marked shown shown) (ap (λ (s : SessionState R). s.steps) same ∙ begun.no_steps) in
+      let f = started_following handed nothing begun.in_range.some_keep b.going (is_marked shown shown) (ap (λ (s : SessionState R). s.steps) same ∙ begun.no_steps) in
       let after : new ≡ record mid { env = env_at plan 0; until = 1; before = new.before; hold = 4294967295 } = is ∙ (λ i. record mid { env = env i; until = 1; before = new.before; hold = 4294967295 }) in
       let first : mid.cpu.slots.live ≡ standing_of (origin image) = live ∙ starts_at begun in
       let before_is : new.before ≡ followed_before rules.limits.keep handed [] (origin image) =

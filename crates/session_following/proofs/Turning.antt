@@ -1,10 +1,9 @@
 -- What a turn makes of a session that follows: its guest ran to an event.
 use Rattle.guest_cpu.proofs.RunLemmas.{runs_write}
-use Rattle.rv_exec.specs.Stepping.{limits_of}
 use Rattle.std.specs.declared.alloc.AllocError.{AllocError}
 use Rattle.session_history.specs.declared.ends.SessionBreak.TheVariants as session_break
 use Rattle.session_history.specs.declared.ends.Stop.TheVariants as stop
-use Rattle.session_state.proofs.ending.TurnLemmas.{Ran}
+use Rattle.session_state.proofs.ending.TurnLemmas.{Ran, ran_as}
 use Rattle.session_following.proofs.Terms.{Bool, List, None, Option, [], ap, append-nil, arith, cond, drop, inl, length, ltb, refl, subst, sym, take, ℕ, ◌++◌, ◌+◌, ◌∙◌, ◌∷◌, ◌≡◌, ◌≤◌, Result, ◌≢◌, Send, LinkEvent, Grew, Phases, Tells, Told, Seen, Choice, Heap, Env, Plain, IsOpened, Ledger, Image, Limits, Override, Path, env_at, Event, CpuState, live_of, with_live, standing_of, RunsWriting, Writes, Before, items_in, nothing_before, IsSendable, Rules, Noted, heard_alone, Handed, plan_of, HasSameSide, rules_in, IsCounted, rules_by, SessionState, env_of, Since, Unfollowed, plan_up_to, rules_after, HasJustBegun, held_count, with_held, before_moved, before_sent, IsFollowing, followed_before, rules_following, OtherAnswer, IsMissing, Agree, IsOther, IsUnfollowed, IsUnfollowedBy, Follows, HasRunOn, held_back, marked}
 use Rattle.session_following.specs.declared.unfollowed.Unfollowed.TheVariants as unfollowed
 use Rattle.session_following.proofs.Following.{sent_following, went_following, whole_following}
@@ -28,7 +27,7 @@ module _ {R : Type 0} where
         sound = f.sound;
         answers = record { low = a.low; recorded = a.recorded; choices = a.choices; unnoted = a.unnoted; taken = a.taken; steps = a.steps };
         goes = record { lives = g.lives; guest = g.guest; bounded = g.bounded; few = g.few; within = g.within; items = g.items; events = g.events; phases_are = g.phases_are };
-        saved = record { paths = k.paths; ring = k.ring; early = k.early; requests = k.requests; in_force = k.in_force; past = k.past };
+        saved = record { paths = k.paths; ring = k.ring; early = k.early; requests = k.requests; in_force = k.in_force };
         replies = f.replies;
         no_trial = f.no_trial;
       }
@@ -46,15 +45,15 @@ module _ {R : Type 0} where
 
   -- how its guest runs in the environment in force, by its plan
   pub ran_to : (permits : R → Heap → ℕ → ℕ → Bool) {env : Env} {rules : Rules} {image : Image} {handed : Handed} {events : List LinkEvent} {now : Path} {began : Since} {phases : Phases} {old inside : SessionState R} (cpu : CpuState R) (result : Result Event AllocError)
-      → limits_of old.options.budget (permits old.cpu.rule) ≡ rules.limits → env ≡ env_of old → inside ≡ old → IsFollowing rules image handed events now began phases old → Ran permits env inside cpu result
+      → (rules_by permits old).limits ≡ rules.limits → env ≡ env_of old → inside ≡ old → IsFollowing rules image handed events now began phases old → Ran permits env inside cpu result
       → RunsWriting rules.limits (items_in (rules_following rules handed events now).bounds []) (plan_up_to (plan_of rules.limits.keep handed.episodes) now.state.machine.taken) old.cpu.base now old.cpu.written result (live_of cpu)
   ran_to permits {env = env} {rules = rules} {handed = handed} {events = events} {now = now} {old = old} cpu result limits force same f ran =
       let plan : List Override = plan_up_to (plan_of rules.limits.keep handed.episodes) now.state.machine.taken in
       let in_force : env_at plan now.state.machine.taken ≡ env =
       f.stands.saved.in_force.in_force now.state.machine.taken (omega arith) ∙ (ap (λ (n : ℕ). cond (ltb n old.until) old.env Plain) (sym f.stands.answers.taken) ∙ sym force) in
       subst (λ (l : Limits). RunsWriting l (items_in (rules_following rules handed events now).bounds []) plan old.cpu.base now old.cpu.written result (live_of cpu)) limits
-      (runs_write (limits_of old.options.budget (permits old.cpu.rule)) (items_in (rules_following rules handed events now).bounds []) plan env old.cpu.base now (live_of old.cpu) (live_of cpu) result f.stands.goes.lives in_force
-      f.stands.goes.guest (subst (λ (s : SessionState R). Ran permits env s cpu result) same ran))
+      (runs_write (rules_by permits old).limits (items_in (rules_following rules handed events now).bounds []) plan env old.cpu.base now (live_of old.cpu) (live_of cpu) result f.stands.goes.lives in_force
+      f.stands.goes.guest (ran_as permits env old cpu result (subst (λ (s : SessionState R). Ran permits env s cpu result) same ran)))
 
   -- It isn't released where its run stands, for this cause.
   pub unfollowed_by : {rules : Rules} {image : Image} {handed : Handed} {events : List LinkEvent} {now : Path} {told : Told} {seen : Seen} {phases : Phases} {before noted later : Noted} {old new : SessionState R} {counted : ℕ} (last : List LinkEvent) (why : Unfollowed) → rules.bounds.before ≡ nothing_before

@@ -7,7 +7,7 @@ use Rattle.link_gate.specs.declared.heard.Heard.TheVariants as heard
 use Rattle.guest_cpu.proofs.TakeLemmas.{takes_write}
 use Rattle.session_state.specs.declared.options.Options.{Options}
 use Rattle.std.specs.Prelude.{get_or}
-use Rattle.session_following.proofs.Terms.{Bool, List, None, [], ap, append-nil, arith, inl, inr, length, map, refl, subst, sym, true, ℕ, ◌++◌, ◌+◌, ◌<◌, ◌∙◌, ◌∷◌, ◌≡◌, ◌≤◌, ◌⊎◌, map-append, slice_get-get_or, Ok, Result, Item, KEEP, Send, Entry, LinkEvent, tells_then, Grew, Tells, Told, Seen, Choice, Heap, Log, Ledger, closed_connection, with_change, Image, AsksFor, Limits, Override, Path, Served, env_at, IsSilent, closing_of, Before, Bounds, events_of, items_in, nothing_before, received, KeepsItems, KeepsPhases, KeepsReplies, Rules, HearFault, ComesLast, HearsEvent, IsShown, MayHear, Noted, asks_under_all, episode_of, AsksForMore, heard_alone, Handed, plan_of, HeardEvent, with_heard, received_is, rules_by, SessionState, IsGoing, IsWaitingFor, Since, Story, plan_up_to, before_heard, before_took, IsFollowing, rules_following, IsMissing, Agree, AsksOn, Follows, WaitsOn, held_back, marked, nothing_told}
+use Rattle.session_following.proofs.Terms.{Bool, List, None, [], ap, append-nil, arith, inl, inr, length, map, refl, subst, sym, true, ℕ, ◌++◌, ◌+◌, ◌<◌, ◌∙◌, ◌∷◌, ◌≡◌, ◌≤◌, ◌⊎◌, map-append, slice_get-get_or, Ok, Result, Item, Send, Entry, LinkEvent, tells_then, Grew, Tells, Told, Seen, Choice, Heap, Log, Ledger, closed_connection, with_change, Image, AsksFor, Limits, Override, Path, Served, env_at, IsSilent, closing_of, Before, Bounds, events_of, items_in, nothing_before, received, KeepsItems, KeepsPhases, KeepsReplies, Rules, HearFault, ComesLast, HearsEvent, IsShown, MayHear, Noted, asks_under_all, episode_of, AsksForMore, heard_alone, Handed, plan_of, HeardEvent, with_heard, received_is, rules_by, SessionState, IsGoing, IsWaitingFor, Since, Story, plan_up_to, before_heard, before_took, IsFollowing, rules_following, IsMissing, Agree, AsksOn, Follows, WaitsOn, held_back, marked, nothing_told}
 use Rattle.session_following.specs.Waiting.{AnswersSame, EndedOn}
 use Rattle.session_following.proofs.Following.{items_following, kept_following, took_following, took_one, whole_following}
 use Rattle.session_following.proofs.Hearing.{close_following, event_following}
@@ -149,12 +149,12 @@ module _ {R : Type 0} where
   pub took_on : (permits : R → Heap → ℕ → ℕ → Bool) {rules : Rules} {image : Image} {handed : Handed} {told : Told} {seen : Seen} {before noted : Noted} {missing : List ℕ} {old mid new : SessionState R} → rules.bounds.before ≡ nothing_before
       → (w : WaitsOn rules (rules_by permits old) image handed told seen before noted missing old) → rules.bounds.max_items < 4294967295 → old.taken < logs.received old.log
       → ((began : Since) (one : Seen) → IsWaitingFor (rules_by permits old) image began one old → IsGoing (rules_by permits old) image began one mid) → mid.steps ≡ old.steps + 1 → HasSameBase old mid → mid.before ≡ old.before
-      → new ≡ record mid { env = new.env; until = new.until; before = new.before } → new.env ≡ env_at (plan_of KEEP handed.episodes) mid.taken → new.until ≡ mid.taken + 1 → new.before ≡ before_took mid.before mid.cpu.slots.live new.env
+      → new ≡ record mid { env = new.env; until = new.until; before = new.before } → new.env ≡ env_at (plan_of mid.options.keep handed.episodes) mid.taken → new.until ≡ mid.taken + 1 → new.before ≡ before_took mid.before mid.cpu.slots.live new.env
       → Follows rules (rules_by permits new) image handed told seen before noted missing new
   took_on permits {rules = rules} {image = image} {handed = handed} {seen = seen} {before = before} {noted = noted} {missing = missing} {old = old} {mid = mid} {new = new} alone w few there going steps base came same told_env until before_is =
       let s = w.asking.stands in
       let plan : List Override = plan_of rules.limits.keep handed.episodes in
-      let keeps : KEEP ≡ rules.limits.keep = ap (λ (r : Rules). r.limits.keep) s.here_is in
+      let keeps : mid.options.keep ≡ rules.limits.keep = ap (λ (o : Options). o.keep) base.options ∙ ap (λ (r : Rules). r.limits.keep) s.here_is in
       let env : new.env ≡ env_at plan mid.taken = told_env ∙ ap (λ (keep : ℕ). env_at (plan_of keep handed.episodes) mid.taken) keeps in
       let mark = is_marked before noted in
       let here : Rules = rules_following (held_back rules) handed s.events s.now in

@@ -14,13 +14,13 @@ followed_before keep handed events now = came_before (events_in (heard_alone eve
 abbrev pub rules_following : Rules → Handed → List LinkEvent → Path → Rules
 rules_following rules handed events now = rules_after rules (followed_before rules.limits.keep handed events now)
 
--- A session follows: it heard these events, and stands as one that has just begun where its run stands, in the environment of the report up to the next item. An environment
--- is kept for two items at least. Its run
--- stood nowhere before where it had reached what was handed over, and each event came where it asked for more.
+-- A session follows: it heard these events, and stands as one that has just begun where its run stands, in the environment of the report up to the next item.
+-- An environment is kept for one item at least. Its run stood nowhere before where it had reached what was handed over, and each event came where it asked for
+-- more.
 pub record IsFollowing {R : Type 0} (rules : Rules) (image : Image) (handed : Handed) (events : List LinkEvent) (now : Path) (began : Since) (phases : Phases) (session : SessionState R) : Type 0 where
   pub stands : HasJustBegun (rules_following rules handed events now) image began phases session
   pub env : session.env ≡ env_at (plan_of rules.limits.keep handed.episodes) now.state.machine.taken
   pub until : session.until ≡ now.state.machine.taken + 1
-  pub some_keep : 2 ≤ rules.limits.keep
+  pub some_keep : 1 ≤ rules.limits.keep
   pub before : HasNotReached rules.limits (items_in rules.bounds (heard_alone events)) image handed now
   pub asked : HasAskedBefore rules image handed events

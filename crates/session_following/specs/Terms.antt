@@ -1,7 +1,6 @@
 -- The words that this crate's definitions are written in: those of crates below, and types of its code.
 pub use Rattle.std.specs.List.{last_or}
 pub use Rattle.rx_base.specs.declared.item.Item.{Item}
-pub use Rattle.rx_base.specs.declared.item.TheConstants.{KEEP, MAX_ITEMS}
 pub use Rattle.rx_base.specs.Prefix.{Prefix}
 pub use Rattle.rx_base.specs.Sends.{Send, sent_to}
 pub use Rattle.links.specs.declared.journal.Entry.{Entry}
@@ -58,7 +57,7 @@ pub use Rattle.session_state.specs.Options.{AreInRange, keeping_for, rules_in}
 pub use Rattle.session_state.specs.Recovered.{AreTables, FailsAtChoices, HasWatched, Telling, spent}
 pub use Rattle.session_state.specs.Serving.{BreaksNoting, BreaksPassing, HasSameOpen, IsCounted, IsStopAt, LinkAnswers, LinkServes, MayServe, NotesAnswer, NotesServe, StandsWaiting, StopsBy, TrimsAt, outcome_of, rules_by}
 pub use Rattle.session_state.specs.Sessions.{IsBegun, SessionState, env_of}
-pub use Rattle.session_state.specs.Standing.{AnswersFor, GoesWith, HasPassedDue, IsBetween, IsEnding, IsGoing, IsHearing, IsTold, IsWaitingFor, KeepsCheckpoints, Since, Story, entries, sends, told_since}
+pub use Rattle.session_state.specs.Standing.{AnswersFor, EndsWithin, GoesWith, HasPassedDue, IsEnding, IsGoing, IsHearing, IsTold, IsWaitingFor, KeepsCheckpoints, Since, Story, entries, sends, told_since}
 pub use Rattle.session_following.specs.declared.handed_over.HandedOver.{HandedOver}
 pub use Rattle.session_following.specs.declared.handed_over.Place.{Place}
 pub use Rattle.session_following.specs.declared.unfollowed.Unfollowed.{Unfollowed}

@@ -2,7 +2,7 @@
 use Rattle.std.specs.Prelude.{◌≡◌, ◌≢◌, ◌<◌, ◌^◌, ℕ, List, [], All, Bool, true, false, Option, None, Some, IsSome, Result, Ok, Err, IfOk}
 use Rattle.session_history.specs.declared.ends.SessionEnd.TheVariants as session_end
 use Rattle.session_history.specs.declared.ends.Stop.TheVariants as stop
-use Rattle.session_following.specs.Terms.{LinkEvent, Grew, Tells, Told, Seen, Image, Answer, Cause, AsksFor, FailsBy, Path, Event, live_of, with_live, RunsWriting, Stop, answer_of, items_in, nothing_before, Rules, Episode, Try, Noted, Shown, HasFollowed, heard_alone, rules_behind, Handed, HasReached, Stand, AreWellPlaced, adopted_try, plan_of, IsTrimmed, keeping_of, IsCounted, LinkAnswers, LinkServes, MayServe, NotesAnswer, NotesServe, SessionState, IsEnding, Since, told_since, Unfollowed}
+use Rattle.session_following.specs.Terms.{LinkEvent, Grew, Tells, Told, Seen, Image, Answer, Cause, AsksFor, FailsBy, Path, Event, live_of, with_live, RunsWriting, Stop, answer_of, items_in, nothing_before, Rules, Episode, Try, Noted, Shown, HasFollowed, heard_alone, rules_behind, Handed, HasReached, Stand, AreWellPlaced, adopted_try, plan_of, IsTrimmed, keeping_of, IsCounted, LinkAnswers, LinkServes, MayServe, NotesAnswer, NotesServe, SessionState, EndsWithin, IsEnding, Since, told_since, Unfollowed}
 use Rattle.session_following.specs.declared.turned.Turned.{Turned}
 use Rattle.session_following.specs.declared.turned.Turned.TheVariants as turned
 use Rattle.session_following.specs.Followed.{IsFollowing, rules_following}
@@ -72,7 +72,8 @@ pub record FailsOn {R : Type 0} (rules here : Rules) (image : Image) (handed : H
   pub cause : Cause
   pub fails : FailsBy rules.limits (plan_up_to (plan_of rules.limits.keep handed.episodes) stands.now.state.machine.taken) stands.now cause
 
--- A session is released: what it followed is a part before an ordinary session that has just begun there.
+-- A session is released: what it followed is a part before an ordinary session that has just begun there, past the failure behind which its environment was
+-- adopted, or there.
 pub record IsReleased {R : Type 0} (rules here : Rules) (image : Image) (handed : Handed) (before : Told) (seen : Seen) (noted_before noted : Noted) (session : SessionState R) : Type 0 where
   pub events : List LinkEvent
   pub released : Path
@@ -81,6 +82,7 @@ pub record IsReleased {R : Type 0} (rules here : Rules) (image : Image) (handed 
   pub episodes : Grew noted_before.episodes noted.episodes []
   pub here_is : here ≡ rules_behind rules handed events released
   pub begun : HasJustBegun (rules_behind rules handed events released) image (marked noted_before noted) seen.phases session
+  pub past : EndsWithin rules.limits session.until released
 
 -- It is released where its guest ended itself, whatever tables its watch told.
 pub record IsReleasedAtExit {R : Type 0} (rules here : Rules) (image : Image) (handed : Handed) (before : Told) (seen : Seen) (noted_before noted : Noted) (code : ℕ) (session : SessionState R) : Type 0 where

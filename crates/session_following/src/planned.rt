@@ -6,7 +6,6 @@ ghost use Rattle.recovery.specs.Rings.{IsInForce};
 ghost use Rattle.session_following.specs.Placed.{EndsAfter, IsFollowedBy};
 
 use alloc_env::Env;
-use rx_base::KEEP;
 use session_notes::{Episode, Try};
 
 // The trial that survived, if one did.
@@ -30,16 +29,17 @@ fn is_begun(checkpoint: u64, count: u64) -> bool
     checkpoint == 0 || checkpoint < count
 }
 
-// Whether it is in force no longer at a count of items: KEEP items more were taken than at the failure.
-fn is_over(point: u64, count: u64) -> bool
-    ensures { result ≡ nat_le (point + KEEP) count }
+// Whether it is in force no longer at a count of items: so many items more were taken than at the failure.
+fn is_over(point: u64, count: u64, keep: u32) -> bool
+    ensures { result ≡ nat_le (point + keep) count }
 {
-    KEEP <= count && point <= count - KEEP
+    let kept = keep as u64;
+    kept <= count && point <= count - kept
 }
 
 // The environment at a count of items behind one more episode, where it was this one without it.
-fn env_behind(episode: &Episode, taken: u64, env: Env) -> Env
-    ensures { (plan : List Override) → env ≡ env_at plan taken → result ≡ env_at (plan_behind KEEP plan episode.now) taken }
+fn env_behind(episode: &Episode, taken: u64, keep: u32, env: Env) -> Env
+    ensures { (plan : List Override) → env ≡ env_at plan taken → result ≡ env_at (plan_behind keep plan episode.now) taken }
 {
     let Some(attempt) = adopted(episode.tries.as_slice()) else {
         return env;
@@ -47,21 +47,21 @@ fn env_behind(episode: &Episode, taken: u64, env: Env) -> Env
     if !is_begun(attempt.checkpoint, taken) {
         return env;
     }
-    if is_over(episode.point, taken) {
+    if is_over(episode.point, taken, keep) {
         return Env::Plain;
     }
     attempt.env
 }
 
-/// The environment that a report tells at a count of items: that of its newest episode whose trial was in force from there on or before, until KEEP items
+/// The environment that a report tells at a count of items: that of its newest episode whose trial was in force from there on or before, until `keep` items
 /// more were taken than at its failure; then `Plain`. The episodes stand from the oldest to the newest.
-pub fn env_planned(episodes: &[Episode], taken: u64) -> Env
-    ensures { result ≡ env_at (plan_of KEEP episodes.now) taken }
+pub fn env_planned(episodes: &[Episode], taken: u64, keep: u32) -> Env
+    ensures { result ≡ env_at (plan_of keep episodes.now) taken }
 {
     let mut env = Env::Plain;
     let mut rest = episodes;
     'episodes: while let [episode, behind @ ..] = rest {
-        env = env_behind(episode, taken, env);
+        env = env_behind(episode, taken, keep, env);
         rest = behind;
     }
     env
@@ -90,20 +90,20 @@ pub fn are_well_placed(episodes: &[Episode]) -> bool
     true
 }
 
-/// The environment that is in force from a count of items on, behind the last failure of a report, and the count where it ends: KEEP items behind that failure,
-/// or 0 without one.
-pub fn in_force(episodes: &[Episode], taken: u64) -> (Env, u64)
+/// The environment that is in force from a count of items on, behind the last failure of a report, and the count where it ends: `keep` items behind that
+/// failure, or 0 without one.
+pub fn in_force(episodes: &[Episode], taken: u64, keep: u32) -> (Env, u64)
     requires placed { AreWellPlaced episodes.now }
     requires behind { IsFollowedBy taken (last_or None episodes.now) }
     requires small { taken < 2 ^ 63 }
-    ensures in_force { IsInForce (plan_of KEEP episodes.now) taken result.0 result.1 }
-    ensures until { EndsAfter KEEP (last_or None episodes.now) result.1 }
+    ensures in_force { IsInForce (plan_of keep episodes.now) taken result.0 result.1 }
+    ensures until { EndsAfter keep (last_or None episodes.now) result.1 }
 {
     let [.., last] = episodes else {
         return (Env::Plain, 0);
     };
     match adopted(last.tries.as_slice()) {
-        Some(attempt) => (attempt.env, last.point + KEEP),
+        Some(attempt) => (attempt.env, last.point + keep as u64),
         None => (Env::Plain, 0),
     }
 }

@@ -1,6 +1,5 @@
 // What came before a session that follows, behind each of its steps, for proofs alone.
 ghost use Rattle.std.specs.Prelude.{◌≡◌, [], ◌∷◌};
-ghost use Rattle.rx_base.specs.declared.item.TheConstants.{KEEP};
 ghost use Rattle.follow.specs.Plans.{plan_of};
 ghost use Rattle.session_following.specs.Moving.{before_begun, before_heard, before_moved, before_released, before_sent, before_took};
 
@@ -85,25 +84,27 @@ impl<'a> Remembers for HeardOf<'a> {
     ghost before = { λ heard. before_heard heard.past.now.before heard.event.now };
 }
 
-/// A session that is released, with the report that it followed.
+/// A session that is released, with the report that it followed, by which an environment is kept for so many items.
 #[derive(Drop)]
 pub struct Released<'a> {
     pub past: &'a Past,
     pub episodes: &'a [Episode],
+    pub keep: u32,
 }
 
 impl<'a> Remembers for Released<'a> {
-    ghost before = { λ released. before_released released.past.now.before (plan_of KEEP released.episodes.now) };
+    ghost before = { λ released. before_released released.past.now.before (plan_of released.keep released.episodes.now) };
 }
 
-/// A session that is released where its guest ended itself, with the report that it followed.
+/// A session that is released where its guest ended itself, with the report that it followed, by which an environment is kept for so many items.
 #[derive(Drop)]
 pub struct Left<'a, R: AccessRule> {
     pub past: &'a Past,
     pub cpu: &'a Cpu<R>,
     pub episodes: &'a [Episode],
+    pub keep: u32,
 }
 
 impl<'a, R: AccessRule> Remembers for Left<'a, R> {
-    ghost before = { λ left. before_released (before_moved left.past.now.before left.cpu.now.slots.live []) (plan_of KEEP left.episodes.now) };
+    ghost before = { λ left. before_released (before_moved left.past.now.before left.cpu.now.slots.live []) (plan_of left.keep left.episodes.now) };
 }

@@ -1,6 +1,6 @@
 -- What a session is asked for.
 use Rattle.std.specs.Prelude.{ℕ, ◌*◌, ◌/◌, ◌≤◌, ◌^◌, Bool}
-use Rattle.session_state.specs.Terms.{MAX_ITEMS, Heap, limits_of, Before, nothing_before, Rules, Keeping, Options}
+use Rattle.session_state.specs.Terms.{MAX_ITEMS, Heap, Before, nothing_before, Rules, Keeping, Options}
 
 -- each number is in its range
 pub record AreInRange (options : Options) : Type 0 where
@@ -12,7 +12,8 @@ pub record AreInRange (options : Options) : Type 0 where
   pub some_frames : 2 ≤ options.frames
   pub few_frames : options.frames ≤ 16
   pub some_budget : 1 ≤ options.budget
-  pub few_budget : options.budget ≤ 2 ^ 24
+  pub few_budget : options.budget ≤ 2 ^ 36
+  pub some_keep : 1 ≤ options.keep
   pub some_items : 1 ≤ options.max_items
   pub few_items : options.max_items ≤ MAX_ITEMS
   pub some_events : 1 ≤ options.max_events
@@ -26,7 +27,7 @@ keeping_for options = record { ring = options.ring; every = options.every; pages
 -- taken before a reply is passed
 abbrev pub rules_in : Options → Before → ℕ → (Heap → ℕ → ℕ → Bool) → Rules
 rules_in options before hold permits = record {
-  limits = limits_of options.budget permits;
+  limits = record { budget = options.budget; permits = permits; keep = options.keep };
   bounds = record { framing = options.frame; max_items = options.max_items; max_events = options.max_events; before = before };
   hold = hold;
 }

@@ -10,7 +10,7 @@ use Rattle.guest_cpu.specs.declared.event.Event.TheVariants as step
 pub use Rattle.session_history.specs.Ends.{TakesAtEnd, StaysKnown}
 use Rattle.link_gate.specs.declared.pass_fault.PassFault.TheVariants as fault
 use Rattle.link_gate.specs.declared.heard.HearFault.TheVariants as hear
-use Rattle.session_state.specs.Terms.{AllocError, IoFault, KEEP, Rose, Send, Entry, Coming, Counts, Grew, Seen, but_given, Heap, IsOpened, Ledger, next_part, Image, Answer, Cause, Event, live_of, with_live, RunsWriting, SessionBreak, SessionEnd, Stop, HasAnswerCause, AtBreak, AtEnd, WasAsked, answer_of, AreGiven, IsClosing, Bounds, items_in, received, KeepsReplies, Rules, AreInOrder, passed_in, HearFault, PassFault, CanGive, Try, Noted, Shown, Unnoted, Recovered, Adopted}
+use Rattle.session_state.specs.Terms.{AllocError, IoFault, Rose, Send, Entry, Coming, Counts, Grew, Seen, but_given, Heap, IsOpened, Ledger, next_part, Image, Answer, Cause, Event, live_of, with_live, RunsWriting, SessionBreak, SessionEnd, Stop, HasAnswerCause, AtBreak, AtEnd, WasAsked, answer_of, AreGiven, IsClosing, Bounds, items_in, received, KeepsReplies, Rules, AreInOrder, passed_in, HearFault, PassFault, CanGive, Try, Noted, Shown, Unnoted, Recovered, Adopted}
 use Rattle.session_state.specs.Sessions.{SessionState, IsBegun}
 use Rattle.session_state.specs.Recovered.{Outcome, IsNoteFault, HasWatched, FailsAtChoices}
 use Rattle.session_state.specs.Leaving.{keeping_of, IsHandled, IsRecorded, IsTrimmed, IsCutShort, KeepsOldest, HoldsCheckpoints, LeavesBy}
@@ -367,7 +367,7 @@ module _ {R : Type 0} where
   -- a trial was adopted behind a failure with more items taken than at the last one
   pub record IsAdoptedLater (old new : SessionState R) : Type 0 where
     pub past : old.until < new.until
-    pub most : new.until ≤ old.options.max_items + KEEP
+    pub most : new.until ≤ old.options.max_items + old.options.keep
 
   -- more instructions were done, or a trial was adopted
   abbrev pub GoesFurther : SessionState R → SessionState R → Type 0

@@ -3,7 +3,7 @@ use Rattle.std.specs.Prelude.{◌≡◌, ◌≢◌, ◌⊎◌, ℕ, ◌+◌, ◌
 use Rattle.session_history.specs.declared.ends.SessionBreak.TheVariants as session_break
 use Rattle.session_history.specs.declared.ends.Stop.TheVariants as stop
 use Rattle.item_log.specs.Log as logs
-use Rattle.session_state.specs.Terms.{Send, Entry, Grew, Phases, Tells, Told, Seen, Choice, Ledger, Image, Cause, may_send, AsksFor, FailsBy, Path, Served, IsBounded, standing_of, SessionBreak, SessionEnd, journal_of, HandedLast, IsWaiting, StandsAt, before_end, AreHeeded, events_of, heeded, items_in, received, KeepsItems, KeepsPhases, KeepsReplies, Rules, is_closing, is_open, opens, IsDueBy, IsPassed, Latest, Moment, OwesNothing, Stands, journal, latest, place_at, received_before, Serving, first_survivor, moment_of, starting_path, Episode, Try, Noted, OneEpisode, failed_with, AreRecovered, episode_of, HasHandled, Keeping, stands_of, AreBehind, IsInForce, KeepsRing, steps_of, TellsMore}
+use Rattle.session_state.specs.Terms.{Send, Entry, Grew, Phases, Tells, Told, Seen, Choice, Ledger, Image, Cause, may_send, AsksFor, FailsBy, Limits, Path, Served, IsBounded, standing_of, SessionBreak, SessionEnd, journal_of, HandedLast, IsWaiting, StandsAt, before_end, AreHeeded, events_of, heeded, items_in, received, KeepsItems, KeepsPhases, KeepsReplies, Rules, is_closing, is_open, opens, IsDueBy, IsPassed, Latest, Moment, OwesNothing, Stands, journal, latest, place_at, received_before, Serving, first_survivor, moment_of, starting_path, Episode, Try, Noted, OneEpisode, failed_with, AreRecovered, episode_of, HasHandled, Keeping, stands_of, AreBehind, IsInForce, KeepsRing, steps_of, TellsMore}
 pub use Rattle.session_state.specs.Recovered.{Story, entries}
 use Rattle.session_state.specs.Recovered.{Unanswered, IsUnanswered, steps_unanswered, Walk, Telling, story_of, trials_of, last_of, episodes_of, spent, HasGivenUp, GivesUpBy, IsTelling, HasNoted, HasNothingBehind, AreTables, AreAllTables}
 use Rattle.session_state.specs.Leaving.{HoldsCheckpoints, UnlessGaveUp, IsAtRequest, IsReadFault, HandlesRequests, keeping_of}
@@ -86,14 +86,17 @@ module _ {R : Type 0} where
     pub events : session.events ≡ length (events_of rules.bounds (entries story))
     pub phases_are : KeepsPhases rules.bounds (entries story) phases
 
-  -- it has the survivor's checkpoints, those that its requests left, before which all answers of the allocator were used that are noted, and the environment in which the survivor runs: past the failure behind which it was adopted, or there
+  -- it has the survivor's checkpoints, those that its requests left, before which all answers of the allocator were used that are noted, and the environment in which the survivor runs
   pub record KeepsCheckpoints (rules : Rules) (image : Image) (story : Story) (session : SessionState R) : Type 0 where
     pub paths : List Path
     pub ring : KeepsRing rules image (entries story) story.survivor.plan story.survivor.now paths session.cpu session.log session.replies
     pub early : AreBehind session.recorded paths
     pub requests : HandlesRequests rules image (keeping_of session) story.earlier (entries story) story.recoveries story.survivor (stands_of session.cpu.slots.saved)
     pub in_force : IsInForce story.survivor.plan story.survivor.now.state.machine.taken session.env session.until
-    pub past : (session.until < story.survivor.now.state.machine.taken + rules.limits.keep) ⊎ ((session.until ≡ story.survivor.now.state.machine.taken + rules.limits.keep) × AsksFor rules.limits [] story.survivor.now story.survivor.now.state.machine.taken)
+
+-- A run is past the failure behind which an environment was adopted that ends at this number of items; or stands there, at its request.
+abbrev pub EndsWithin : Limits → ℕ → Path → Type 0
+EndsWithin limits until now = (until < now.state.machine.taken + limits.keep) ⊎ ((until ≡ now.state.machine.taken + limits.keep) × AsksFor limits [] now now.state.machine.taken)
 
 -- what the latest event makes owed was passed
 abbrev pub IsLatestDone : Rules → Moment → List Send → Type 0
@@ -132,6 +135,7 @@ module _ {R : Type 0} where
     pub answers : AnswersFor began story session
     pub goes : GoesWith rules story session seen.phases
     pub saved : KeepsCheckpoints rules image story session
+    pub past : EndsWithin rules.limits session.until story.survivor.now
     pub passed : HasPassed rules story session.replies
     pub latest : IsLatestBefore rules (moment story) story.survivor.now.state.machine.taken
 
@@ -147,6 +151,7 @@ module _ {R : Type 0} where
     pub answers : AnswersFor began story session
     pub goes : GoesWith rules story session seen.phases
     pub saved : KeepsCheckpoints rules image story session
+    pub past : EndsWithin rules.limits session.until story.survivor.now
     pub passed : HasPassed rules story session.replies
     pub asks : AsksFor rules.limits story.survivor.plan story.survivor.now story.survivor.now.state.machine.taken
     pub latest : IsLatestBefore rules (moment story) (story.survivor.now.state.machine.taken + 1)

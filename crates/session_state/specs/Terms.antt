@@ -2,7 +2,7 @@
 pub use Rattle.std.specs.declared.alloc.AllocError.{AllocError}
 pub use Rattle.rx_base.specs.declared.fault.IoFault.{IoFault}
 pub use Rattle.rx_base.specs.declared.item.Item.{Item}
-pub use Rattle.rx_base.specs.declared.item.TheConstants.{KEEP, MAX_ITEMS}
+pub use Rattle.rx_base.specs.declared.item.TheConstants.{MAX_ITEMS}
 pub use Rattle.rx_base.specs.Faults.{HasCause, Rose}
 pub use Rattle.rx_base.specs.Prefix.{Prefix}
 pub use Rattle.rx_base.specs.Sends.{Send, sent_to}
@@ -34,13 +34,12 @@ pub use Rattle.run_history.specs.Run.{after}
 unfoldable pub use Rattle.run_history.specs.Run.{does}
 pub use Rattle.run_history.specs.Served.{AsksFor, FailsBy, Grant, Limits, Override, Path, Served, env_at, guest_of, listed, longer, origin, planned_next}
 unfoldable pub use Rattle.run_history.specs.Served.{grant, served_next, serves}
-pub use Rattle.rv_exec.specs.Stepping.{limits_of}
 pub use Rattle.guest_cpu.specs.declared.event.Event.{Event}
 pub use Rattle.guest_cpu.specs.Cpus.{CpuState, IsFreshCpu, live_of, with_live}
 pub use Rattle.guest_cpu.specs.Receiving.{live_with_item, received_range, taken_standing}
 pub use Rattle.guest_cpu.specs.Runs.{GoesOn, IsBounded, IsSilent, TakesOn}
 pub use Rattle.guest_cpu.specs.Serving.{standing_of}
-pub use Rattle.guest_cpu.specs.Standing.{Live, Standing, marks_of, with_range}
+pub use Rattle.guest_cpu.specs.Standing.{Live, Standing, Turn, marks_of, with_range}
 unfoldable pub use Rattle.guest_cpu.specs.Standing.{turn}
 pub use Rattle.guest_cpu.specs.Writing.{RunsWriting, Writes}
 pub use Rattle.session_history.specs.declared.ends.SessionBreak.{SessionBreak}

@@ -16,8 +16,10 @@ pub struct Options {
     pub every: u32,
     /// How many frames the pages of the program have, as a multiple of the pages of its window: 2 to 16.
     pub frames: u32,
-    /// How many instructions may come between two items: 1 to 2^24.
-    pub budget: u32,
+    /// How many instructions may come between two items: 1 to 2^36.
+    pub budget: u64,
+    /// For how many items behind a failure the environment of the trial that is adopted stays in force: at least 1.
+    pub keep: u32,
     /// How many items a session may receive: 1 to 2^20.
     pub max_items: u64,
     /// How many events a session may have: 1 to 2^32.

@@ -23,6 +23,18 @@ fn a_checkpoint_survives(rt: HostRuntime) -> Result<(), Fail> {
     )
 }
 
+// A message of 40 bytes goes 8 past the end of a block of 32. The next one makes that larger: from before the first message, with padding, the 8
+// stand in the padding and come along. They are lost in every other environment, and from the newer checkpoint.
+#[test]
+fn padding_comes_along_with_a_block(rt: HostRuntime) -> Result<(), Fail> {
+    play_rows(
+        rt.alloc(),
+        "
+            grows_once o0|p0*.|p0b. star=39 > Finished taken=3 o0|p0*.|g0*.|p0b.|g0*.b.|e0| steps=812 blocks=12000,12110,12330+100,
+        ",
+    )
+}
+
 // Nothing was passed before the failure, so no try contradicts, and what is passed is of the survivor alone.
 #[test]
 fn held_back_replies_contradict_nothing(rt: HostRuntime) -> Result<(), Fail> {
@@ -98,6 +110,21 @@ fn a_program_fails_again(rt: HostRuntime) -> Result<(), Fail> {
         "
             overflow o0|p0*.a.b.c.d.|p0*. star=39 > Finished taken=7 o0|p0*.a.b.c.d.|g0*.|g0a.|g0b.|g0c.|g0d.|p0*.|g0*.|e0| steps=826 blocks=12100,12310,12100,12310,12100,12310,12100,12310,12000,12010,12100,12310,
             twice o0|p0a.b.c.d.e. > Finished taken=6 o0|p0a.b.c.d.e.|g0a.|g0b.|g0c.|g0d.|g0e.|e0| steps=161 blocks=12000,12020,12040,12060,12080,
+        ",
+    )
+}
+
+// It is in force for as many items as a session is asked for.
+#[test]
+fn an_environment_is_kept_for_some_items(rt: HostRuntime) -> Result<(), Fail> {
+    play_rows(
+        rt.alloc(),
+        "
+            overflow o0|p0*.*.*.*.*.*.*.*.*.*.*.*. star=39 > Finished taken=13 steps=3460 watched=3 episodes=3 failure=2:AssertFailed(1)@100ac tries=1:Pad:Asks, failure=6:AssertFailed(1)@100ac tries=5:Pad:Asks, failure=10:AssertFailed(1)@100ac tries=9:Pad:Asks,
+            overflow o0|p0*.*.*.*.*.*.*.*.*.*.*.*. star=39 keep=1 > Finished taken=13 steps=3460 watched=12 episodes=12 failure=2:AssertFailed(1)@100ac tries=1:Pad:Asks, failure=3:AssertFailed(1)@100ac tries=2:Pad:Asks, failure=4:AssertFailed(1)@100ac tries=3:Pad:Asks, failure=5:AssertFailed(1)@100ac tries=4:Pad:Asks, failure=6:AssertFailed(1)@100ac tries=5:Pad:Asks, failure=7:AssertFailed(1)@100ac tries=6:Pad:Asks, failure=8:AssertFailed(1)@100ac tries=7:Pad:Asks, failure=9:AssertFailed(1)@100ac tries=8:Pad:Asks, failure=10:AssertFailed(1)@100ac tries=9:Pad:Asks, failure=11:AssertFailed(1)@100ac tries=10:Pad:Asks, failure=12:AssertFailed(1)@100ac tries=11:Pad:Asks, failure=13:AssertFailed(1)@100ac tries=12:Pad:Asks,
+            overflow o0|p0*.*.*.*.*.*.*.*.*.*.*.*. star=39 keep=8 > Finished taken=13 steps=3460 watched=2 episodes=2 failure=2:AssertFailed(1)@100ac tries=1:Pad:Asks, failure=10:AssertFailed(1)@100ac tries=9:Pad:Asks,
+            overflow o0|p0*.*.*.*.*.*.*.*.*.*.*.*. star=39 keep=12 > Finished taken=13 steps=3460 watched=1 episodes=1 failure=2:AssertFailed(1)@100ac tries=1:Pad:Asks,
+            overflow o0|p0*.*.*.*.*.*.*.*.*.*.*.*. star=39 keep=4294967295 > Finished taken=13 steps=3460 watched=1 episodes=1 failure=2:AssertFailed(1)@100ac tries=1:Pad:Asks,
         ",
     )
 }

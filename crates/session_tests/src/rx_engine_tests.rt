@@ -156,7 +156,7 @@ fn each_number_has_two_ends(rt: HostRuntime) -> Result<(), Fail> {
         "
             echo o0|p0hi. ring=1 every=1 frames=2 budget=1 max_items=1 max_events=1 > GaveUp{point:0,cause:Hang} taken=0 -
             echo o0|p0hi. ring=1 every=1 frames=2 budget=10 max_items=1 max_events=1 > LimitEvents taken=1 o0|p0hi.|
-            echo o0|p0hi. hold=1000 ring=16 every=64 frames=16 budget=16777216 > Finished taken=2 o0|p0hi.|e0|g0hi.|
+            echo o0|p0hi. hold=1000 ring=16 every=64 frames=16 budget=68719476736 > Finished taken=2 o0|p0hi.|e0|g0hi.|
         ",
     )
 }

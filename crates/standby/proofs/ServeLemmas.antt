@@ -173,7 +173,7 @@ module _ {image : Image} {recorded : Recorded} {budget : ℕ} {counts : List (�
       served_all answer.Memory new (place_at ran) all ([], append-nil new.player.choices.items ∙ same ∙ is.choices ∙ sym ran.comes.0.choices) tt (λ no. absurd (both_ways seen.takes no takes))
 
   -- there is room where it goes on
-  room_on : {result : Result Event AllocError} (ran : RunsOn (plain_limits budget) [] [] is.path result new.player.cpu.slots.live) → budget ≤ 2 ^ 24 → ran.now.state.ended ≡ None → HasRoom new.player.cpu.slots.live
+  room_on : {result : Result Event AllocError} (ran : RunsOn (plain_limits budget) [] [] is.path result new.player.cpu.slots.live) → budget ≤ 2 ^ 36 → ran.now.state.ended ≡ None → HasRoom new.player.cpu.slots.live
   room_on ran few lives =
       let count = counted budget ran.goes.served.more is.path ran.now ran.goes.served.ran lives in
       let room : HasRoom (standing_of is.path) = subst HasRoom (sym is.stands) is.room in
@@ -184,7 +184,7 @@ module _ {image : Image} {recorded : Recorded} {budget : ℕ} {counts : List (�
       subst HasRoom ran.stands later
 
   -- a follower whose guest ran there, and which sent nothing
-  abbrev serving_at : {result : Result Event AllocError} (ran : RunsOn (plain_limits budget) [] [] is.path result new.player.cpu.slots.live) → budget ≤ 2 ^ 24 → ran.now.state.ended ≡ None → ran.now.state.sends ≡ is.path.state.sends
+  abbrev serving_at : {result : Result Event AllocError} (ran : RunsOn (plain_limits budget) [] [] is.path result new.player.cpu.slots.live) → budget ≤ 2 ^ 36 → ran.now.state.ended ≡ None → ran.now.state.sends ≡ is.path.state.sends
       → new.player.choices.items ≡ ran.now.choices → stage_of new.player ≡ record (stage_of old.player) { live = new.player.cpu.slots.live; choices = new.player.choices.items }
       → IsServing image recorded budget counts began seen from new
   serving_at ran few lives silent choices moved =
@@ -210,7 +210,7 @@ module _ {image : Image} {recorded : Recorded} {budget : ℕ} {counts : List (�
       }
 
   -- it asks for an item
-  pub asks_served : (ran : RunsOn (plain_limits budget) [] [] is.path (Ok event.Asks) new.player.cpu.slots.live) → budget ≤ 2 ^ 24 → new.player.choices.items ≡ old.player.choices.items
+  pub asks_served : (ran : RunsOn (plain_limits budget) [] [] is.path (Ok event.Asks) new.player.cpu.slots.live) → budget ≤ 2 ^ 36 → new.player.choices.items ≡ old.player.choices.items
       → stage_of new.player ≡ record (stage_of old.player) { live = new.player.cpu.slots.live; choices = new.player.choices.items } → IsWanting image recorded budget counts began seen from new
   asks_served ran few same moved = record {
     is = serving_at ran few ran.comes.1.lives ran.comes.0.sends (same ∙ is.choices ∙ sym ran.comes.0.choices) moved;
@@ -286,7 +286,7 @@ module _ {image : Image} {recorded : Recorded} {budget : ℕ} {counts : List (�
     asked = served_none none is.asked;
   }
 
-  emits_passed : HasPassed recorded began now is.entries (one_send conn bytes is.path.state.machine.taken) (stage_of new.player) → budget ≤ 2 ^ 24 → KeepsGuest mid new → mid.player.choices.items ≡ old.player.choices.items → now.phases ≡ seen.phases
+  emits_passed : HasPassed recorded began now is.entries (one_send conn bytes is.path.state.machine.taken) (stage_of new.player) → budget ≤ 2 ^ 36 → KeepsGuest mid new → mid.player.choices.items ≡ old.player.choices.items → now.phases ≡ seen.phases
       → IsServing image recorded budget counts began now from new
   emits_passed passed few keeps choices phases =
       let send : Send = record { conn = conn; bytes = bytes; taken = is.path.state.machine.taken } in
@@ -349,7 +349,7 @@ module _ {image : Image} {recorded : Recorded} {budget : ℕ} {counts : List (�
         failed = λ no. absurd (both_ways now.takes no cut.takes);
       }
 
-  pub emits_served : (result : Result (Unit {0}) Answer) → PassesBy recorded began now is.entries (one_send conn bytes is.path.state.machine.taken) (stage_of new.player) result → budget ≤ 2 ^ 24 → KeepsGuest mid new → mid.player.choices.items ≡ old.player.choices.items
+  pub emits_served : (result : Result (Unit {0}) Answer) → PassesBy recorded began now is.entries (one_send conn bytes is.path.state.machine.taken) (stage_of new.player) result → budget ≤ 2 ^ 36 → KeepsGuest mid new → mid.player.choices.items ≡ old.player.choices.items
       → now.phases ≡ seen.phases → ServesBy image recorded budget counts began now from new result
   emits_served (Ok done) passed few keeps choices phases = emits_passed passed few keeps choices phases
   emits_served (Err end) cut few keeps choices phases = emits_cut end cut keeps choices
@@ -357,7 +357,7 @@ module _ {image : Image} {recorded : Recorded} {budget : ℕ} {counts : List (�
 -- ---- it asks for an item
 
 -- there is room behind an item
-room_taken : (s : Standing) (item : Item) (budget : ℕ) → HasRoom s → s.guest.machine.since ≤ budget → budget ≤ 2 ^ 24 → HasRoom (taken_standing item s)
+room_taken : (s : Standing) (item : Item) (budget : ℕ) → HasRoom s → s.guest.machine.since ≤ budget → budget ≤ 2 ^ 36 → HasRoom (taken_standing item s)
 room_taken s item budget room low few =
     let keeps = received_keeps item s.guest.machine in
     record { since = omega (arith, keeps.since); steps = omega (arith, room.steps, low, few, keeps.taken, keeps.since) }
@@ -445,7 +445,7 @@ module _ {image : Image} {recorded : Recorded} {budget : ℕ} {counts : List (�
   -- it came, and is taken
   pub takes_served : {now : Seen} {mid new : Follower} {item : Item} → KeepsRun old mid → (more : HearsMore recorded began now wanting.is.entries old.player.cpu.slots.live.guest.machine.taken (stage_of mid.player))
       → IsItemOf mid.player.log mid.player.cpu.slots.live.guest.machine.taken item → stage_of new.player ≡ record (stage_of mid.player) { live = new.player.cpu.slots.live } → new.player.cpu.slots.live ≡ taken_standing item mid.player.cpu.slots.live
-      → budget ≤ 2 ^ 24 → IsServing image recorded budget counts began now from new
+      → budget ≤ 2 ^ 36 → IsServing image recorded budget counts began now from new
   takes_served {now = now} {mid = mid} {new = new} {item = item} keeps more is_item moved left few =
       let taken = heard_takes more.heard is_item left in
       let stays : mid.player.cpu.slots.live ≡ old.player.cpu.slots.live = ap (λ cpu. cpu.slots.live) keeps.cpu in
@@ -484,7 +484,7 @@ few_taken : {recorded : Recorded} {began : Told} {seen : Seen} {entries : List E
 few_taken {recorded = recorded} {entries = entries} {stage = stage} heard few = omega (arith, few, heard.items.most, heard.taken, received_is (bounds_of recorded) entries stage.log heard.items)
 
 -- one turn more can be counted
-pub room_to_run : {image : Image} {recorded : Recorded} {budget : ℕ} {counts : List (ℕ × ℕ)} {began : Told} {seen : Seen} {from : List Entry} {old : Follower} → IsServing image recorded budget counts began seen from old → budget ≤ 2 ^ 24
+pub room_to_run : {image : Image} {recorded : Recorded} {budget : ℕ} {counts : List (ℕ × ℕ)} {began : Told} {seen : Seen} {from : List Entry} {old : Follower} → IsServing image recorded budget counts began seen from old → budget ≤ 2 ^ 36
     → logs.received old.player.log ≤ old.player.log.max_items → old.player.cpu.slots.live.steps + budget < 2 ^ 64 - 1
 room_to_run is low few =
     let taken = few_taken is.heard few in
@@ -494,7 +494,7 @@ room_to_run is low few =
 
 module _ {image : Image} {recorded : Recorded} {budget : ℕ} {counts : List (ℕ × ℕ)} {began : Told} {seen : Seen} {from : List Entry} {old : Follower} (mid new : Follower) (is : IsServing image recorded budget counts began seen from old) {choice : Choice}
     (ran : RunsOn (plain_limits budget) [] [] is.path (Ok (event.Chooses choice)) mid.player.cpu.slots.live) where
-  pub chooses_served : (result : Result (Unit {0}) Answer) → budget ≤ 2 ^ 24 → seen.takes ≡ true → mid.player.choices.items ≡ old.player.choices.items → stage_of mid.player ≡ record (stage_of old.player) { live = mid.player.cpu.slots.live }
+  pub chooses_served : (result : Result (Unit {0}) Answer) → budget ≤ 2 ^ 36 → seen.takes ≡ true → mid.player.choices.items ≡ old.player.choices.items → stage_of mid.player ≡ record (stage_of old.player) { live = mid.player.cpu.slots.live }
       → NotesChoice choice mid new result → ServesBy image recorded budget counts began seen from new result
   chooses_served (Ok done) few takes same moved notes =
       let stays : new.player.cpu.slots.live ≡ mid.player.cpu.slots.live = ap (λ cpu. cpu.slots.live) notes.0.cpu in

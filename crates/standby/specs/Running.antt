@@ -7,10 +7,10 @@ use Rattle.standby.specs.Hearing.{HasHeard}
 use Rattle.standby.specs.Missing.{AllGiven}
 use Rattle.standby.specs.Serving.{AreServed, HasServed, IsFollowed, plain_limits}
 
--- there is room to count the instructions of a run that takes at most 2^20 items, with at most 2^24 instructions between two of them
+-- there is room to count the instructions of a run that takes at most 2^20 items, with at most 2^36 instructions between two of them
 pub record HasRoom (s : Standing) : Type 0 where
   pub since : s.guest.machine.since ≤ 2 ^ 62
-  pub steps : s.steps ≤ 2 ^ 62 + s.guest.machine.taken * 16777217 + s.guest.machine.since
+  pub steps : s.steps ≤ 2 ^ 62 + s.guest.machine.taken * 68719476737 + s.guest.machine.since
 
 -- a follower serves: its run stands here, and clients got all that they missed
 pub record IsServing (image : Image) (recorded : Recorded) (budget : ℕ) (counts : List (ℕ × ℕ)) (began : Told) (now : Seen) (from : List Entry) (follower : Follower) : Type 0 where

@@ -32,13 +32,13 @@ impl Follower {
     pub fn serve<K: Link, L: Ledger>(
         &mut self,
         counts: &Counts,
-        budget: u32,
+        budget: u64,
         link: &mut K,
         steps: &mut Steps<L>,
     ) -> Answer
         requires may { MayServe (K.seen link.old) self.old }
         requires short { IsShort counts.now self.old.kept.items None }
-        requires budget { (1 ≤ budget) × (budget ≤ 2 ^ 24) }
+        requires budget { (1 ≤ budget) × (budget ≤ 2 ^ 36) }
         ensures served { (image : Image) (recorded : Recorded) (began : Told) (up : HasCaughtUp image recorded began (K.seen link.old) self.old)
             → HasServed image recorded budget counts.now began (K.seen link.new) up.entries result self.new }
         ensures counted { steps.new + self.old.player.cpu.slots.live.steps ≡ steps.old + self.new.player.cpu.slots.live.steps }
@@ -58,12 +58,12 @@ impl Follower {
     // Turns until there is an answer.
     fn go_on<K: Link, L: Ledger>(
         &mut self,
-        budget: u32,
+        budget: u64,
         link: &mut K,
         steps: &mut Steps<L>,
     ) -> Answer
         requires stands { StandsServing budget (K.seen link.old) self.old }
-        requires budget { budget ≤ 2 ^ 24 }
+        requires budget { budget ≤ 2 ^ 36 }
         ensures served { (image : Image) (recorded : Recorded) (counts : List (ℕ × ℕ)) (began : Told) (from : List Entry) → IsServing image recorded budget counts began (K.seen link.old) from self.old
             → HasServed image recorded budget counts began (K.seen link.new) from result self.new }
         ensures counted { steps.new + self.old.player.cpu.slots.live.steps ≡ steps.old + self.new.player.cpu.slots.live.steps }
@@ -81,12 +81,12 @@ impl Follower {
     // Runs the guest to its next event, and does what it asks for.
     fn serve_turn<K: Link, L: Ledger>(
         &mut self,
-        budget: u32,
+        budget: u64,
         link: &mut K,
         steps: &mut Steps<L>,
     ) -> Result<(), Answer>
         requires stands { StandsServing budget (K.seen link.old) self.old }
-        requires budget { budget ≤ 2 ^ 24 }
+        requires budget { budget ≤ 2 ^ 36 }
         ensures turns { (image : Image) (recorded : Recorded) (counts : List (ℕ × ℕ)) (began : Told) (from : List Entry) → IsServing image recorded budget counts began (K.seen link.old) from self.old
             → ServesBy image recorded budget counts began (K.seen link.new) from self.new result }
         ensures steps { CountsSteps steps.old steps.new self.old.player.cpu.slots.live.steps self.new.player.cpu.slots.live.steps result }
@@ -114,12 +114,12 @@ impl Follower {
     // The guest asks for an item: it comes, and is taken. `Finished`: the link has ended.
     fn take<K: Link, L: Ledger>(
         &mut self,
-        budget: u32,
+        budget: u64,
         link: &mut K,
         steps: &mut Steps<L>,
     ) -> Result<(), Answer>
         requires stands { StandsWanting budget (K.seen link.old) self.old }
-        requires budget { budget ≤ 2 ^ 24 }
+        requires budget { budget ≤ 2 ^ 36 }
         ensures turns { (image : Image) (recorded : Recorded) (counts : List (ℕ × ℕ)) (began : Told) (from : List Entry) → IsWanting image recorded budget counts began (K.seen link.old) from self.old
             → ServesBy image recorded budget counts began (K.seen link.new) from self.new result }
         ensures steps { CountsSteps steps.old steps.new self.old.player.cpu.slots.live.steps self.new.player.cpu.slots.live.steps result }

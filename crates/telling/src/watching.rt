@@ -41,7 +41,7 @@ impl<'a, T: Teller, W: Watch> Watch for TellingWatch<'a, T, W> {
         &mut self,
         held: &mut Recoverable<R>,
         point: u64,
-        budget: u32,
+        budget: u64,
         steps: &mut Steps<L>,
     ) -> Result<(), AllocError> {
         if self.teller.wants() {

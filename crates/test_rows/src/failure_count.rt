@@ -21,7 +21,7 @@ impl Watch for FailureCount {
         &mut self,
         held: &mut Recoverable<R>,
         _point: u64,
-        _budget: u32,
+        _budget: u64,
         _steps: &mut Steps<L>,
     ) -> Result<(), AllocError> {
         self.failures = self.failures.saturating_add(1);

@@ -43,8 +43,11 @@ fn expect_in_range(options: &Options) -> Result<(), Fail>
     if options.frames < 2 || options.frames > 16 {
         return Err(Fail::new("frames"));
     }
-    if options.budget < 1 || options.budget > 16_777_216 {
+    if options.budget < 1 || options.budget > 68_719_476_736 {
         return Err(Fail::new("budget"));
+    }
+    if options.keep < 1 {
+        return Err(Fail::new("keep"));
     }
     if options.max_items < 1 || options.max_items > 1_048_576 {
         return Err(Fail::new("max_items"));

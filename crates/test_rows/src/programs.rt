@@ -199,6 +199,74 @@ buffer:
     .space 4096
 "#;
 
+// It keeps all messages in one block, one behind the other. Where the next one has no room the block is made twice as large, once. Behind each
+// message it sums up all bytes of the block, and compares (assertion 9); then it sends all back.
+const GROWS_ONCE: &str = r#"
+    li   a0, 16
+    li   s4, 16                 # the block's size
+    li   a7, 3                  # malloc
+    ecall
+    mv   s2, a0                 # the block
+    li   s3, 0                  # how many bytes are in it
+    li   s5, 0                  # their sum
+receive:
+    la   a0, buffer
+    li   a1, 4096
+    li   a7, 1                  # recv
+    ecall
+    li   t0, 2
+    bne  a2, t0, receive        # it isn't a message
+    mv   s0, a1
+    mv   s1, a0
+    add  t0, s3, s1
+    bgeu s4, t0, copy           # it has room
+    slli s4, s4, 1              # the fault: it may have none still
+    mv   a0, s2
+    mv   a1, s4
+    li   a7, 8                  # realloc
+    ecall
+    mv   s2, a0
+copy:
+    la   t0, buffer
+    add  t1, t0, s1
+    add  t2, s2, s3
+copy_byte:
+    beq  t0, t1, copied
+    lbu  t3, 0(t0)
+    sb   t3, 0(t2)
+    add  s5, s5, t3
+    addi t0, t0, 1
+    addi t2, t2, 1
+    j    copy_byte
+copied:
+    add  s3, s3, s1
+    mv   t0, s2
+    add  t1, s2, s3
+    li   t2, 0
+sum_byte:
+    beq  t0, t1, summed
+    lbu  t3, 0(t0)
+    add  t2, t2, t3
+    addi t0, t0, 1
+    j    sum_byte
+summed:
+    beq  t2, s5, reply
+    li   a0, 9
+    li   a7, 6                  # assertion failed
+    ecall
+reply:
+    mv   a0, s0
+    mv   a1, s2
+    mv   a2, s3
+    li   a7, 2                  # send
+    ecall
+    j    receive
+
+.data
+buffer:
+    .space 4096
+"#;
+
 // The text of a program of this crate.
 fn own_source_of(name: &str) -> Option<&'static str> {
     match name {
@@ -208,6 +276,7 @@ fn own_source_of(name: &str) -> Option<&'static str> {
         "frees_twice_and_exits" => Some(FREES_TWICE_AND_EXITS),
         "writes_to_an_old_block" => Some(WRITES_TO_AN_OLD_BLOCK),
         "overruns_and_frees_twice" => Some(OVERRUNS_AND_FREES_TWICE),
+        "grows_once" => Some(GROWS_ONCE),
         _ => None,
     }
 }

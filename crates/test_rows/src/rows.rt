@@ -10,12 +10,13 @@ pub(crate) const WINDOW: u32 = 1 << 20;
 // What may be given. `fail` is the number of a call of the link that fails, `gone` that of a give that finds its connection gone after
 // `after` bytes, and `note_fail` that of a call of the notes that fails. `memory` is how many calls of the link are done until it has no
 // memory any more, and `note_memory` how many of the notes. A `star` is so many letters x.
-const NAMES: [&str; 15] = [
+const NAMES: [&str; 16] = [
     "hold",
     "ring",
     "every",
     "frames",
     "budget",
+    "keep",
     "max_items",
     "max_events",
     "frame",
@@ -125,7 +126,8 @@ pub(crate) fn options_of(words: &str) -> Result<Options, Fail> {
         ring: small_number_of(words, "ring", 8)?,
         every: small_number_of(words, "every", 1)?,
         frames: small_number_of(words, "frames", 4)?,
-        budget: small_number_of(words, "budget", 1_000_000)?,
+        budget: large_number_of(words, "budget", 1_000_000)?,
+        keep: small_number_of(words, "keep", 4)?,
         max_items: large_number_of(words, "max_items", 1 << 20)?,
         max_events: large_number_of(words, "max_events", 1 << 32)?,
     })

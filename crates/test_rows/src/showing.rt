@@ -28,13 +28,18 @@ pub(crate) fn text_of(alloc: Global, word: &str) -> Result<String, Fail> {
     Ok(text.replace(alloc, "_", " ")?)
 }
 
-// Where blocks are, each with a z if it was zeroed.
+// Where blocks are, each with a z if it was zeroed, and with how many bytes were carried to it, if any were.
 fn blocks_of(alloc: Global, choices: &[Choice]) -> Result<String, Fail> {
     let mut text = String::new(alloc);
     for choice in choices {
-        let mark = if choice.zeroed { "z," } else { "," };
+        let mark = if choice.zeroed { "z" } else { "" };
         let block = format!(in alloc; "{:x}{mark}", choice.at)?;
         text.push_str(block.as_str())?;
+        if choice.carried > 0 {
+            let carried = format!(in alloc; "+{:x}", choice.carried)?;
+            text.push_str(carried.as_str())?;
+        }
+        text.push_str(",")?;
     }
     Ok(text)
 }

@@ -10,7 +10,7 @@ use Rattle.run_history.specs.Machine as M
 use Rattle.session_history.specs.Heeding as H
 use Rattle.session_history.proofs.Accounts.{nothing_is_sound}
 use Rattle.session_state.proofs.Lemmas.{in_force_by, none_noted, tells_none, watched_kept, known_same}
-use Rattle.session_state.proofs.Terms.{Bool, List, None, Option, [], ap, arith, drop, false, inl, inr, length, refl, subst, suc, sym, take, true, zero, ℕ, ◌*◌, ◌++◌, ◌+◌, ◌-◌, ◌/◌, ◌<◌, ◌^◌, ◌∙◌, ◌∷◌, ◌≡◌, ◌≤◌, replicate, slice_get, KEEP, MAX_ITEMS, Send, tells_nothing, Grew, IsFresh, Seen, Heap, Framing, Log, Ledger, no_replies, Image, Answer, no_connections, Path, origin, runs_start, CpuState, standing_of, Standing, served_same, serving_first, items_in, nothing_before, KeepsReplies, Rules, Stands, CanGive, Try, Noted, Shown, recovered_first, in_force_none, oldest_kept, handled_first, none_followed, alone, keeping_by, stands_of, KeepsRing, Options, keeping_for, rules_in, rules_of, IsBegun, SessionState, AreTables, HasWatched, IsTrimmed, LeavesBy, keeping_of, IsBetween, Since, Story, told_since, GoesFurther, HasSameFrame, HasServedLink, HasServedOn, IsCounted, MayServe, StaysKnown, outcome_of, rules_by}
+use Rattle.session_state.proofs.Terms.{Bool, List, None, Option, [], ap, arith, drop, false, inl, inr, length, refl, subst, suc, sym, take, true, zero, ℕ, ◌*◌, ◌++◌, ◌+◌, ◌-◌, ◌/◌, ◌<◌, ◌^◌, ◌∙◌, ◌∷◌, ◌≡◌, ◌≤◌, replicate, slice_get, MAX_ITEMS, Send, tells_nothing, Grew, IsFresh, Seen, Heap, Framing, Log, Ledger, no_replies, Image, Answer, no_connections, Path, origin, runs_start, CpuState, standing_of, Standing, served_same, serving_first, items_in, nothing_before, KeepsReplies, Rules, Stands, CanGive, Try, Noted, Shown, recovered_first, in_force_none, oldest_kept, handled_first, none_followed, alone, keeping_by, stands_of, KeepsRing, Options, keeping_for, rules_in, rules_of, IsBegun, SessionState, AreTables, HasWatched, IsTrimmed, LeavesBy, keeping_of, IsBetween, Since, Story, told_since, GoesFurther, HasSameFrame, HasServedLink, HasServedOn, IsCounted, MayServe, StaysKnown, outcome_of, rules_by}
 use Rattle.session_state.proofs.ending.LeavingLemmas.{start_trimmed}
 use Rattle.session_state.proofs.standing.FrameLemmas.{same_rules}
 
@@ -125,7 +125,8 @@ module _ {R : Type 0} where
             events = begun.no_events;
             phases_are = fresh;
           };
-          saved = record { paths = origin image ∷ []; ring = keeps; early = (omega (arith, begun.none_recorded), tt); requests = inl (handled_first rules image (keeping_by session.options.every cpu.slots) [] [] (first_story image).survivor (stands_of cpu.slots.saved) (none_followed rules image (keeping_by session.options.every cpu.slots) refl).0 stands); in_force = in_force_by begun.plain begun.until_none (in_force_none 0); past = inl (let none : session.until ≡ 0 = begun.until_none in omega (arith, none)) };
+          saved = record { paths = origin image ∷ []; ring = keeps; early = (omega (arith, begun.none_recorded), tt); requests = inl (handled_first rules image (keeping_by session.options.every cpu.slots) [] [] (first_story image).survivor (stands_of cpu.slots.saved) (none_followed rules image (keeping_by session.options.every cpu.slots) refl).0 stands); in_force = in_force_by begun.plain begun.until_none (in_force_none 0) };
+          past = inl (let none : session.until ≡ 0 = begun.until_none in let some = begun.in_range.some_keep in omega (arith, none, some));
           passed = record { replies = subst (λ (ledger : Ledger). KeepsReplies rules.bounds [] None [] ledger) (sym begun.replies) (first_replies session.options.frame session.options.max_items session.options.max_events); no_trial = ap (λ (ledger : Ledger). ledger.trial) begun.replies; done = λ send stands due. absurd due };
           latest = λ last found. absurd (let no : ⊥ = cc in no);
         };
@@ -220,7 +221,7 @@ module _ {R : Type 0} where
       subst (λ n. HasServedLink rules before seen shown now n tables_before tables old new answered) same h
 
   -- Its guest has done few instructions: so many come between two items, and so many items.
-  pub between_fits : {rules : Rules} {image : Image} {began : Since} {seen : Seen} {session : SessionState R} → rules.limits.budget ≤ 2 ^ 24 → rules.bounds.max_items ≤ MAX_ITEMS → IsBetween rules image began seen session → session.cpu.slots.live.steps < 18446744073709551616
+  pub between_fits : {rules : Rules} {image : Image} {began : Since} {seen : Seen} {session : SessionState R} → rules.limits.budget ≤ 2 ^ 36 → rules.bounds.max_items ≤ MAX_ITEMS → IsBetween rules image began seen session → session.cpu.slots.live.steps < 18446744073709551616
   between_fits {rules = rules} budget items b =
       let now : Path = b.going.story.survivor.now in
       let few : now.state.machine.taken ≤ MAX_ITEMS = let most = b.going.goes.few in omega (arith, most, items) in
@@ -232,13 +233,14 @@ module _ {R : Type 0} where
 
   -- What is left to do gets less: of failures, or of instructions before the next one.
   pub turned_smaller : (old mid new : SessionState R) → mid.options ≡ old.options → mid.cpu.slots.live.steps < 18446744073709551616 → GoesFurther mid new
-      → (old.options.max_items + KEEP + 1 - new.until) * 18446744073709551617 + (18446744073709551616 - new.cpu.slots.live.steps) < (old.options.max_items + KEEP + 1 - mid.until) * 18446744073709551617 + (18446744073709551616 - mid.cpu.slots.live.steps)
+      → (old.options.max_items + old.options.keep + 1 - new.until) * 18446744073709551617 + (18446744073709551616 - new.cpu.slots.live.steps) < (old.options.max_items + old.options.keep + 1 - mid.until) * 18446744073709551617 + (18446744073709551616 - mid.cpu.slots.live.steps)
   turned_smaller old mid new options fits (inl further) =
-      let same : old.options.max_items + KEEP + 1 - new.until ≡ old.options.max_items + KEEP + 1 - mid.until = ap (λ n. old.options.max_items + KEEP + 1 - n) further.0 in
-      subst (λ n. n * 18446744073709551617 + (18446744073709551616 - new.cpu.slots.live.steps) < (old.options.max_items + KEEP + 1 - mid.until) * 18446744073709551617 + (18446744073709551616 - mid.cpu.slots.live.steps)) (sym same)
+      let same : old.options.max_items + old.options.keep + 1 - new.until ≡ old.options.max_items + old.options.keep + 1 - mid.until = ap (λ n. old.options.max_items + old.options.keep + 1 - n) further.0 in
+      subst (λ n. n * 18446744073709551617 + (18446744073709551616 - new.cpu.slots.live.steps) < (old.options.max_items + old.options.keep + 1 - mid.until) * 18446744073709551617 + (18446744073709551616 - mid.cpu.slots.live.steps)) (sym same)
       (let later = further.1 in omega (arith, later, fits))
   turned_smaller old mid new options fits (inr adopted) =
       let most : mid.options.max_items ≡ old.options.max_items = ap (λ o. o.max_items) options in
+      let keeps : mid.options.keep ≡ old.options.keep = ap (λ o. o.keep) options in
       let past = adopted.past in
       let high = adopted.most in
-      omega (arith, past, high, most)
+      omega (arith, past, high, most, keeps)

@@ -1,15 +1,23 @@
 -- Where the guest of a session ran from one of its events on.
+use Rattle.rv_exec.specs.Stepping.{limits_of}
 use Rattle.session_history.specs.declared.ends.SessionBreak.TheVariants as session_break
 use Rattle.session_history.specs.declared.ends.SessionEnd.TheVariants as session_end
 use Rattle.guest_cpu.specs.declared.event.Event.TheVariants as step
 use Rattle.guest_cpu.specs.Running.{RunsBy}
+use Rattle.recovery.proofs.Staying.{turns_by}
 use Rattle.session_state.proofs.Lemmas.{held_by, held_of, answers_as, broken_running, run_asks, run_exits, run_fails}
-use Rattle.session_state.proofs.Terms.{AllocError, Bool, Err, List, Ok, Result, ap, arith, cond, inl, inr, ltb, refl, subst, sym, ℕ, ◌+◌, ◌<◌, ◌∙◌, ◌≡◌, ◌≤◌, IfOk, Seen, Choice, Heap, Env, Plain, Checkpoint, oldest_of, Image, Cause, Path, env_at, limits_of, Event, runs_serve, runs_write, CpuState, live_of, with_live, Standing, turn, RunsWriting, Stop, items_in, Rules, keeping_by, SessionState, env_of, KeepsOldest, keeping_of, IsBetween, IsBrokenOff, IsEnding, IsFailing, IsWaitingFor, Since, entries, ComesBetween, GoesFurther, HasRun, HasSameFrame, IsAdoptedLater, rules_by}
+use Rattle.session_state.proofs.Terms.{AllocError, Bool, Err, List, Ok, Option, Result, ap, arith, cond, inl, inr, ltb, refl, subst, sym, ℕ, ◌+◌, ◌<◌, ◌∙◌, ◌≡◌, ◌≤◌, IfOk, Seen, Choice, Heap, Env, Plain, Checkpoint, oldest_of, Image, Cause, Path, env_at, Event, runs_serve, runs_write, CpuState, live_of, with_live, Standing, Turn, turn, RunsWriting, Stop, items_in, Rules, keeping_by, SessionState, env_of, KeepsOldest, keeping_of, IsBetween, IsBrokenOff, IsEnding, IsFailing, IsWaitingFor, Since, entries, ComesBetween, GoesFurther, HasRun, HasSameFrame, IsAdoptedLater, rules_by}
 
 module _ {R : Type 0} where
   -- how a guest runs in an environment, by the session that it is of
   abbrev pub Ran : (R → Heap → ℕ → ℕ → Bool) → Env → SessionState R → CpuState R → Result Event AllocError → Type 0
   Ran permits env session cpu result = RunsBy step.Emits (turn (limits_of session.options.budget (permits session.cpu.rule)) env) session.cpu.base (live_of session.cpu) result (live_of cpu)
+
+  -- so it runs under all that its session allows
+  pub ran_as : (permits : R → Heap → ℕ → ℕ → Bool) (env : Env) (session : SessionState R) (cpu : CpuState R) (result : Result Event AllocError) → Ran permits env session cpu result
+      → RunsBy step.Emits (turn (rules_by permits session).limits env) session.cpu.base (live_of session.cpu) result (live_of cpu)
+  ran_as permits env session cpu result ran =
+      subst (λ (next : Standing → Option (Turn Event)). RunsBy step.Emits next session.cpu.base (live_of session.cpu) result (live_of cpu)) (turns_by (rules_by permits session).limits env) ran
 
   -- the environment in force is that of the survivor's plan
   env_is : {rules : Rules} {env : Env} {image : Image} {began : Since} {seen : Seen} {old : SessionState R} (b : IsBetween rules image began seen old) → env ≡ env_of old
@@ -20,11 +28,11 @@ module _ {R : Type 0} where
   -- its run goes on so
   pub ran_on : (permits : R → Heap → ℕ → ℕ → Bool) {env : Env} {image : Image} {began : Since} {seen : Seen} {old inside : SessionState R} (cpu : CpuState R) {happened : Event} → env ≡ env_of old → inside ≡ old
       → (b : IsBetween (rules_by permits old) image began seen old) → Ran permits env inside cpu (Ok happened)
-      → RunsWriting (limits_of old.options.budget (permits old.cpu.rule)) (items_in (rules_by permits old).bounds (entries b.going.story)) b.going.story.survivor.plan old.cpu.base b.going.story.survivor.now old.cpu.written (Ok happened) (live_of cpu)
+      → RunsWriting (rules_by permits old).limits (items_in (rules_by permits old).bounds (entries b.going.story)) b.going.story.survivor.plan old.cpu.base b.going.story.survivor.now old.cpu.written (Ok happened) (live_of cpu)
   ran_on permits {env = env} {old = old} cpu {happened = happened} force same b ran =
       let first : Path = b.going.story.survivor.now in
-      runs_write (limits_of old.options.budget (permits old.cpu.rule)) (items_in (rules_by permits old).bounds (entries b.going.story)) b.going.story.survivor.plan env old.cpu.base first (live_of old.cpu) (live_of cpu)
-      (Ok happened) b.going.goes.lives (env_is b force) b.going.goes.guest (subst (λ (s : SessionState R). Ran permits env s cpu (Ok happened)) same ran)
+      runs_write (rules_by permits old).limits (items_in (rules_by permits old).bounds (entries b.going.story)) b.going.story.survivor.plan env old.cpu.base first (live_of old.cpu) (live_of cpu)
+      (Ok happened) b.going.goes.lives (env_is b force) b.going.goes.guest (ran_as permits env old cpu (Ok happened) (subst (λ (s : SessionState R). Ran permits env s cpu (Ok happened)) same ran))
 
   -- it ran to this event
   pub has_run : (permits : R → Heap → ℕ → ℕ → Bool) {env : Env} {image : Image} {began : Since} {seen : Seen} {old inside : SessionState R} {cpu : CpuState R} {found happened : Event} → env ≡ env_of old → inside ≡ old → found ≡ happened
@@ -51,8 +59,8 @@ module _ {R : Type 0} where
       → IsBetween (rules_by permits old) image began seen old → Ran permits env inside cpu result → inside.steps ≤ cpu.slots.live.steps
   ran_low permits {env = env} {old = old} {inside = inside} cpu result force same b ran =
       let first : Path = b.going.story.survivor.now in
-      let runs = runs_serve (limits_of old.options.budget (permits old.cpu.rule)) (items_in (rules_by permits old).bounds (entries b.going.story)) b.going.story.survivor.plan env old.cpu.base first (live_of old.cpu) (live_of cpu)
-      result b.going.goes.lives (env_is b force) b.going.goes.guest (subst (λ (s : SessionState R). Ran permits env s cpu result) same ran) in
+      let runs = runs_serve (rules_by permits old).limits (items_in (rules_by permits old).bounds (entries b.going.story)) b.going.story.survivor.plan env old.cpu.base first (live_of old.cpu) (live_of cpu)
+      result b.going.goes.lives (env_is b force) b.going.goes.guest (ran_as permits env old cpu result (subst (λ (s : SessionState R). Ran permits env s cpu result) same ran)) in
       let answers : inside.steps ≡ first.steps = ap (λ (s : SessionState R). s.steps) same ∙ b.going.answers.steps in
       omega (arith, answers, ap (λ (s : Standing). s.steps) runs.stands, runs.goes.later)
 
@@ -131,8 +139,8 @@ module _ {R : Type 0} where
       → lost + inside.steps ≡ began.lost + cpu.slots.live.steps → IsBrokenOff (rules_by permits old) image (record began { lost = lost }) seen (record inside { cpu = cpu }) session_break.Memory
   breaks_now permits {env = env} {image = image} {old = old} {inside = inside} {cpu = cpu} result force same kept saved b ran counts =
       let first : Path = b.going.story.survivor.now in
-      let runs = runs_serve (limits_of old.options.budget (permits old.cpu.rule)) (items_in (rules_by permits old).bounds (entries b.going.story)) b.going.story.survivor.plan env old.cpu.base first (live_of old.cpu) (live_of cpu)
-      result b.going.goes.lives (env_is b force) b.going.goes.guest (subst (λ (s : SessionState R). Ran permits env s cpu result) same ran) in
+      let runs = runs_serve (rules_by permits old).limits (items_in (rules_by permits old).bounds (entries b.going.story)) b.going.story.survivor.plan env old.cpu.base first (live_of old.cpu) (live_of cpu)
+      result b.going.goes.lives (env_is b force) b.going.goes.guest (ran_as permits env old cpu result (subst (λ (s : SessionState R). Ran permits env s cpu result) same ran)) in
       let answers : inside.steps ≡ first.steps = ap (λ (s : SessionState R). s.steps) same ∙ b.going.answers.steps in
       let there : runs.now.steps ≡ cpu.slots.live.steps = ap (λ (s : Standing). s.steps) runs.stands in
       broken_running runs.now b.going.told
@@ -170,7 +178,7 @@ module _ {R : Type 0} where
 
   pub further_adopted : (result : Result (Unit {0}) Stop) (old mid new : SessionState R) → mid.until ≡ old.until → mid.options ≡ old.options → IfOk result (λ _. IsAdoptedLater mid new) → IfOk result (λ _. GoesFurther old new)
   further_adopted (Ok done) old mid new same options later =
-      inr (record { past = omega (arith, later.past, same); most = let items : mid.options.max_items ≡ old.options.max_items = ap (λ o. o.max_items) options in omega (arith, later.most, items) })
+      inr (record { past = omega (arith, later.past, same); most = let items : mid.options.max_items ≡ old.options.max_items = ap (λ o. o.max_items) options in let keeps : mid.options.keep ≡ old.options.keep = ap (λ o. o.keep) options in omega (arith, later.most, items, keeps) })
   further_adopted (Err why) old mid new same options later = tt
 
   pub fails_under : {image : Image} {began : Since} {seen : Seen} {cause : Cause} {session : SessionState R} {first second : Rules} → first ≡ second → IsFailing first image began seen cause session → IsFailing second image began seen cause session

@@ -57,6 +57,7 @@ module _ {R : Type 0} where
     answers = heard.answers;
     goes = heard.goes;
     saved = saved;
+    past = heard.past;
     passed = record { replies = replies; no_trial = no_trial; done = done_quiet rules story e is };
     asks = heard.asks;
     latest = before_story rules story e (quiet_no_end e is) (omega (arith, all));
@@ -96,6 +97,7 @@ module _ {R : Type 0} where
       answers = answers_still more (same_run) h.answers;
       goes = goes_given more given stay h.goes;
       saved = saved_given more given kept h.saved;
+      past = h.past;
       passed = passed;
       asks = h.asks;
       latest = before_given rules h.story more given h.latest;
@@ -114,6 +116,7 @@ module _ {R : Type 0} where
       answers = answers_still more (same_run) g.answers;
       goes = goes_given more given stay g.goes;
       saved = saved_given more given kept g.saved;
+      past = g.past;
       passed = passed;
       latest = before_given rules g.story more given g.latest;
     };

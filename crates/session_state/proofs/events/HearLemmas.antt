@@ -1,6 +1,6 @@
 -- What a session makes of an event that it heard.
 use Rattle.links.specs.declared.journal.Entry.TheVariants as entry
-use Rattle.session_state.proofs.Terms.{List, [], ap, append_assoc, arith, length, subst, sym, true, ℕ, ◌++◌, ◌+◌, ◌<◌, ◌∙◌, ◌∷◌, ◌≡◌, ◌≤◌, ◌⊎◌, Item, Entry, LinkEvent, Phases, Tells, events_in, Seen, Image, AsksFor, Path, CpuState, events_of-append, IsHeard, Bounds, events_of, heeded, items_in, received, KeepsItems, KeepsPhases, Rules, entries_of, opens, ring_more, keeping_by, AreBehind, Brings, KeepsRing, SessionState, HandlesRequests, keeping_of, AnswersFor, GoesWith, IsTold, IsWaitingFor, KeepsCheckpoints, Since, Story, entries, sends, then_story}
+use Rattle.session_state.proofs.Terms.{List, [], ap, append_assoc, arith, length, subst, sym, true, ℕ, ◌++◌, ◌+◌, ◌<◌, ◌∙◌, ◌∷◌, ◌≡◌, ◌≤◌, ◌⊎◌, Item, Entry, LinkEvent, Phases, Tells, events_in, Seen, Image, AsksFor, Path, CpuState, events_of-append, IsHeard, Bounds, events_of, heeded, items_in, received, KeepsItems, KeepsPhases, Rules, entries_of, opens, ring_more, keeping_by, AreBehind, Brings, KeepsRing, SessionState, HandlesRequests, keeping_of, AnswersFor, EndsWithin, GoesWith, IsTold, IsWaitingFor, KeepsCheckpoints, Since, Story, entries, sends, then_story}
 use Rattle.session_state.proofs.standing.HeldLemmas.{requests_more, stands_by}
 use Rattle.session_state.proofs.standing.CheckpointLemmas.{in_force_by}
 use Rattle.session_state.proofs.guest.GuestLemmas.{answers_as}
@@ -67,7 +67,6 @@ module _ {R : Type 0} where
             stands_by (λ k stands. HandlesRequests rules image k story.earlier (entries (then_story story more)) story.recoveries story.survivor stands) old new (ap (λ (cpu : CpuState R). cpu.slots.saved) same.cpu)
             (run_keeping same) (requests_more items brings.items k.requests);
         in_force = in_force_by same.env same.until k.in_force;
-        past = subst (λ n. (n < now.state.machine.taken + rules.limits.keep) ⊎ ((n ≡ now.state.machine.taken + rules.limits.keep) × AsksFor rules.limits [] now now.state.machine.taken)) (sym same.until) k.past;
       }
 
   -- what is known behind an event that was heard, but for the replies
@@ -75,6 +74,7 @@ module _ {R : Type 0} where
     pub told : IsTold rules image began seen.told story
     pub answers : AnswersFor began story session
     pub goes : GoesWith rules story session seen.phases
+    pub past : EndsWithin rules.limits session.until story.survivor.now
     pub asks : AsksFor rules.limits story.survivor.plan story.survivor.now story.survivor.now.state.machine.taken
 
   pub has_heard : {rules : Rules} {image : Image} {began : Since} {before seen : Seen} {event : LinkEvent} {old new : SessionState R} (w : IsWaitingFor rules image began before old)
@@ -94,6 +94,7 @@ module _ {R : Type 0} where
         goes =
             goes_then (entry.Took event ∷ []) same w.hearing.goes (subst (λ es. KeepsItems rules.bounds es new.log) is heard.items) (events ∙ ap (λ es. length (events_of rules.bounds es)) is)
             (subst (λ (es : List Entry). KeepsPhases rules.bounds es seen.phases) is knows);
+        past = subst (λ n. EndsWithin rules.limits n story.survivor.now) (sym same.until) w.hearing.past;
         asks = asks;
       }
 

@@ -299,6 +299,7 @@ module _ {R : Type 0} where
       answers = answers_still more (same_run) known.answers;
       goes = goes_given more given stay known.goes;
       saved = saved_given more given kept saved;
+      past = known.past;
       passed = passed;
       asks = known.asks;
       latest = before_given rules story more given last;

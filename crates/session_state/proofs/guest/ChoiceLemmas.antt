@@ -84,7 +84,7 @@ module _ {R : Type 0} where
         taken = h.answers.taken;
         steps = h.answers.steps;
       }) (goes_kept refl h.goes.items refl h.goes)
-      (record { paths = h.saved.paths; ring = h.saved.ring; early = behind; requests = h.saved.requests; in_force = h.saved.in_force; past = h.saved.past }) h.passed
+      (record { paths = h.saved.paths; ring = h.saved.ring; early = behind; requests = h.saved.requests; in_force = h.saved.in_force }) h.past h.passed
 
   -- how many are left to note
   pub waits_left : {rules : Rules} {image : Image} {began : Since} {seen : Seen} {session : SessionState R} {safe : ℕ} (w : IsWaitingFor rules image began seen session) → safe ≤ length w.hearing.story.survivor.now.choices
@@ -106,7 +106,7 @@ module _ {R : Type 0} where
   waits_forgot w forgets none =
       let h = w.hearing in
       waits_as w h.told (answers_as refl refl refl refl h.answers) (goes_kept refl forgets.items refl h.goes)
-      (record { paths = h.saved.paths; ring = forgets.ring; early = h.saved.early; requests = h.saved.requests; in_force = h.saved.in_force; past = h.saved.past }) (record { replies = forgets.replies; no_trial = none; done = h.passed.done })
+      (record { paths = h.saved.paths; ring = forgets.ring; early = h.saved.early; requests = h.saved.requests; in_force = h.saved.in_force }) h.past (record { replies = forgets.replies; no_trial = none; done = h.passed.done })
 
   -- the number of all answers of the allocator at an end is one of 64 bits
   pub ending_few : {rules : Rules} {image : Image} {began : Since} {seen : Seen} {session : SessionState R} {end : SessionEnd} → IsEnding rules image began seen session end → session.recorded + length session.choices ≤ session.steps
@@ -122,4 +122,4 @@ module _ {R : Type 0} where
   waits_untold {told = told} w =
       let h = w.hearing in
       waits_as w (record { serving = h.told.serving; way = h.told.way; tells = h.told.tells; counted = h.told.counted; recovered = h.told.recovered; episodes = tt; tables = h.told.tables })
-      (record { low = h.answers.low; recorded = tt; choices = h.answers.choices; unnoted = refl; taken = h.answers.taken; steps = h.answers.steps }) h.goes h.saved h.passed
+      (record { low = h.answers.low; recorded = tt; choices = h.answers.choices; unnoted = refl; taken = h.answers.taken; steps = h.answers.steps }) h.goes h.saved h.past h.passed

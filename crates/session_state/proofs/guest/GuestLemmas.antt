@@ -5,11 +5,11 @@ use Rattle.item_log.proofs.Shown.{shown_items}
 use Rattle.session_history.specs.declared.ends.SessionBreak.TheVariants as session_break
 use Rattle.session_history.specs.declared.ends.SessionEnd.TheVariants as session_end
 use Rattle.guest_cpu.specs.declared.event.Event.TheVariants as event
-use Rattle.session_state.proofs.Terms.{List, None, Ok, [], ap, append-nil, arith, drop, inl, inr, length, length-append, map, refl, subst, sym, take, true, ℕ, ◌++◌, ◌+◌, ◌<◌, ◌∙◌, ◌∷◌, ◌≡◌, ◌≤◌, drop-append-le, take-append-le, ◌≢◌, Send, Entry, LinkEvent, grew_nothing, Grew, Phases, Tells, Told, Seen, Choice, items_of, Log, Ledger, Image, Cause, AsksFor, Path, Served, live_of, GoesOn, IsSilent, standing_of, Standing, RunsWriting, Writes, SessionBreak, SessionEnd, serving_account, EndsBy, HandedLast, StandsAt, Bounds, events_of, items_in, received, KeepsItems, KeepsReplies, Rules, gone_on, is_open, IsPassed, Stands, starting_path, Episode, Noted, OneEpisode, failed_with, steps_later, episode_of, HasHandled, Keeping, stands_of, steps_of, TellsMore, SessionState, AllAnswered, AreAllTables, FailsAtChoices, GivesUpBy, HasNoted, IsNoteFault, RanOn, spent, HoldsCheckpoints, IsAtRequest, IsReadFault, keeping_of, AnswersFor, GoesWith, HasMissed, HasNotedMore, HasPassed, HasPassedDue, HasUnanswered, IsBetween, IsBrokenOff, IsEnding, IsFailing, IsGoing, IsLatestBefore, IsLatestDone, IsTold, IsWaitingFor, KeepsCheckpoints, Since, Story, entries, moment, unwatched, IsCounted}
+use Rattle.session_state.proofs.Terms.{List, None, Ok, [], ap, append-nil, arith, drop, inl, inr, length, length-append, map, refl, subst, sym, take, true, ℕ, ◌++◌, ◌+◌, ◌<◌, ◌∙◌, ◌∷◌, ◌≡◌, ◌≤◌, drop-append-le, take-append-le, ◌≢◌, Send, Entry, LinkEvent, grew_nothing, Grew, Phases, Tells, Told, Seen, Choice, items_of, Log, Ledger, Image, Cause, AsksFor, Path, Served, live_of, GoesOn, IsSilent, standing_of, Standing, RunsWriting, Writes, SessionBreak, SessionEnd, serving_account, EndsBy, HandedLast, StandsAt, Bounds, events_of, items_in, received, KeepsItems, KeepsReplies, Rules, gone_on, is_open, IsPassed, Stands, starting_path, Episode, Noted, OneEpisode, failed_with, steps_later, episode_of, HasHandled, Keeping, stands_of, steps_of, TellsMore, SessionState, AllAnswered, AreAllTables, FailsAtChoices, GivesUpBy, HasNoted, IsNoteFault, RanOn, spent, HoldsCheckpoints, IsAtRequest, IsReadFault, keeping_of, AnswersFor, EndsWithin, GoesWith, HasMissed, HasNotedMore, HasPassed, HasPassedDue, HasUnanswered, IsBetween, IsBrokenOff, IsEnding, IsFailing, IsGoing, IsLatestBefore, IsLatestDone, IsTold, IsWaitingFor, KeepsCheckpoints, Since, Story, entries, moment, unwatched, IsCounted}
 use Rattle.session_state.proofs.guest.NoteLemmas.{grew_same}
 use Rattle.session_state.proofs.standing.StoryLemmas.{on_story, told_on, account_of, journal_of_story, moves_none}
 use Rattle.session_state.proofs.recovering.TableLemmas.{told_unwatched, tables_here}
-use Rattle.session_state.proofs.standing.CheckpointLemmas.{HasSameSide, saved_on}
+use Rattle.session_state.proofs.standing.CheckpointLemmas.{HasSameSide, past_on, saved_on}
 use Rattle.session_state.proofs.standing.HeldLemmas.{held_of, requests_on, rings_held, unless_gave_up}
 use Rattle.recovery.proofs.Running.{may_send_by}
 
@@ -116,9 +116,9 @@ module _ {R : Type 0} where
 
   -- so it waits, where it knows all else of that story
   pub waits_as : {rules : Rules} {image : Image} {began to : Since} {seen : Seen} {old new : SessionState R} (w : IsWaitingFor rules image began seen old) → IsTold rules image to seen.told w.hearing.story → AnswersFor to w.hearing.story new
-      → GoesWith rules w.hearing.story new seen.phases → KeepsCheckpoints rules image w.hearing.story new → HasPassed rules w.hearing.story new.replies → IsWaitingFor rules image to seen new
-  waits_as w told answers goes saved passed =
-      record { hearing = record { story = w.hearing.story; told = told; answers = answers; goes = goes; saved = saved; passed = passed; asks = w.hearing.asks; latest = w.hearing.latest }; due = w.due }
+      → GoesWith rules w.hearing.story new seen.phases → KeepsCheckpoints rules image w.hearing.story new → EndsWithin rules.limits new.until w.hearing.story.survivor.now → HasPassed rules w.hearing.story new.replies → IsWaitingFor rules image to seen new
+  waits_as w told answers goes saved past passed =
+      record { hearing = record { story = w.hearing.story; told = told; answers = answers; goes = goes; saved = saved; past = past; passed = passed; asks = w.hearing.asks; latest = w.hearing.latest }; due = w.due }
 
   -- where the survivor goes on, used these answers of the allocator and sent nothing, the session goes on
   pub going_on : {rules : Rules} {image : Image} {began : Since} {seen : Seen} {old new : SessionState R} (g : IsGoing rules image began seen old) {to : Path} (more : List Choice) → HasPassedDue rules g.story → HasSameParts old new
@@ -134,6 +134,7 @@ module _ {R : Type 0} where
         saved =
             saved_on same.side (ap (λ (ledger : Ledger). ledger.first) same.replies) goes.served wrote (let still = goes.taken in omega (arith, still))
             (requests_on goes.served goes.taken g.saved.requests) g.saved;
+        past = past_on goes.served (let still = goes.taken in omega (arith, still)) same.side.until g.past;
         passed = has_passed g.passed same.replies none;
         latest = subst (IsLatestBefore rules (moment g.story)) (sym goes.taken) g.latest;
       }
@@ -169,6 +170,7 @@ module _ {R : Type 0} where
           answers = going.answers;
           goes = going.goes;
           saved = going.saved;
+          past = going.past;
           passed = going.passed;
           asks = subst (AsksFor rules.limits story.survivor.plan to) (sym runs.goes.taken) asks;
           latest = λ last is. let before = going.latest last is in omega (arith, before);

@@ -62,8 +62,7 @@ module _ {R : Type 0} where
             (subst (λ n. stands_of cpu.slots.saved ≡ handle (keeping_of old) n old.cpu.slots.written (stands_of old.cpu.slots.saved)) h.answers.taken handles)
             (subst (λ n. is_far old.options.every n (slice_get (stands_of cpu.slots.saved) 0) ≡ false) h.answers.taken near) h.saved.requests);
         in_force = h.saved.in_force;
-        past = h.saved.past;
-      }) h.passed
+      }) h.past h.passed
 
   -- a save changes nothing of how checkpoints are kept
   pub saves_keeping : (due : Bool) {every : ℕ} (old new : CpuState R) → SavesIf due old new → keeping_by every new.slots ≡ keeping_by every old.slots

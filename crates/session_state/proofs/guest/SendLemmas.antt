@@ -5,7 +5,7 @@ use Rattle.guest_cpu.specs.declared.event.Event.TheVariants as step
 use Rattle.session_state.proofs.Terms.{List, None, Ok, Option, Some, [], ap, arith, length, length-append, refl, subst, sym, true, ℕ, ◌++◌, ◌<◌, ◌∙◌, ◌∷◌, ◌≡◌, ◌≤◌, slice_get, Item, Send, LinkEvent, Phases, Seen, IsOpened, Ledger, with_send, Image, may_send, Path, takes_write, live_of, live_with_item, received_range, taken_standing, TakesOn, standing_of, Live, Standing, with_range, RunsWriting, Writes, Bounds, events_of, heeded, items_in, received, IsSendable, KeepsItems, KeepsReplies, Rules, opens, IsDueBy, IsMadeDue, IsPassed, Latest, Moment, journal, latest, place_at, received_before, sent_keeps, SessionState, IsHandled, GoesWith, HasPassed, IsBetween, IsGoing, IsLatestBefore, IsLatestDone, IsWaitingFor, Since, Story, entries, moment, sends, IsCounted}
 use Rattle.session_state.proofs.standing.HeldLemmas.{requests_on, requests_taken, waits_handled}
 use Rattle.session_state.proofs.standing.StoryLemmas.{on_story, moves_sent, moves_took, told_on}
-use Rattle.session_state.proofs.standing.CheckpointLemmas.{HasSameSide, saved_on}
+use Rattle.session_state.proofs.standing.CheckpointLemmas.{HasSameSide, past_on, saved_on}
 use Rattle.session_state.proofs.guest.GuestLemmas.{HasSameParts, none_more, none_used, answers_for, goes_with, has_passed, still_received}
 
 -- nothing is due by an event before which fewer items were received than the send was made with
@@ -70,6 +70,7 @@ module _ {R : Type 0} where
         goes = goes_with b.going.goes side.log side.events runs.goes comes.5 (sym runs.stands);
         saved = saved_on side (ap (λ (ledger : Ledger). ledger.first) replies) runs.goes.served writing.wrote (let still = runs.goes.taken in omega (arith, still))
             (requests_on runs.goes.served runs.goes.taken b.going.saved.requests) b.going.saved;
+        past = past_on runs.goes.served (let still = runs.goes.taken in omega (arith, still)) side.until b.going.past;
         passed = record {
           replies =
               subst (λ (ledger : Ledger). KeepsReplies rules.bounds (entries story) None to.state.sends ledger) (sym replies)
@@ -120,6 +121,7 @@ module _ {R : Type 0} where
         };
         saved = saved_on same.side (ap (λ (ledger : Ledger). ledger.first) same.replies) t.served wrote (let more = t.taken in omega (arith, more))
             (requests_taken t.served t.taken requests) w.hearing.saved;
+        past = past_on t.served (let more = t.taken in omega (arith, more)) same.side.until w.hearing.past;
         passed = has_passed w.hearing.passed same.replies t.silent.sends;
         latest = subst (IsLatestBefore rules (moment story)) (sym t.taken) w.hearing.latest;
       }

@@ -121,7 +121,7 @@ module _ {R : Type 0} {rules : Rules} {image : Image} {began : Since} {seen : Se
 
 module _ {R : Type 0} {rules : Rules} {image : Image} {began : Since} {seen : Seen} {cause : Cause} {old : SessionState R} (f : IsFailing rules image began seen cause old) where
   -- what is asked for before a recovery
-  pub to_recover : rules.limits.budget ≤ 2 ^ 24 → 1 ≤ rules.limits.keep → rules.bounds.max_items ≤ MAX_ITEMS → HasToRecover (record { point = old.taken; cause = cause; pc = old.cpu.slots.live.guest.machine.pc }) (failure_of f) (held_in old)
+  pub to_recover : rules.limits.budget ≤ 2 ^ 36 → 1 ≤ rules.limits.keep → rules.bounds.max_items ≤ MAX_ITEMS → HasToRecover (record { point = old.taken; cause = cause; pc = old.cpu.slots.live.guest.machine.pc }) (failure_of f) (held_in old)
   to_recover budget keep items =
       let g = f.going in
       record {
@@ -189,7 +189,7 @@ module _ {R : Type 0} {rules : Rules} {image : Image} {began : Since} {seen : Se
   adopted_later =
       let g = f.going in
       let taken : old.taken ≡ g.story.survivor.now.state.machine.taken = g.answers.taken in
-      let past : old.until < g.story.survivor.now.state.machine.taken + rules.limits.keep = elim g.saved.past [
+      let past : old.until < g.story.survivor.now.state.machine.taken + rules.limits.keep = elim g.past [
         | inl past ↦ past
         | inr there ↦ absurd (asks_or_fails there.1 f.fails)
       ] in
@@ -343,8 +343,8 @@ module _ {R : Type 0} {rules : Rules} {image : Image} {began : Since} {seen : Se
           early = behind_drop new.recorded adopted.index g.saved.paths (subst (λ n. AreBehind n g.saved.paths) (sym rest.recorded) g.saved.early);
           requests = inl adopted_requests;
           in_force = subst (λ (at : ℕ × ℕ). IsInForce (adopted_by rules recovery trial).plan at.0 adopted.env (at.1 + rules.limits.keep)) (λ i. (sym taken i, sym point i)) run.in_force;
-          past = inr (omega (arith, point, taken), subst (AsksFor rules.limits [] trial.path) (sym taken) at_point);
         };
+        past = inr (omega (arith, point, taken), subst (AsksFor rules.limits [] trial.path) (sym taken) at_point);
         passed = record {
           replies = subst (λ es. KeepsReplies rules.bounds es None trial.path.state.sends new.replies) (sym same) run.replies;
           no_trial = left.bytes.no_trial;

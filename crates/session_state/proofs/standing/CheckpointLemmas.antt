@@ -1,5 +1,5 @@
 -- The checkpoints of a session beside its story, as its survivor goes on.
-use Rattle.session_state.proofs.Terms.{List, [], ap, arith, inl, inr, subst, sym, ℕ, ◌+◌, ◌<◌, ◌∙◌, ◌≡◌, ◌≤◌, ◌⊎◌, Item, Env, Log, Image, AsksFor, Limits, Override, Path, Served, CpuState, live_of, with_live, Writes, items_in, Rules, gone_on, past_request, in_force_later, ring_beside, ring_on, keeping_by, stands_of, AreBehind, IsInForce, SessionState, HandlesRequests, keeping_of, KeepsCheckpoints, Story, entries}
+use Rattle.session_state.proofs.Terms.{List, [], ap, arith, inl, inr, subst, sym, ℕ, ◌+◌, ◌<◌, ◌∙◌, ◌≡◌, ◌≤◌, ◌⊎◌, Item, Env, Log, Image, AsksFor, Limits, Override, Path, Served, CpuState, live_of, with_live, Writes, items_in, Rules, gone_on, past_request, in_force_later, ring_beside, ring_on, keeping_by, stands_of, AreBehind, IsInForce, SessionState, HandlesRequests, keeping_of, EndsWithin, KeepsCheckpoints, Story, entries}
 use Rattle.session_state.proofs.standing.HeldLemmas.{stands_by}
 use Rattle.session_state.proofs.standing.StoryLemmas.{on_story}
 
@@ -9,11 +9,11 @@ in_force_by {plan = plan} {taken = taken} {env = env} {till = till} same still i
 
 -- a run past a failure goes on past it; one that stands at it, at its request, takes the item
 pub past_on : {limits : Limits} {items : List Item} {plan : List Override} {now to : Path} {until till : ℕ} → Served limits items plan now to → now.state.machine.taken ≤ to.state.machine.taken → till ≡ until
-    → (until < now.state.machine.taken + limits.keep) ⊎ ((until ≡ now.state.machine.taken + limits.keep) × AsksFor limits [] now now.state.machine.taken) → (till < to.state.machine.taken + limits.keep) ⊎ ((till ≡ to.state.machine.taken + limits.keep) × AsksFor limits [] to to.state.machine.taken)
+    → EndsWithin limits until now → EndsWithin limits till to
 past_on served more same (inl past) = inl (omega (arith, past, more, same))
 past_on {limits = limits} {items = items} {plan = plan} {now = now} {to = to} {until = until} {till = till} served more same (inr there) =
     elim (past_request limits items plan now to there.1 served) [
-      | inl stays ↦ subst (λ (p : Path). (till < p.state.machine.taken + limits.keep) ⊎ ((till ≡ p.state.machine.taken + limits.keep) × AsksFor limits [] p p.state.machine.taken)) stays (inr (same ∙ there.0, there.1))
+      | inl stays ↦ subst (λ (p : Path). EndsWithin limits till p) stays (inr (same ∙ there.0, there.1))
       | inr later ↦ inl (let is : until ≡ now.state.machine.taken + limits.keep = there.0 in omega (arith, is, later, same))
     ]
 
@@ -44,5 +44,4 @@ module _ {R : Type 0} where
             stands_by (λ k stands. HandlesRequests rules image k story.earlier (entries story) story.recoveries (gone_on story.survivor to) stands) old new (ap (λ (cpu : CpuState R). cpu.slots.saved) side.cpu)
             (side_keeping side) requests;
         in_force = in_force_by side.env side.until (in_force_later story.survivor.plan story.survivor.now.state.machine.taken to.state.machine.taken old.env old.until more k.in_force);
-        past = past_on served more side.until k.past;
       }

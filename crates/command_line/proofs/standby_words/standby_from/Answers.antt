@@ -1,8 +1,6 @@
-use Rattle.command_line.proofs.Terms.{ap, unwrap_or, ℕ, ◌∙◌, Text, number_of, record_row, standby_form, standby_value}
+use Rattle.command_line.proofs.Terms.{ap, ◌∙◌, record_row, standby_form, standby_value}
+use Rattle.command_line.proofs.Numbers.{number_read}
 use Rattle.command_line.proofs.standby_words.standby_from.Goals as goal
-
-abbrev number_read : Text → ℕ
-number_read text = unwrap_or (number_of text) 0
 
 pub returns : goal.returns
 unfolding standby_value standby_form record_row
@@ -11,5 +9,5 @@ returns c = λ p read i. record {
   recorded = c.value_in-2.ensures _ read.names.1.0 i;
   counts = c.value_in-3.ensures _ read.names.1.1.0 i;
   recording = c.value_in-4.ensures _ read.options.0 i;
-  budget = (c.number_or_zero.ensures ∙ ap number_read (c.value_in-5.ensures _ read.options.1.0)) i;
+  budget = (c.long_or_zero.ensures ∙ ap number_read (c.value_in-5.ensures _ read.options.1.0)) i;
 }

@@ -1,6 +1,11 @@
-use Rattle.guest_cpu.proofs.Terms.{arith, rules, live_blocks}
-use Rattle.guest_cpu.proofs.PlaceLemmas.{is_placed, is_ready, block_set, nothing_set}
+use Rattle.guest_cpu.proofs.Terms.{arith, rules, ◌+◌, live_blocks}
+use Rattle.guest_cpu.proofs.PlaceLemmas.{came_is, is_placed, is_ready, is_told, block_set, nothing_set}
 use Rattle.guest_cpu.proofs.placing.set_block.Goals as goal
+
+pub overflow_add-moved : goal.overflow_add-moved
+overflow_add-moved c =
+    let small = (is_told c.args.space.now c.args.choice c.args.kept c.requires).small (search rules) in
+    omega (arith, small)
 
 pub count_set-count-requires : goal.count_set-count-requires
 count_set-count-requires c = λ there.
@@ -8,7 +13,8 @@ count_set-count-requires c = λ there.
 
 pub returns-then-count-eq0 : goal.returns-then-count-eq0
 returns-then-count-eq0 c = λ m memory kept_is.
-    nothing_set m c.args.choice c.args.kept c.count_set-count.result c.args.space.now memory kept_is c.count_set-count.ensures c.if-count-eq0.true
+    nothing_set m c.args.choice (c.args.kept + c.args.choice.carried) c.count_set-count.result c.args.space.now memory (came_is c.args.space.now c.args.choice c.args.kept m.blocks c.requires kept_is)
+    c.count_set-count.ensures c.if-count-eq0.true
 
 pub copy-requires : goal.copy-requires
 copy-requires c =
@@ -35,5 +41,6 @@ zero-requires c =
 pub returns : goal.returns
 returns c = λ m memory kept_is.
     let ready = is_ready c.args.space.now c.args.choice c.source.result c.args.kept c.count_set-count.result c.sound.ensures c.requires c.source.ensures (search rules) c.count_set-count.ensures c.if-count-eq0.false in
-    block_set m c.args.choice c.source.result c.args.kept c.count_set-count.result c.args.space.now c.zero.new.self memory kept_is c.source.ensures c.count_set-count.ensures c.if-count-eq0.false
+    block_set m c.args.choice c.source.result (c.args.kept + c.args.choice.carried) c.count_set-count.result c.args.space.now c.zero.new.self memory
+    (came_is c.args.space.now c.args.choice c.args.kept m.blocks c.requires kept_is) c.source.ensures c.count_set-count.ensures c.if-count-eq0.false
     (ready.both c.copy.new.self c.zero.new.self c.copy.ensures c.zero.ensures)

@@ -3,8 +3,8 @@ use Rattle.guest_cpu.proofs.MeetLemmas.{still}
 use Rattle.guest_cpu.proofs.TurnLemmas.{turn_hangs, turned_in, sends_in, windows_there}
 use Rattle.guest_cpu.proofs.turning.advance.Goals as goal
 
-pub returns-then-core-from-clause-turned : goal.returns-then-core-from-clause-turned
-returns-then-core-from-clause-turned g c = still (turn_hangs (limits_of c.args.budget _) c.args.env (standing c.args.core.now (flat c.args.space.now)) (search rules))
+pub returns-then-core-budget-clause-turned : goal.returns-then-core-budget-clause-turned
+returns-then-core-budget-clause-turned g c = still (turn_hangs (limits_of c.args.budget _) c.args.env (standing c.args.core.now (flat c.args.space.now)) (search rules))
 
 pub returns-in-Ok-None-clause-turned : goal.returns-in-Ok-None-clause-turned
 returns-in-Ok-None-clause-turned g c =

@@ -1,11 +1,11 @@
-use Rattle.session_following.proofs.Terms.{List, length, ◌≡◌, KEEP, Override, env_at, plan_from, plan_of}
+use Rattle.session_following.proofs.Terms.{List, length, ◌≡◌, Override, env_at, plan_from, plan_of}
 use Rattle.session_following.proofs.planned.env_planned.Given as goal
 
 -- the plan of the episodes so far
 abbrev pub invariant-episodes : goal.invariant-episodes
 invariant-episodes l = record {
   plan : List Override;
-  whole : plan_from KEEP plan l.rest ≡ plan_of KEEP l.episodes;
+  whole : plan_from l.keep plan l.rest ≡ plan_of l.keep l.episodes;
   env : l.env ≡ env_at plan l.taken;
 }
 

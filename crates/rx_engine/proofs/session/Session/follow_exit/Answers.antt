@@ -1,4 +1,4 @@
-use Rattle.rx_engine.proofs.Terms.{[], ap, arith, length, sym, ◌+◌, ◌∙◌, false≢true, KEEP, items_in, heard_alone, AtExit, plan_of, SessionState, chosen_fits, before_moved, before_released}
+use Rattle.rx_engine.proofs.Terms.{[], ap, arith, length, sym, ◌+◌, ◌∙◌, false≢true, items_in, heard_alone, AtExit, plan_of, SessionState, chosen_fits, before_moved, before_released}
 use Rattle.rx_engine.proofs.EndingOn.{ended_exit, judged_ended, released_exit, short_exit, unlike_exit}
 use Rattle.rx_engine.proofs.session.Session.follow_exit.Goals as goal
 
@@ -14,7 +14,7 @@ judge_here-requires g c =
 pub returns-in-Reached-clause-turns : goal.returns-in-Reached-clause-turns
 returns-in-Reached-clause-turns g c taken image before seen noted_before noted h =
     released_exit g.R.AccessRule.rule h c.count_run.ensures (λ i. record (c.self.view_is i) { before = c.of-self-inside.result.before; hold = c.self.inside.options.hold })
-    (ap (λ (s : SessionState _). s.options.hold) c.self.view_is) (c.of-self-inside.ensures ∙ (λ i. before_released (before_moved (c.self.view_is i).before (c.self.view_is i).cpu.slots.live []) (plan_of KEEP c.args.handed.now.episodes.now)))
+    (ap (λ (s : SessionState _). s.options.hold) c.self.view_is) (c.of-self-inside.ensures ∙ (λ i. before_released (before_moved (c.self.view_is i).before (c.self.view_is i).cpu.slots.live []) (plan_of (c.self.view_is i).options.keep c.args.handed.now.episodes.now)))
     (c.in-Reached.ensures.judged taken.limits (items_in taken.bounds (heard_alone h.stood.events)) h.runs.ran.now (AtExit (ended_exit g.R.AccessRule.rule h c.count_run.ensures)) (judged_ended g.R.AccessRule.rule h c.count_run.ensures))
 
 pub returns-in-Short-clause-turns : goal.returns-in-Short-clause-turns

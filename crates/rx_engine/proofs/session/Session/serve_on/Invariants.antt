@@ -1,4 +1,4 @@
-use Rattle.rx_engine.proofs.Terms.{◌*◌, ◌+◌, ◌-◌, ◌≡◌, KEEP, HasTurned}
+use Rattle.rx_engine.proofs.Terms.{◌*◌, ◌+◌, ◌-◌, ◌≡◌, HasTurned}
 use Rattle.rx_engine.proofs.session.Session.serve_on.Given as goal
 
 abbrev pub invariant-turns : goal.invariant-turns
@@ -8,4 +8,4 @@ invariant-turns g l =
 
 -- each failure has more items taken than the one before it; and between two of them there are so many instructions at most
 abbrev pub decreases-turns : goal.decreases-turns
-decreases-turns g l = (l.fn.self.options.max_items + KEEP + 1 - l.self.until) * 18446744073709551617 + (18446744073709551616 - l.self.cpu.slots.live.steps)
+decreases-turns g l = (l.fn.self.options.max_items + l.fn.self.options.keep + 1 - l.self.until) * 18446744073709551617 + (18446744073709551616 - l.self.cpu.slots.live.steps)
