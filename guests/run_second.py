@@ -5,7 +5,8 @@ Standard input, standard output, the record, the report, the diagnosis and the s
 that isn't looked at here. Options that aren't given have the values that rx gives them. All of the input is read at once.
 
 usage: run_second.py run PROGRAM --record RECORD --report REPORT [--form text|json] [--frame line|length|whole] [--window MIB] [--hold N]
-                         [--ring N] [--every N] [--frames N] [--budget N] [--keep N] [--guard off|extent|block]
+                         [--ring N] [--every N] [--frames N] [--budget N] [--keep N] [--env plain|pad|zero|isolate|delay|all]
+                         [--guard off|extent|block]
        run_second.py diagnose PROGRAM --record RECORD --report REPORT --diagnosis DIAGNOSIS, with the options of run
 """
 
@@ -20,6 +21,7 @@ sys.path.insert(0, os.path.join(HERE, "..", "compare"))
 # pylint: disable=wrong-import-position
 from second.command import run  # noqa: E402
 from second.guard import MODES  # noqa: E402
+from second.heap import ENVIRONMENTS, PLAIN  # noqa: E402
 from second.items import FRAMINGS  # noqa: E402
 from second.machine import Image, MIB  # noqa: E402
 from second.outside import MemoryFiles, MemorySink, MemorySource  # noqa: E402
@@ -50,6 +52,7 @@ def words_of(words):
     parser.add_argument("--report", required=True)
     parser.add_argument("--diagnosis")
     parser.add_argument("--guard", choices=MODES, default=defaults.guard)
+    parser.add_argument("--env", choices=[PLAIN, *ENVIRONMENTS], default=defaults.env)
     parser.add_argument("--form", choices=[TEXT, JSON], default=TEXT)
     parser.add_argument("--frame", choices=sorted(FRAMINGS), default=defaults.frame)
     parser.add_argument("--window", type=int, default=defaults.window // MIB)
@@ -65,7 +68,7 @@ def session(asked, content):
     """A session on these bytes: what came of it, its output, and its files."""
     with open(asked.program, "rb") as file:
         image = image_of(file.read(), asked.window * MIB)
-    options = Options(image.window, asked.frame, asked.hold, asked.ring, asked.every, asked.frames, asked.budget, asked.keep, asked.guard)
+    options = Options(image.window, asked.frame, asked.hold, asked.ring, asked.every, asked.frames, asked.budget, asked.keep, asked.env, asked.guard)
     sink, files = MemorySink(), MemoryFiles({"p": b""})
     return run(image, MemorySource(content), sink, options, files, asked.form, asked.diagnosis is not None), sink, files
 

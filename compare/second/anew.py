@@ -19,30 +19,31 @@ def must(holds, what):
         raise Broken(what)
 
 
-def environment_at(adoptions, count):
-    """The environment at a count of items taken, after adoptions of (checkpoint, environment, the last count of items that it is in force at)."""
-    found = PLAIN
+def environment_at(base, adoptions, count):
+    """The environment at a count of items taken, after adoptions of (checkpoint, environment, the last count of items that it is in force at),
+    over a base."""
+    found = base
     for checkpoint, environment, last in adoptions:
         if count > checkpoint or checkpoint == 0:
-            found = environment if count <= last else PLAIN
+            found = environment if count <= last else base
     return found
 
 
-def take(machine, items, adoptions=()):
+def take(machine, items, base=PLAIN, adoptions=()):
     """Takes the next item, at a request."""
     must(machine.taken < len(items), "a run asks for an item that wasn't received")
     machine.take(items[machine.taken])
-    machine.environment = environment_at(adoptions, machine.taken)
+    machine.environment = environment_at(base, adoptions, machine.taken)
 
 
-def go_on(machine, items, steps, adoptions=()):
+def go_on(machine, items, steps, base=PLAIN, adoptions=()):
     """Runs a machine for so many instructions over the items."""
     try:
         while machine.steps < steps:
             must(machine.exited is None, "a run goes on after its exit")
             event = machine.step()
             if event and event[0] == "asks":
-                take(machine, items, adoptions)
+                take(machine, items, base, adoptions)
     except (Failure, Illegal) as failure:
         raise Broken("a run from the start fails: %s" % failure) from None
 
@@ -50,7 +51,7 @@ def go_on(machine, items, steps, adoptions=()):
 def served_machine(session, adoptions):
     machine = Machine(session.image, session.options.budget, Heap(session.image.heap_start, session.image.heap_end),
                       guard=session.options.guard)
-    machine.environment = environment_at(adoptions, 0)
+    machine.environment = environment_at(session.options.env, adoptions, 0)
     return machine
 
 
@@ -77,7 +78,7 @@ def result_anew(session, checkpoint, environment, point):
                 return machine, BEHIND
             if is_end:
                 return machine, SURVIVED
-            take(machine, session.items.received, adoptions)
+            take(machine, session.items.received, session.options.env, adoptions)
 
 
 def covers(passed, machine, stamp):
@@ -98,7 +99,7 @@ def ring_anew(session):
         if event[0] == "asks":
             if machine.taken in names and machine.taken:
                 written[machine.taken], machine.memory.written = machine.memory.written, set()
-            take(machine, session.items.received, session.adoptions)
+            take(machine, session.items.received, session.options.env, session.adoptions)
     while machine.run_to_event()[0] != "asks":
         pass
     names.append(machine.taken)

@@ -24,7 +24,7 @@ from second.said import answer_of, is_told, readings_of
 from second.self_check import Counts, HeapWriter, KINDS, lacking
 from second.session import Options, Session
 
-OPTIONS = ("frame", "budget", "keep", "window", "hold", "ring", "every", "frames", "guard")
+OPTIONS = ("frame", "budget", "keep", "env", "window", "hold", "ring", "every", "frames", "guard")
 NEVER = 1 << 40  # more items than a session has
 FILES = {"r": "record", "t": "report", "d": "diagnosis"}
 

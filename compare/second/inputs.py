@@ -5,6 +5,7 @@ import struct
 
 from second import trunk
 from second.guard import BLOCK, EXTENT, OFF
+from second.heap import ENVIRONMENTS, PLAIN
 from second.items import FRAMINGS, LENGTH, LINE
 from second.machine import MIB
 from second.session import Options
@@ -154,6 +155,7 @@ def some_options(rng):
         frames=rng.choice([2, 3, 3, 4, 16]),
         budget=rng.choice([400, 2000, 5000, 5000, 5000, 20000]),
         keep=rng.choice([1, 2, 4, 4, 4, 8, 100]),
+        env=rng.choice([PLAIN, PLAIN, PLAIN, *ENVIRONMENTS]),
         guard=rng.choice([OFF, OFF, OFF, EXTENT, EXTENT, BLOCK]))
 
 

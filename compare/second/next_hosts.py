@@ -84,12 +84,12 @@ class Drawn:
         return b"".join(trunk.frame_of(event) for event in events) + b"\x09" * self.breaks
 
     def next_options(self, of_record):
-        """Those of a next host: what its files don't fix is free, but that it keeps environments for as many items. The budget may be larger than that of the
-        host before, but where that came to its end: a run that hung there would go on, past the record's last line."""
+        """Those of a next host: what its files don't fix is free, but that it keeps environments for as many items, over the same one. The budget may be larger
+        than that of the host before, but where that came to its end: a run that hung there would go on, past the record's last line."""
         if read_unfinished(of_record).finish is None:
             self.budget *= self.rng.choice([1, 1, 2])
         return dataclasses.replace(self.some_options(), window=self.options.window, frame=self.options.frame, guard=self.options.guard, budget=self.budget,
-                                   keep=self.options.keep)
+                                   keep=self.options.keep, env=self.options.env)
 
     def first(self):
         return Host(self, dataclasses.replace(self.options), None)
@@ -112,10 +112,10 @@ class Host:
         return other
 
     def words(self):
-        names = ["hold", "ring", "every", "frames", "budget", "keep"] + ["guard"] * self.drawn.guards
+        names = ["hold", "ring", "every", "frames", "budget", "keep", "env"] + ["guard"] * self.drawn.guards
         if self.texts is None:
             names += ["frame", "window"]
-        given = {name: getattr(self.options, name) // (MIB if name == "window" else 1) if name not in ("frame", "guard") else getattr(self.options, name)
+        given = {name: getattr(self.options, name) // (MIB if name == "window" else 1) if name not in ("frame", "guard", "env") else getattr(self.options, name)
                  for name in names}
         command = ["run", "p"] if self.texts is None else ["resume", "p", "r", "t", "c"]
         return command + ["--record", "n", "--report", "m", "--form", self.form, "--tell", "off"] + [

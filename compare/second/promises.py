@@ -152,9 +152,9 @@ def check_served_run(session):
     machine = served_machine(session, session.adoptions)
     for checkpoint in session.ring:
         kept = checkpoint.machine
-        go_on(machine, session.items.received, kept.steps, session.adoptions)
+        go_on(machine, session.items.received, kept.steps, session.options.env, session.adoptions)
         must(machine.state() == kept.state() and machine.heap.blocks == kept.heap.blocks, "a checkpoint isn't the survivor's state")
-    go_on(machine, session.items.received, session.survivor.steps, session.adoptions)
+    go_on(machine, session.items.received, session.survivor.steps, session.options.env, session.adoptions)
     must(machine.state() == session.survivor.state(), "the served run's state differs")
     must(machine.heap.blocks == session.survivor.heap.blocks, "the served run's blocks differ")
 

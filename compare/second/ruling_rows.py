@@ -8,6 +8,7 @@ from second import guests
 from second.assembler import assemble
 from second.checks import OPENS_0, Ran, lines_in, out, piece, row, say
 from second.command import image_maker, replay
+from second.heap import PAD, ZERO
 from second.items import Items
 from second.machine import Image
 from second.outside import MemoryLink, MemorySink, MemorySource
@@ -102,10 +103,15 @@ def _():
 def _():
     text = RECEIVE + "li t0, 1\nbne s4, t0, receive" + DIRTY + "mv a0, s0\nli a1, %d\nli a7, 8\necall\nlbu t1, %d(a0)\n"
     text += "li t0, %d\nbeq t0, t1, receive\nebreak\n"
-    for size, offset, byte, environment in ((48, 16, 0, "zero"), (48, 44, 0, "zero"), (14, 13, 6, None), (14, 14, 9, None), (17, 16, 0, "zero")):
+    # in a trial padding helps already: what stands in it is 0, and comes along
+    for size, offset, byte, environment in ((48, 16, 0, PAD), (48, 44, 0, PAD), (14, 13, 6, None), (14, 14, 9, None), (17, 16, 0, PAD)):
         ran = Ran(image_of(text % (size, offset, byte)), OPENS_0)
         ran.says(("Finished",), 0)
         say([episode.tries[-1].environment for episode in ran.episodes], [environment] * bool(environment))
+        if environment:
+            ran = Ran(image_of(text % (size, offset, byte)), OPENS_0, env=ZERO)
+            ran.says(("Finished",), 0)
+            say(ran.episodes, [])
 
 
 @row("the old block where there is no room for a new one")
@@ -162,6 +168,20 @@ def _():
         ran = Ran("overflow", lines_in(*[line] * 12), **options)
         ran.says(("Finished",), 0, out(*[(0, line)] * 12), 13, 3460)
         say([(episode.point, [tuple(tried) for tried in episode.tries]) for episode in ran.episodes], [(point, [(point - 1, "pad", "survived")]) for point in points])
+
+
+@row("an environment is in force from the first instruction on")
+def _():
+    line = b"*" * 39 + b"\n"
+    ran = Ran("overflow", lines_in(*[line] * 12), env=PAD)
+    ran.says(("Finished",), 0, out(*[(0, line)] * 12), 13, 3460)
+    say(ran.episodes, [])
+    ran = Ran("unset", lines_in(*[b"a\n"] * 3), env=PAD)
+    ran.tried(2, "AssertFailed 2", (1, "pad", "AssertFailed 2"), (1, "zero", "survived"))
+    say([ran.done.session.plan.at(count) for count in range(8)], ["pad"] * 2 + ["zero"] * 4 + ["pad"] * 2)
+    ran = Ran("tell_over", lines_in(b"a\n"), env=PAD)
+    ran.says(("Finished",), 0, out((0, b"00013100\n")), steps=256)
+    say(ran.episodes, [])
 
 
 @row("a failure before the first item")

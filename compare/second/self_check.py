@@ -9,7 +9,7 @@ from second import inputs, programs, trunk, wild
 from second.anew import Broken, must
 from second.command import run_session
 from second.guard import MODES
-from second.heap import ENVIRONMENTS
+from second.heap import ENVIRONMENTS, PLAIN
 from second.machine import Image
 from second.outside import MemoryFiles, MemoryLink, MemoryListener, MemorySink, MemorySource, PortLink, TrunkLink
 from second.promises import WatchedSession, check_session
@@ -133,6 +133,7 @@ KINDS = {
     "results of tries": [SURVIVED, CONTRADICTS, BEHIND],
     "choices": ["%s, %s" % pair for pair in itertools.product(["malloc", "calloc", "realloc of null", "realloc"], ["a block", "zeros", "null"])
                 if pair != ("calloc", "a block")] + ["realloc, carried"],
+    "in force from the start": [PLAIN, *ENVIRONMENTS],
     "adopted": ENVIRONMENTS,
     "adopted at": ["the newest checkpoint", "an older one", "the start"],
 }
@@ -157,6 +158,7 @@ class Counts:
         if not session:
             return
         of["guards"][session.options.guard] += 1
+        of["in force from the start"][session.options.env] += 1
         of["sessions"].update(name for name, holds in (
             ("with an episode", session.notes.episodes), ("with several", len(session.notes.episodes) > 1),
             ("that are diagnosed", session.tables is not None),

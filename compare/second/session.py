@@ -37,6 +37,7 @@ class Options:
     frames: int = 4
     budget: int = 1_000_000
     keep: int = 4  # how many items after the point an environment stays in force
+    env: str = PLAIN  # the one that is in force from the first instruction on, and where no other is
     guard: str = OFF
     max_items: int = MOST_ITEMS
     max_events: int = MOST_EVENTS
@@ -67,17 +68,17 @@ class Notes:
 class Plan:
     """An environment for each count of items taken."""
 
-    def __init__(self, parts=((0, PLAIN),)):
-        self.parts = list(parts)  # (first count, environment)
+    def __init__(self, base=PLAIN, parts=None):
+        self.base, self.parts = base, parts or [(0, base)]  # (first count, environment)
 
     def at(self, count):
         return self.parts[bisect.bisect_right(self.parts, (count, "~")) - 1][1]
 
     def adopt(self, checkpoint, environment, point, keep):
-        """The plan after an adoption, which stays for so many items. At its request a checkpoint keeps its environment; the start doesn't."""
+        """The plan after an adoption, which stays for so many items; then the base is in force. At its request a checkpoint keeps its environment; the start doesn't."""
         first = checkpoint + 1 if checkpoint else 0
         kept = [part for part in self.parts if part[0] < first]
-        return Plan(kept + [(first, environment), (point + keep, PLAIN)])
+        return Plan(self.base, kept + [(first, environment), (point + keep, self.base)])
 
 
 class Passed:
@@ -116,7 +117,8 @@ class Session:
         self.image, self.options, self.link, self.notes = image, options, link, notes
         self.items = Items(options.frame, options.max_items, options.max_events)
         self.survivor = Machine(image, options.budget, guard=options.guard)
-        self.plan, self.passed = Plan(), Passed()
+        self.plan, self.passed = Plan(options.env), Passed()
+        self.survivor.environment = self.plan.at(0)
         self.ring = [Checkpoint(self.survivor.copy(), 0)]
         self.recorded, self.next_send = 0, 0
         self.shut = set()  # connections that are closed or gone

@@ -17,9 +17,9 @@ MOST_STEPS_FOLLOWED = 1 << 62
 MOST_PIECE = 65535
 
 
-def plan_of(episodes, keep):
-    """The plan behind the adoptions of episodes, each of which stays for so many items: of each the last trial was adopted."""
-    plan = Plan()
+def plan_of(episodes, keep, base):
+    """The plan behind the adoptions of episodes, each of which stays for so many items, over a base: of each the last trial was adopted."""
+    plan = Plan(base)
     for episode in episodes:
         last = episode.tries[-1]
         plan = plan.adopt(last.checkpoint, last.environment, episode.point, keep)
@@ -42,7 +42,7 @@ class Followed(Session):
     def __init__(self, image, options, link, notes, recorded, episodes, counts):
         super().__init__(image, options, link, notes)
         self.recorded_before, self.episodes_before, self.counts = recorded, episodes, counts
-        self.plan = plan_of(episodes, options.keep)
+        self.plan = plan_of(episodes, options.keep, options.env)
         self.survivor.environment = self.plan.at(0)
         self.is_released, self.shut_before = False, set()  # released or not, and the connections that were closed by then
 

@@ -123,10 +123,11 @@ class Hosts:
         return b"".join(trunk.frame_of(event) for event in events)
 
     def next_options(self):
-        """Options of the next host: what the report doesn't fix is free, but that it keeps environments for as many items; and the budget may be larger."""
+        """Options of the next host: what the report doesn't fix is free, but that it keeps environments for as many items, over the same one; and the budget
+        may be larger."""
         other = inputs.some_options(self.rng)
         return dataclasses.replace(other, window=self.options.window, frame=self.options.frame, guard=self.options.guard,
-                                   budget=self.options.budget * self.rng.choice([1, 1, 2]), keep=self.options.keep)
+                                   budget=self.options.budget * self.rng.choice([1, 1, 2]), keep=self.options.keep, env=self.options.env)
 
     def run(self):
         """Lets hosts serve until one isn't killed; what it came to."""

@@ -183,8 +183,8 @@ def _():
 
 @row("the plan that episodes tell")
 def _():
-    def environments(last, *adoptions, keep=4):
-        plan = plan_of([Episode(point, "Hang", 0, [Try(checkpoint, environment, SURVIVED)]) for checkpoint, environment, point in adoptions], keep)
+    def environments(last, *adoptions, keep=4, base="plain"):
+        plan = plan_of([Episode(point, "Hang", 0, [Try(checkpoint, environment, SURVIVED)]) for checkpoint, environment, point in adoptions], keep, base)
         return [plan.at(count) for count in range(last + 1)]
 
     say(environments(10, (1, "pad", 2), (3, "delay", 5)), ["plain"] * 2 + ["pad"] * 2 + ["delay"] * 5 + ["plain"] * 2)
@@ -194,6 +194,8 @@ def _():
     say(environments(6, (1, "pad", 2), (2, "delay", 3), keep=1), ["plain"] * 2 + ["pad", "delay"] + ["plain"] * 3)
     say(environments(9, (1, "pad", 2), (3, "delay", 5), keep=2), ["plain"] * 2 + ["pad"] * 2 + ["delay"] * 3 + ["plain"] * 3)
     say(environments(14, (1, "pad", 2), (3, "delay", 5), keep=8), ["plain"] * 2 + ["pad"] * 2 + ["delay"] * 9 + ["plain"] * 2)
+    say(environments(10, (1, "pad", 2), (3, "delay", 5), base="zero"), ["zero"] * 2 + ["pad"] * 2 + ["delay"] * 5 + ["zero"] * 2)
+    say(environments(2, base="all"), ["all"] * 3)
 
 
 PADDED = b"m 00012100 - 00000010\nm 00012310 - 00000010\n"
@@ -216,6 +218,17 @@ def _():
             say(taken.files.files["r"], HEAD + lines + b"end 368 3\n", "record")
         for keep in others:
             part_where(lines, keep)
+
+
+@row("an environment is in force from the start as by the host before")
+def _():
+    for lines in (b"", PADDED, PADDED * 2):
+        taken = Taken("overflow", lines_in(OVERRUN, b"hi\n"), HEAD + lines, REPORT, b"0 40\n", env="pad")
+        taken.says(("Finished",), 0, out((0, b"hi\n")), 368, 3)
+        say(taken.files.files["r"], HEAD + PADDED * 2 + b"end 368 3\n", "record")
+    for other in ("plain", "zero", "isolate", "delay", "all"):
+        taken = Taken("overflow", lines_in(OVERRUN, b"hi\n"), HEAD + PADDED, REPORT, b"0 40\n", env=other)
+        say((taken.done.answer[0], taken.sink.content), ("Mismatch", b""), other)
 
 
 def overran(number, point):

@@ -1,5 +1,7 @@
 -- The command that words ask for.
 use Rattle.std.specs.Prelude.{◌≡◌, true, ℕ, ◌&&◌, Bool, not, List, [], ◌∷◌, Option, Some, None, if◌then◌else◌, length, slice_get, unwrap_or}
+use Rattle.alloc_env.specs.declared.env.Env.{Env}
+use Rattle.alloc_env.specs.declared.env.Env.TheVariants.{Plain, Pad, Zero, Isolate, Delay, All}
 use Rattle.msg_frame.specs.declared.framing.Framing.TheVariants.{Line, Length, Whole}
 use Rattle.command_line.specs.Terms.{find, bytes_eq, Framing}
 use Rattle.command_line.specs.Texts.{Text, number_of}
@@ -33,7 +35,7 @@ use Rattle.command_line.specs.declared.drill_words.DrillCommand.{DrillCommand}
 use Rattle.command_line.specs.declared.drill_words.TheConstants as drill_table
 use Rattle.command_line.specs.declared.frame_words.TheConstants as frame_table
 use Rattle.command_line.specs.declared.run_words.TheConstants as table
-use Rattle.command_line.specs.Table.{CommandForm, Row, static_row, static_form, record_row, report_row, form_row, frame_row, guard_row, diagnosis_row, port_row, conns_row, seed_row, count_row}
+use Rattle.command_line.specs.Table.{CommandForm, Row, static_row, static_form, record_row, report_row, env_row, form_row, frame_row, guard_row, diagnosis_row, port_row, conns_row, seed_row, count_row}
 
 -- what a session of a program is asked for
 pub record RunValue : Type 0 where
@@ -49,6 +51,7 @@ pub record RunValue : Type 0 where
   pub frames : ℕ
   pub budget : ℕ
   pub keep : ℕ
+  pub env : Env
   pub guard : Guard
 
 -- what an assembly is asked for
@@ -91,6 +94,7 @@ pub record ResumeValue : Type 0 where
   pub frames : ℕ
   pub budget : ℕ
   pub keep : ℕ
+  pub env : Env
   pub guard : Guard
 
 -- what a session for the clients of a port is asked for
@@ -175,6 +179,15 @@ form_of text = if bytes_eq text table.JSON.now then form.Json else form.Text
 abbrev pub frame_of : Text → Framing
 frame_of text = if bytes_eq text table.LENGTH.now then Length else (if bytes_eq text table.WHOLE.now then Whole else Line)
 
+abbrev pub env_of : Text → Env
+env_of text =
+    if bytes_eq text table.PAD.now then Pad else
+    if bytes_eq text table.ZERO.now then Zero else
+    if bytes_eq text table.ISOLATE.now then Isolate else
+    if bytes_eq text table.DELAY.now then Delay else
+    if bytes_eq text table.ALL.now then All else
+    Plain
+
 abbrev pub guard_of : Text → Guard
 guard_of text = if bytes_eq text table.EXTENT.now then guarded.Extent else (if bytes_eq text table.BLOCK.now then guarded.Block else guarded.Off)
 
@@ -193,6 +206,7 @@ session_value hold p = record {
   frames = number_at (static_row table.FRAMES) p.options;
   budget = number_at (static_row table.BUDGET) p.options;
   keep = number_at (static_row table.KEEP) p.options;
+  env = env_of (value_of env_row p.options);
   guard = guard_of (value_of guard_row p.options);
 }
 
@@ -292,6 +306,7 @@ resume_value p = record {
   frames = number_at (static_row table.FRAMES) p.options;
   budget = number_at (static_row table.BUDGET) p.options;
   keep = number_at (static_row table.KEEP) p.options;
+  env = env_of (value_of env_row p.options);
   guard = guard_of (value_of guard_row p.options);
 }
 
@@ -310,6 +325,7 @@ run_in value window framing = record {
   frames = value.frames;
   budget = value.budget;
   keep = value.keep;
+  env = value.env;
   guard = value.guard;
 }
 
@@ -487,6 +503,7 @@ run_shown c = record {
   frames = c.frames;
   budget = c.budget;
   keep = c.keep;
+  env = c.env;
   guard = c.guard;
 }
 
@@ -517,6 +534,7 @@ resume_shown c = record {
   frames = c.frames;
   budget = c.budget;
   keep = c.keep;
+  env = c.env;
   guard = c.guard;
 }
 

@@ -84,6 +84,9 @@ form_row = static_row table.FORM
 unfoldable pub frame_row : Row
 frame_row = static_row table.FRAME
 
+unfoldable pub env_row : Row
+env_row = static_row table.ENV
+
 unfoldable pub guard_row : Row
 guard_row = static_row table.GUARD
 

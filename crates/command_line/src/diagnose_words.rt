@@ -13,8 +13,8 @@ use crate::accepted::{have_form, name_at, value};
 use crate::matching::{out_of_memory, parser, value_in};
 use crate::options::{CommandName, CommandOf, CommandRow, OptionRow, RowOf, TakesOf};
 use crate::run_words::{
-    BUDGET, DURABLE, EVERY, FORM, FRAME, FRAMES, GUARD, HOLD, KEEP, PROGRAM, RECORD, REPORT, RING,
-    RunCommand, TELL, WINDOW, have_names, number_or_zero, recording, report, session_from,
+    BUDGET, DURABLE, ENV, EVERY, FORM, FRAME, FRAMES, GUARD, HOLD, KEEP, PROGRAM, RECORD, REPORT,
+    RING, RunCommand, TELL, WINDOW, have_names, number_or_zero, recording, report, session_from,
 };
 use clap::{ArgMatches, Error};
 use std::alloc::{AllocError, Global};
@@ -28,9 +28,9 @@ pub const DIAGNOSIS: OptionRow = RowOf {
 };
 
 /// The options of `diagnose`.
-pub const DIAGNOSE_OPTIONS: [OptionRow; 15] = [
-    RECORD, REPORT, DIAGNOSIS, FORM, FRAME, WINDOW, HOLD, RING, EVERY, FRAMES, BUDGET, KEEP, GUARD,
-    TELL, DURABLE,
+pub const DIAGNOSE_OPTIONS: [OptionRow; 16] = [
+    RECORD, REPORT, DIAGNOSIS, FORM, FRAME, WINDOW, HOLD, RING, EVERY, FRAMES, BUDGET, KEEP, ENV,
+    GUARD, TELL, DURABLE,
 ];
 
 /// Runs a program, and tries everything at each failure.

@@ -13,11 +13,12 @@ use crate::matching::{out_of_memory, parser, value_in};
 use crate::options::{CommandName, CommandOf, CommandRow, OptionRow};
 use crate::replay_words::RECORDED;
 use crate::run_words::{
-    BUDGET, DURABLE, EVERY, FORM, FRAMES, Form, GUARD, Guard, HOLD, KEEP, PROGRAM, RECORD, REPORT,
-    RING, RunCommand, TELL, differ, form_of, guard_of, long_or_zero, number_or_zero, recording,
-    report,
+    BUDGET, DURABLE, ENV, EVERY, FORM, FRAMES, Form, GUARD, Guard, HOLD, KEEP, PROGRAM, RECORD,
+    REPORT, RING, RunCommand, TELL, differ, env_of, form_of, guard_of, long_or_zero,
+    number_or_zero, recording, report,
 };
 use crate::standby_words::COUNTS;
+use alloc_env::Env;
 use clap::{ArgMatches, Error};
 use msg_frame::Framing;
 use std::alloc::{AllocError, Global};
@@ -26,8 +27,8 @@ use std::alloc::{AllocError, Global};
 pub const REPORTED: &str = "REPORT";
 
 /// The options of `resume`.
-pub const RESUME_OPTIONS: [OptionRow; 12] = [
-    RECORD, REPORT, FORM, HOLD, RING, EVERY, FRAMES, BUDGET, KEEP, GUARD, TELL, DURABLE,
+pub const RESUME_OPTIONS: [OptionRow; 13] = [
+    RECORD, REPORT, FORM, HOLD, RING, EVERY, FRAMES, BUDGET, KEEP, ENV, GUARD, TELL, DURABLE,
 ];
 
 /// Goes on for a host that was killed.
@@ -60,6 +61,7 @@ pub struct ResumeCommand<'a> {
     pub frames: u32,
     pub budget: u64,
     pub keep: u32,
+    pub env: Env,
     pub guard: Guard,
 }
 
@@ -80,6 +82,7 @@ pub fn run_in<'a>(resume: &ResumeCommand<'a>, window: u32, frame: Framing) -> Ru
         frames: resume.frames,
         budget: resume.budget,
         keep: resume.keep,
+        env: resume.env,
         guard: resume.guard,
     }
 }
@@ -192,6 +195,7 @@ fn resume_from<'a>(matches: &ArgMatches<'a>) -> ResumeCommand<'a>
         frames: number_or_zero(value_in(matches, FRAMES.name)),
         budget: long_or_zero(value_in(matches, BUDGET.name)),
         keep: number_or_zero(value_in(matches, KEEP.name)),
+        env: env_of(value_in(matches, ENV.name)),
         guard: guard_of(value_in(matches, GUARD.name)),
     }
 }

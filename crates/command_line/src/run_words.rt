@@ -7,7 +7,7 @@ ghost use Rattle.command_line.specs.Texts.{number_of};
 ghost use Rattle.command_line.specs.Options.{value_of};
 ghost use Rattle.command_line.specs.Parts.{Parts, parts_of};
 ghost use Rattle.command_line.specs.Table.{record_row, report_row};
-ghost use Rattle.command_line.specs.Commands.{differ, fits, form_of, frame_of, guard_of, have_names, is_run, run_form, run_shown, run_value, session_value};
+ghost use Rattle.command_line.specs.Commands.{differ, env_of, fits, form_of, frame_of, guard_of, have_names, is_run, run_form, run_shown, run_value, session_value};
 ghost use Rattle.command_line.specs.Ranges.{AreInRange};
 ghost use Rattle.command_line.specs.Reading.{HasRead, HasReadSession};
 
@@ -15,6 +15,7 @@ use crate::accepted::{have_form, name_at, value};
 use crate::matching::{out_of_memory, parser, value_in};
 use crate::options::{CommandName, CommandOf, CommandRow, OptionRow, RowOf, TakesOf};
 use crate::texts::number;
+use alloc_env::Env;
 use clap::{ArgMatches, Error};
 use msg_frame::Framing;
 use std::alloc::{AllocError, Global};
@@ -42,6 +43,18 @@ pub const AUTO: &str = "auto";
 pub const EXTENT: &str = "extent";
 /// An access of the heap lies in the reserved bytes of one live block.
 pub const BLOCK: &str = "block";
+/// Blocks are placed as outside of a trial.
+pub const PLAIN: &str = "plain";
+/// Blocks are padded.
+pub const PAD: &str = "pad";
+/// Blocks are filled with zeros.
+pub const ZERO: &str = "zero";
+/// Blocks are placed behind the middle of the heap.
+pub const ISOLATE: &str = "isolate";
+/// Freed blocks are kept from use.
+pub const DELAY: &str = "delay";
+/// All of these at once.
+pub const ALL: &str = "all";
 
 /// Where the record goes.
 pub const RECORD: OptionRow = RowOf {
@@ -120,6 +133,13 @@ pub const KEEP: OptionRow = RowOf {
     default: Some("4"),
     says: "For how many items more an environment that survived stays in force.",
 };
+/// The environment in which the allocator answers from the start, and where no trial's is in force.
+pub const ENV: OptionRow = RowOf {
+    name: "env",
+    takes: TakesOf::OneOf(&[PLAIN, PAD, ZERO, ISOLATE, DELAY, ALL]),
+    default: Some(PLAIN),
+    says: "The environment of malloc and free from the start, and where no trial's is in force.",
+};
 /// What else is refused of an access, by the blocks of the heap.
 pub const GUARD: OptionRow = RowOf {
     name: "guard",
@@ -145,8 +165,8 @@ pub const DURABLE: OptionRow = RowOf {
 };
 
 /// The options of `run`.
-pub const RUN_OPTIONS: [OptionRow; 14] = [
-    RECORD, REPORT, FORM, FRAME, WINDOW, HOLD, RING, EVERY, FRAMES, BUDGET, KEEP, GUARD, TELL,
+pub const RUN_OPTIONS: [OptionRow; 15] = [
+    RECORD, REPORT, FORM, FRAME, WINDOW, HOLD, RING, EVERY, FRAMES, BUDGET, KEEP, ENV, GUARD, TELL,
     DURABLE,
 ];
 
@@ -194,6 +214,7 @@ pub struct RunCommand<'a> {
     pub frames: u32,
     pub budget: u64,
     pub keep: u32,
+    pub env: Env,
     pub guard: Guard,
 }
 
@@ -215,6 +236,28 @@ fn frame_of(text: &str) -> Framing
         return Framing::Whole;
     }
     Framing::Line
+}
+
+// The environment by its text.
+pub(crate) fn env_of(text: &str) -> Env
+    ensures { result ≡ env_of text.now }
+{
+    if text == PAD {
+        return Env::Pad;
+    }
+    if text == ZERO {
+        return Env::Zero;
+    }
+    if text == ISOLATE {
+        return Env::Isolate;
+    }
+    if text == DELAY {
+        return Env::Delay;
+    }
+    if text == ALL {
+        return Env::All;
+    }
+    Env::Plain
 }
 
 // How the heap is guarded, by its text.
@@ -330,6 +373,7 @@ pub(crate) fn session_from<'a>(matches: &ArgMatches<'a>, hold: u32) -> RunComman
         frames: number_or_zero(value_in(matches, FRAMES.name)),
         budget: long_or_zero(value_in(matches, BUDGET.name)),
         keep: number_or_zero(value_in(matches, KEEP.name)),
+        env: env_of(value_in(matches, ENV.name)),
         guard: guard_of(value_in(matches, GUARD.name)),
     }
 }

@@ -13,7 +13,7 @@ use crate::accepted::{have_form, name_at};
 use crate::matching::{out_of_memory, parser, value_in};
 use crate::options::{CommandName, CommandOf, CommandRow, OptionRow, RowOf, TakesOf, takes_value};
 use crate::run_words::{
-    BUDGET, DURABLE, EVERY, FORM, FRAME, FRAMES, GUARD, KEEP, PROGRAM, RECORD, REPORT, RING,
+    BUDGET, DURABLE, ENV, EVERY, FORM, FRAME, FRAMES, GUARD, KEEP, PROGRAM, RECORD, REPORT, RING,
     RunCommand, TELL, WINDOW, have_names, number_or_zero, session_from,
 };
 use clap::{ArgMatches, Error};
@@ -58,8 +58,8 @@ pub const AT_ONCE: OptionRow = RowOf {
 pub const SERVE_NUMBERS: [OptionRow; 2] = [PORT, CONNS];
 
 /// The options of `serve`.
-pub const SERVE_OPTIONS: [OptionRow; 15] = [
-    RECORD, REPORT, FORM, FRAME, WINDOW, RING, EVERY, FRAMES, BUDGET, KEEP, GUARD, PATIENCE,
+pub const SERVE_OPTIONS: [OptionRow; 16] = [
+    RECORD, REPORT, FORM, FRAME, WINDOW, RING, EVERY, FRAMES, BUDGET, KEEP, ENV, GUARD, PATIENCE,
     AT_ONCE, TELL, DURABLE,
 ];
 

@@ -2,6 +2,7 @@
 ghost use Rattle.std.specs.Prelude.{◌≡◌};
 ghost use Rattle.drill.specs.Settings.{settings};
 
+use alloc_env::Env;
 use msg_frame::Framing;
 use rx_base::MAX_ITEMS;
 use rx_engine::Options;
@@ -22,6 +23,7 @@ pub fn settings() -> Options
         frames: 4,
         budget: 1_000_000,
         keep: 4,
+        base: Env::Plain,
         max_items: MAX_ITEMS,
         max_events: 1 << 32,
     }

@@ -1,6 +1,7 @@
 -- What the definitions compute at values.
+use Rattle.alloc_env.specs.declared.env.Env.TheVariants.{All, Delay, Isolate, Pad, Plain, Zero}
 use Rattle.session_notes.specs.declared.episode.Tried.TheVariants.{Asks, Behind, Contradicts}
-use Rattle.follow.proofs.Terms.{List, [], map, refl, ℕ, ◌++◌, ◌∷◌, ◌≡◌, Send, sent_to, Env, All, Delay, Isolate, Pad, Plain, Zero, Hang, env_at, until, Episode, plan_of, ranges_of, held}
+use Rattle.follow.proofs.Terms.{List, [], map, refl, ℕ, ◌++◌, ◌∷◌, ◌≡◌, Send, sent_to, Env, Hang, env_at, until, Episode, plan_of, ranges_of, held}
 
 -- an episode at a point, of which the second trial survived: from this checkpoint, in this environment
 abbrev survived : ℕ → Env → ℕ → Episode
@@ -17,7 +18,7 @@ given_up point = record { point = point; cause = Hang; pc = 0; tries = record { 
 
 -- the environment in force at each of the first twelve counts of items
 abbrev in_force : List Episode → List Env
-in_force episodes = map (env_at (plan_of 4 episodes)) (0 ∷ 1 ∷ 2 ∷ 3 ∷ 4 ∷ 5 ∷ 6 ∷ 7 ∷ 8 ∷ 9 ∷ 10 ∷ 11 ∷ [])
+in_force episodes = map (env_at Plain (plan_of 4 episodes)) (0 ∷ 1 ∷ 2 ∷ 3 ∷ 4 ∷ 5 ∷ 6 ∷ 7 ∷ 8 ∷ 9 ∷ 10 ∷ 11 ∷ [])
 
 -- the later one is in force behind its checkpoint, and the earlier one up to there
 two_in_turn : in_force (survived 1 Pad 2 ∷ survived 3 Delay 5 ∷ []) ≡ Plain ∷ Plain ∷ Pad ∷ Pad ∷ Delay ∷ Delay ∷ Delay ∷ Delay ∷ Delay ∷ Plain ∷ Plain ∷ Plain ∷ []
@@ -36,8 +37,12 @@ none_survived : in_force (survived 0 Zero 0 ∷ given_up 5 ∷ []) ≡ Zero ∷ 
 none_survived = refl
 
 -- and where an environment is kept for one item: the first two are apart
-kept_for_one : map (env_at (plan_of 1 (survived 1 Pad 2 ∷ survived 3 Delay 5 ∷ []))) (0 ∷ 1 ∷ 2 ∷ 3 ∷ 4 ∷ 5 ∷ 6 ∷ 7 ∷ []) ≡ Plain ∷ Plain ∷ Pad ∷ Plain ∷ Delay ∷ Delay ∷ Plain ∷ Plain ∷ []
+kept_for_one : map (env_at Plain (plan_of 1 (survived 1 Pad 2 ∷ survived 3 Delay 5 ∷ []))) (0 ∷ 1 ∷ 2 ∷ 3 ∷ 4 ∷ 5 ∷ 6 ∷ 7 ∷ []) ≡ Plain ∷ Plain ∷ Pad ∷ Plain ∷ Delay ∷ Delay ∷ Plain ∷ Plain ∷ []
 kept_for_one = refl
+
+-- over another environment, which is in force where none of theirs is
+over_pad : map (env_at Pad (plan_of 4 (survived 1 Zero 2 ∷ []))) (0 ∷ 1 ∷ 2 ∷ 3 ∷ 4 ∷ 5 ∷ 6 ∷ 7 ∷ []) ≡ Pad ∷ Pad ∷ Zero ∷ Zero ∷ Zero ∷ Zero ∷ Pad ∷ Pad ∷ []
+over_pad = refl
 
 -- as ranges: the first of them has two, and the third one
 two_ranges : ranges_of 4 (survived 1 Pad 2 ∷ survived 3 Delay 5 ∷ []) ≡ record { low = 4; until = 9; env = Delay } ∷ record { low = 2; until = 6; env = Pad } ∷ []

@@ -1,46 +1,46 @@
 -- The plan of a report as ranges.
-use Rattle.follow.proofs.Terms.{Bool, List, None, Option, Some, [], ap, arith, cond, eqb, false, ltb, refl, sym, true, ℕ, ◌+◌, ◌<◌, ◌∙◌, ◌∷◌, ◌≡◌, lt-ltb, ltb-false, ltb-true, option_map_or, filter, nat_lt, Env, Plain, Override, env_at, Episode, Try, plan_of_trial, adopted_try, plan_behind, plan_from, AreFalling, BeginBefore, ranges_behind, ranges_from, unmasked, RangesAreExact, RangesFall}
+use Rattle.follow.proofs.Terms.{Bool, List, None, Option, Some, [], ap, arith, cond, eqb, false, ltb, refl, sym, true, ℕ, ◌+◌, ◌<◌, ◌∙◌, ◌∷◌, ◌≡◌, lt-ltb, ltb-false, ltb-true, option_map_or, filter, nat_lt, Env, Override, env_at, Episode, Try, plan_of_trial, adopted_try, plan_behind, plan_from, AreFalling, BeginBefore, ranges_behind, ranges_from, unmasked, RangesAreExact, RangesFall}
 
 -- those that begin before a count
 abbrev before : ℕ → List Override → List Override
 before low plan = filter (λ (earlier : Override). nat_lt earlier.low low) plan
 
 -- below that count the others aren't asked
-unasked : (plan : List Override) (low count : ℕ) → count < low → env_at (before low plan) count ≡ env_at plan count
-unasked [] low count below = refl
-unasked (override ∷ plan) low count below = of (ltb override.low low) refl (unasked plan low count below)
+unasked : (base : Env) (plan : List Override) (low count : ℕ) → count < low → env_at base (before low plan) count ≡ env_at base plan count
+unasked base [] low count below = refl
+unasked base (override ∷ plan) low count below = of (ltb override.low low) refl (unasked base plan low count below)
   where
-    of : (b : Bool) → ltb override.low low ≡ b → env_at (before low plan) count ≡ env_at plan count → env_at (cond b (override ∷ before low plan) (before low plan)) count ≡ env_at (override ∷ plan) count
-    of true is rest = ap (λ (env : Env). cond (ltb count override.low) env (cond (ltb count override.until) override.env Plain)) rest
+    of : (b : Bool) → ltb override.low low ≡ b → env_at base (before low plan) count ≡ env_at base plan count → env_at base (cond b (override ∷ before low plan) (before low plan)) count ≡ env_at base (override ∷ plan) count
+    of true is rest = ap (λ (env : Env). cond (ltb count override.low) env (cond (ltb count override.until) override.env base)) rest
     of false is rest =
         rest
-        ∙ ap (λ (b : Bool). cond b (env_at plan count) (cond (ltb count override.until) override.env Plain)) (sym (lt-ltb count override.low (omega (arith, below, ltb-false override.low low is))))
+        ∙ ap (λ (b : Bool). cond b (env_at base plan count) (cond (ltb count override.until) override.env base)) (sym (lt-ltb count override.low (omega (arith, below, ltb-false override.low low is))))
 
 -- where two plans say the same, they do so behind one more override, of which the first keeps those that it doesn't mask
-one_more : (plan ranges : List Override) (override : Override) → ((count : ℕ) → env_at ranges count ≡ env_at plan count) → (count : ℕ) → env_at (unmasked (override ∷ ranges)) count ≡ env_at (override ∷ plan) count
-one_more plan ranges override same count = of (ltb count override.low) refl
+one_more : (base : Env) (plan ranges : List Override) (override : Override) → ((count : ℕ) → env_at base ranges count ≡ env_at base plan count) → (count : ℕ) → env_at base (unmasked (override ∷ ranges)) count ≡ env_at base (override ∷ plan) count
+one_more base plan ranges override same count = of (ltb count override.low) refl
   where
     of : (b : Bool) → ltb count override.low ≡ b
-        → cond b (env_at (before override.low ranges) count) (cond (ltb count override.until) override.env Plain) ≡ cond b (env_at plan count) (cond (ltb count override.until) override.env Plain)
-    of true is = unasked ranges override.low count (ltb-true count override.low is) ∙ same count
+        → cond b (env_at base (before override.low ranges) count) (cond (ltb count override.until) override.env base) ≡ cond b (env_at base plan count) (cond (ltb count override.until) override.env base)
+    of true is = unasked base ranges override.low count (ltb-true count override.low is) ∙ same count
     of false is = refl
 
 -- and behind an episode, and some
-exact_behind : (keep : ℕ) (plan ranges : List Override) (episode : Episode) → ((count : ℕ) → env_at ranges count ≡ env_at plan count) → (count : ℕ) → env_at (ranges_behind keep ranges episode) count ≡ env_at (plan_behind keep plan episode) count
-exact_behind keep plan ranges episode same = of (adopted_try episode.tries)
+exact_behind : (base : Env) (keep : ℕ) (plan ranges : List Override) (episode : Episode) → ((count : ℕ) → env_at base ranges count ≡ env_at base plan count) → (count : ℕ) → env_at base (ranges_behind keep ranges episode) count ≡ env_at base (plan_behind keep plan episode) count
+exact_behind base keep plan ranges episode same = of (adopted_try episode.tries)
   where
     of : (o : Option Try) → (count : ℕ)
-        → env_at (option_map_or (λ (attempt : Try). unmasked (plan_of_trial keep ranges attempt.checkpoint attempt.env episode.point)) o ranges) count
-        ≡ env_at (option_map_or (λ (attempt : Try). plan_of_trial keep plan attempt.checkpoint attempt.env episode.point) o plan) count
+        → env_at base (option_map_or (λ (attempt : Try). unmasked (plan_of_trial keep ranges attempt.checkpoint attempt.env episode.point)) o ranges) count
+        ≡ env_at base (option_map_or (λ (attempt : Try). plan_of_trial keep plan attempt.checkpoint attempt.env episode.point) o plan) count
     of None count = same count
-    of (Some attempt) count = one_more plan ranges (record { low = cond (eqb attempt.checkpoint 0) 0 (attempt.checkpoint + 1); until = episode.point + keep; env = attempt.env }) same count
+    of (Some attempt) count = one_more base plan ranges (record { low = cond (eqb attempt.checkpoint 0) 0 (attempt.checkpoint + 1); until = episode.point + keep; env = attempt.env }) same count
 
-exact_from : (keep : ℕ) (plan ranges : List Override) (episodes : List Episode) → ((count : ℕ) → env_at ranges count ≡ env_at plan count) → (count : ℕ) → env_at (ranges_from keep ranges episodes) count ≡ env_at (plan_from keep plan episodes) count
-exact_from keep plan ranges [] same = same
-exact_from keep plan ranges (episode ∷ episodes) same = exact_from keep (plan_behind keep plan episode) (ranges_behind keep ranges episode) episodes (exact_behind keep plan ranges episode same)
+exact_from : (base : Env) (keep : ℕ) (plan ranges : List Override) (episodes : List Episode) → ((count : ℕ) → env_at base ranges count ≡ env_at base plan count) → (count : ℕ) → env_at base (ranges_from keep ranges episodes) count ≡ env_at base (plan_from keep plan episodes) count
+exact_from base keep plan ranges [] same = same
+exact_from base keep plan ranges (episode ∷ episodes) same = exact_from base keep (plan_behind keep plan episode) (ranges_behind keep ranges episode) episodes (exact_behind base keep plan ranges episode same)
 
 pub ranges_are_exact : RangesAreExact
-ranges_are_exact keep episodes count = exact_from keep [] [] episodes (λ count. refl) count
+ranges_are_exact base keep episodes count = exact_from base keep [] [] episodes (λ count. refl) count
 
 -- those that begin before a count do
 before_begins : (low : ℕ) (plan : List Override) → BeginBefore low (before low plan)

@@ -18,7 +18,7 @@ serves_wider limits wider env item guest are early kept =
     ∙ ap (λ (refused : Bool). cond refused (Fails BadAccess) (does_with (grant env guest) item guest.machine)) (refused_wider limits wider guest.heap (touched guest.machine) are kept)
 
 pub same_limits : (limits : Limits) → AreWider limits limits
-same_limits limits = record { budget = omega arith; permits = λ heap at count may. may; keep = refl }
+same_limits limits = record { budget = omega arith; permits = λ heap at count may. may; keep = refl; base = refl }
 
 -- so is an instruction of a served run
 next_wider : (limits wider : Limits) (items : List Item) (env : Env) (path to : Path) → AreWider limits wider → served_next limits items env path ≡ Some to → served_next wider items env path ≡ Some to
@@ -35,7 +35,7 @@ served_wider limits wider items plan first second are served = record {
   more = served.more;
   ran =
       repeated_as (planned_next limits items plan) (planned_next wider items plan)
-      (λ now to goes. next_wider limits wider items (env_at plan now.state.machine.taken) now to are goes) served.more first second served.ran;
+      (λ now to goes. ap (λ (base : Env). served_next wider items (env_at base plan now.state.machine.taken) now) are.base ∙ next_wider limits wider items (env_at limits.base plan now.state.machine.taken) now to are goes) served.more first second served.ran;
 }
 
 -- a guest that asks for an item does so early enough, and where it may
@@ -55,13 +55,14 @@ in_rule limits env guest asks = of_late (leb limits.budget guest.machine.since) 
 
 pub asks_wider : AsksWider
 asks_wider limits wider plan path item are asks =
-    let env = env_at plan path.state.machine.taken in
+    let env = env_at limits.base plan path.state.machine.taken in
     let within = in_rule limits env (guest_of path) asks.asks in
     record {
       lives = asks.lives;
       taken = asks.taken;
       asks =
-          serves_wider limits wider env None (guest_of path) are within.early within.kept_rule
+          ap (λ (base : Env). serves wider (env_at base plan path.state.machine.taken) None (guest_of path)) are.base
+          ∙ serves_wider limits wider env None (guest_of path) are within.early within.kept_rule
           ∙ sym (serves_wider limits limits env None (guest_of path) (same_limits limits) within.early within.kept_rule)
           ∙ asks.asks;
     }
@@ -70,7 +71,7 @@ asks_wider limits wider plan path item are asks =
 pub choices_later : (limits : Limits) (items : List Item) (plan : List Override) (first second : Path) → Served limits items plan first second → Prefix first.choices second.choices
 choices_later limits items plan first second served =
     repeated_keeps (planned_next limits items plan) (λ a b. Prefix a.choices b.choices) (λ a. prefix_same a.choices) (λ a b c one other. prefix_trans a.choices b.choices c.choices one other)
-    (λ a b goes. let parts = serves_to limits items (env_at plan a.state.machine.taken) a b goes in (listed parts.given.chosen, sym parts.choices)) served.more first second served.ran
+    (λ a b goes. let parts = serves_to limits items (env_at limits.base plan a.state.machine.taken) a b goes in (listed parts.given.chosen, sym parts.choices)) served.more first second served.ran
 
 pub is_longer : (limits : Limits) (items : List Item) (plan : List Override) (first second : Path) → Served limits items plan first second → IsLonger limits items plan first second
 is_longer limits items plan first second served = record {

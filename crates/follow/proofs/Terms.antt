@@ -16,7 +16,7 @@ pub use Rattle.trials.proofs.Planned.{past_request, start_taken}
 pub use Rattle.trials.proofs.Recovered.{timed_from}
 pub use Rattle.trials.proofs.Results.{apart_asks_fails, apart_ended, asks_on, ended_on, fails_on}
 pub use Rattle.trials.proofs.Walked.{walk_adopts}
-pub use Rattle.follow.specs.Terms.{All, AreBetween, AreInOrder, AreRecovered, AsksFor, BadAccess, BeginsAs, Cause, Chapter, Choice, ComesTo, Covers, Delay, Effect, Entry, Env, Episode, Fails, FailsBy, Guest, Hang, Heap, Image, IsAccount, IsFeasible, IsRecovery, IsSoundBefore, Isolate, Item, Limits, LinkEvent, Override, Pad, Path, Plain, Prefix, Recovery, Rules, Send, Served, Session, State, Survivor, Trial, Try, Wants, Zero, adopted_by, after, does_with, env_at, episode_of, events_in, events_of, first_survivor, guest_of, is_refused, items_in, journal_of, last_or, listed, longer, nothing_before, option_map_or, origin, output, passed_in, place_of, plan_of_trial, planned_next, point_of, received, sent_to, starting_path, survives, survivor_in, try_of, until}
+pub use Rattle.follow.specs.Terms.{AreBetween, AreInOrder, AreRecovered, AsksFor, BadAccess, BeginsAs, Cause, Chapter, Choice, ComesTo, Covers, Effect, Entry, Env, Episode, Fails, FailsBy, Guest, Hang, Heap, Image, IsAccount, IsFeasible, IsRecovery, IsSoundBefore, Item, Limits, LinkEvent, Override, Path, Prefix, Recovery, Rules, Send, Served, Session, State, Survivor, Trial, Try, Wants, adopted_by, after, does_with, env_at, episode_of, events_in, events_of, first_survivor, guest_of, is_refused, items_in, journal_of, last_or, listed, longer, nothing_before, option_map_or, origin, output, passed_in, place_of, plan_of_trial, planned_next, point_of, received, sent_to, starting_path, survives, survivor_in, try_of, until}
 unfoldable pub use Rattle.follow.specs.Terms.{does, grant, served_next, serves}
 pub use Rattle.follow.specs.Plans.{AreWellPlaced, IsWellPlaced, adopted_try, first_count, plan_behind, plan_from, plan_of}
 pub use Rattle.follow.specs.Ranges.{AreFalling, BeginBefore, ranges_behind, ranges_from, ranges_of, unmasked}

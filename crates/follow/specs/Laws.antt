@@ -1,6 +1,6 @@
 -- What a report tells of the run that survives.
 use Rattle.std.specs.Prelude.{◌≡◌, ℕ, List, [], ◌∷◌, ◌++◌, map, None, ◌⊎◌}
-use Rattle.follow.specs.Terms.{Item, Prefix, Entry, Image, AsksFor, Limits, Override, Path, Served, env_at, origin, Chapter, Rules, Survivor, first_survivor, Episode, AreRecovered, Recovery, episode_of, survivor_in}
+use Rattle.follow.specs.Terms.{Item, Prefix, Entry, Env, Image, AsksFor, Limits, Override, Path, Served, env_at, origin, Chapter, Rules, Survivor, first_survivor, Episode, AreRecovered, Recovery, episode_of, survivor_in}
 use Rattle.follow.specs.Plans.{plan_from, plan_of}
 use Rattle.follow.specs.Ranges.{AreFalling, ranges_of}
 use Rattle.follow.specs.Runs.{AreWider, IsLonger}
@@ -25,7 +25,7 @@ GivenUpAddsNothing =
 
 -- As ranges the plan of a report says the same at each count of items, and each range begins before those in front of it.
 abbrev pub RangesAreExact : Type 0
-RangesAreExact = (keep : ℕ) (episodes : List Episode) (count : ℕ) → env_at (ranges_of keep episodes) count ≡ env_at (plan_of keep episodes) count
+RangesAreExact = (base : Env) (keep : ℕ) (episodes : List Episode) (count : ℕ) → env_at base (ranges_of keep episodes) count ≡ env_at base (plan_of keep episodes) count
 
 abbrev pub RangesFall : Type 0
 RangesFall = (keep : ℕ) (episodes : List Episode) → AreFalling (ranges_of keep episodes)

@@ -10,7 +10,6 @@ pub use Rattle.links.specs.Links.{events_in}
 pub use Rattle.block_book.specs.declared.choice.Choice.{Choice}
 pub use Rattle.block_book.specs.Heap.{Heap}
 pub use Rattle.alloc_env.specs.declared.env.Env.{Env}
-pub use Rattle.alloc_env.specs.declared.env.Env.TheVariants.{All, Delay, Isolate, Pad, Plain, Zero}
 pub use Rattle.guest_image.specs.declared.image.Image.{Image}
 pub use Rattle.run_history.specs.declared.answer.Cause.{Cause}
 pub use Rattle.run_history.specs.declared.answer.Cause.TheVariants.{BadAccess, Hang}

@@ -21,8 +21,8 @@ stands_at s = ap (λ n. record s { sends = n }) (sym (length-replicate s.sends _
 abbrev plan_of : ℕ → Env → List Override
 plan_of taken env = record { low = 0; until = suc taken; env = env } ∷ []
 
-in_force : (taken : ℕ) (env : Env) → env_at (plan_of taken env) taken ≡ env
-in_force taken env =
+in_force : (base : Env) (taken : ℕ) (env : Env) → env_at base (plan_of taken env) taken ≡ env
+in_force base taken env =
     let low : ltb taken 0 ≡ false = grind arith in
     let until : ltb taken (suc taken) ≡ true = grind arith in rw (low, until) refl
 
@@ -30,5 +30,5 @@ in_force taken env =
 pub asks_here : (limits : Limits) (env : Env) (base : ℕ) (old new : Live) (is : Event) → old.standing.ended ≡ None → is ≡ event.Asks → RunsBy event.Emits (turn limits env) base old (Ok is) new → does None None new.standing.guest.machine ≡ Wants
 asks_here limits env base old new is lives asks runs =
     let taken = old.standing.guest.machine.taken in
-    let on = runs_serve limits [] (plan_of taken env) env base (path_at old.standing) old new (Ok event.Asks) lives (in_force taken env) (stands_at old.standing) (subst (λ (e : Event). RunsBy event.Emits (turn limits env) base old (Ok e) new) asks runs) in
+    let on = runs_serve limits [] (plan_of taken env) env base (path_at old.standing) old new (Ok event.Asks) lives (in_force limits.base taken env) (stands_at old.standing) (subst (λ (e : Event). RunsBy event.Emits (turn limits env) base old (Ok e) new) asks runs) in
     subst (λ (s : Standing). does None None s.guest.machine ≡ Wants) on.stands (asks_wants limits (plan_of taken env) on.now _ on.comes.1)

@@ -10,7 +10,7 @@ use Rattle.guest_cpu.proofs.TakeLemmas.{takes_serve, takes_write}
 
 -- every byte may be touched
 abbrev allowing : ℕ → Limits
-allowing budget = record { budget = budget; permits = λ heap place count. true; keep = 4 }
+allowing budget = record { budget = budget; permits = λ heap place count. true; keep = 4; base = Plain }
 
 abbrev live : Standing → Live
 live standing = record { standing = standing; written = [] }

@@ -42,7 +42,7 @@ bounded_one limits path next one lives bound = record {
 }
 
 -- an instruction without items is one with any
-pub goes_one : (limits : Limits) (items : List Item) (plan : List Override) (env : Env) (path next : Path) → env_at plan path.state.machine.taken ≡ env → served_next limits [] env path ≡ Some next
+pub goes_one : (limits : Limits) (items : List Item) (plan : List Override) (env : Env) (path next : Path) → env_at limits.base plan path.state.machine.taken ≡ env → served_next limits [] env path ≡ Some next
     → GoesOn limits items plan path next
 goes_one limits items plan env path next in_force goes =
     let one = one_more limits env path next goes in
@@ -83,7 +83,7 @@ quiet_parts limits env base old new goes = option_and_then_some (quietly base ol
     of_event t turns (Some event) is quiet = absurd (none-some new quiet)
 
 -- one quiet turn more
-comes_more : (limits : Limits) (items : List Item) (plan : List Override) (env : Env) (base : ℕ) (first : Path) (before : List Bool) (old new : Live) → env_at plan first.state.machine.taken ≡ env
+comes_more : (limits : Limits) (items : List Item) (plan : List Override) (env : Env) (base : ℕ) (first : Path) (before : List Bool) (old new : Live) → env_at limits.base plan first.state.machine.taken ≡ env
     → ComesWriting limits items plan base first before old → IsQuiet limits env base old new → ComesWriting limits items plan base first before new
 comes_more limits items plan env base first before old new in_force came quiet =
     of_follows
@@ -107,7 +107,7 @@ comes_more limits items plan env base first before old new in_force came quiet =
             now = follows.next;
             stands = follows.stands ∙ sym (ap (λ (l : Live). l.standing) quiet.left);
             lives = ended;
-            goes = goes_on limits items plan first comes.now follows.next comes.goes (goes_one limits items plan env comes.now follows.next (ap (env_at plan) comes.goes.taken ∙ in_force) adds.0) comes.lives;
+            goes = goes_on limits items plan first comes.now follows.next comes.goes (goes_one limits items plan env comes.now follows.next (ap (env_at limits.base plan) comes.goes.taken ∙ in_force) adds.0) comes.lives;
             silent = record { choices = adds.1 ∙ comes.silent.choices; sends = adds.2 ∙ comes.silent.sends };
           };
           wrote = writes_then limits items base env first before comes.now old.written follows.next new.written came.wrote (served_next_more limits [] items env comes.now follows.next adds.0)
@@ -115,7 +115,7 @@ comes_more limits items plan env base first before old new in_force came quiet =
         }
 
 -- so many of them
-pub comes_writing : (limits : Limits) (items : List Item) (plan : List Override) (env : Env) (base : ℕ) (first : Path) (old new : Live) (count : ℕ) → first.state.ended ≡ None → env_at plan first.state.machine.taken ≡ env
+pub comes_writing : (limits : Limits) (items : List Item) (plan : List Override) (env : Env) (base : ℕ) (first : Path) (old new : Live) (count : ℕ) → first.state.ended ≡ None → env_at limits.base plan first.state.machine.taken ≡ env
     → old.standing ≡ standing_of first → repeated (quiet_next (turn limits env) base) count old ≡ Some new → ComesWriting limits items plan base first old.written new
 comes_writing limits items plan env base first old new zero lives in_force stands ran =
     subst (ComesWriting limits items plan base first old.written) (same_Some old new ran) (record {

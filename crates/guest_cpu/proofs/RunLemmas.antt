@@ -21,7 +21,7 @@ runs_start image budget = record {
 record Last (limits : Limits) (items : List Item) (plan : List Override) (env : Env) (base : ℕ) (first : Path) (before : List Bool) (event : Event) (new : Live) : Type 0 where
   now : Path
   lives : now.state.ended ≡ None
-  in_force : env_at plan now.state.machine.taken ≡ env
+  in_force : env_at limits.base plan now.state.machine.taken ≡ env
   goes : GoesOn limits items plan first now
   silent : IsSilent first now
   next : Path
@@ -36,7 +36,7 @@ record Last (limits : Limits) (items : List Item) (plan : List Override) (env : 
 
 module _ (limits : Limits) (items : List Item) (plan : List Override) (env : Env) (base : ℕ) (first : Path) (before : List Bool) (new : Live) where
   -- a turn that is an instruction goes on
-  goes_next : (now next : Path) → now.state.ended ≡ None → env_at plan now.state.machine.taken ≡ env → GoesOn limits items plan first now → served_next limits [] env now ≡ Some next → GoesOn limits items plan first next
+  goes_next : (now next : Path) → now.state.ended ≡ None → env_at limits.base plan now.state.machine.taken ≡ env → GoesOn limits items plan first now → served_next limits [] env now ≡ Some next → GoesOn limits items plan first next
   goes_next now next lives in_force goes adds = goes_on limits items plan first now next goes (goes_one limits items plan env now next in_force adds) lives
 
   -- and counts one more
@@ -136,7 +136,7 @@ module _ (limits : Limits) (items : List Item) (plan : List Override) (env : Env
   event_last (event.Failed cause) last = fails_last cause last
 
 -- the turn that a run has come to
-last_of : (limits : Limits) (items : List Item) (plan : List Override) (env : Env) (base : ℕ) (first : Path) (flags : List Bool) (event : Event) (before new : Live) (t : Turn Event) → env_at plan first.state.machine.taken ≡ env
+last_of : (limits : Limits) (items : List Item) (plan : List Override) (env : Env) (base : ℕ) (first : Path) (flags : List Bool) (event : Event) (before new : Live) (t : Turn Event) → env_at limits.base plan first.state.machine.taken ≡ env
     → ComesWriting limits items plan base first flags before → turn limits env before.standing ≡ Some t → t.event ≡ Some event → new ≡ live_after base before t → Last limits items plan env base first flags event new
 last_of limits items plan env base first flags event before new t in_force came turns is left =
     let comes = came.comes in
@@ -146,7 +146,7 @@ last_of limits items plan env base first flags event before new t in_force came 
     record {
       now = comes.now;
       lives = comes.lives;
-      in_force = ap (env_at plan) comes.goes.taken ∙ in_force;
+      in_force = ap (env_at limits.base plan) comes.goes.taken ∙ in_force;
       goes = comes.goes;
       silent = comes.silent;
       next = follows.next;

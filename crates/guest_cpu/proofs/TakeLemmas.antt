@@ -56,7 +56,7 @@ bounded_taken budget path item bound =
 pub takes_write : TakesWrite
 takes_write limits items plan base first before item asks here =
     let keeps = received_keeps item first.state.machine in
-    let env = env_at plan first.state.machine.taken in
+    let env = env_at limits.base plan first.state.machine.taken in
     let next = takes_next limits items env first item asks.lives asks.asks here in
     record {
       took = record {
@@ -79,5 +79,5 @@ takes_serve limits items plan first item asks here = (takes_write limits items p
 
 pub asks_wants : AsksWants
 asks_wants limits plan path number asks =
-    let parts = served_does limits (env_at plan path.state.machine.taken) (guest_of path) Wants (λ cause e. cc) asks.asks in
+    let parts = served_does limits (env_at limits.base plan path.state.machine.taken) (guest_of path) Wants (λ cause e. cc) asks.asks in
     wants_takes path.state.machine parts.0.chosen parts.2 None None

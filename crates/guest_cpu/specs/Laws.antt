@@ -24,14 +24,14 @@ RunsStart = (image : Image) (budget : ℕ) → IsStart image budget
 abbrev pub RunsServe : Type 0
 RunsServe =
     (limits : Limits) (items : List Item) (plan : List Override) (env : Env) (base : ℕ) (first : Path) (old new : Live) (result : Result Event AllocError) →
-    first.state.ended ≡ None → env_at plan first.state.machine.taken ≡ env → old.standing ≡ standing_of first → RunsBy event.Emits (turn limits env) base old result new →
+    first.state.ended ≡ None → env_at limits.base plan first.state.machine.taken ≡ env → old.standing ≡ standing_of first → RunsBy event.Emits (turn limits env) base old result new →
     RunsOn limits items plan first result new.standing
 
 -- and its flags are those of the pages that the run writes
 abbrev pub RunsWrite : Type 0
 RunsWrite =
     (limits : Limits) (items : List Item) (plan : List Override) (env : Env) (base : ℕ) (first : Path) (old new : Live) (result : Result Event AllocError) →
-    first.state.ended ≡ None → env_at plan first.state.machine.taken ≡ env → old.standing ≡ standing_of first → RunsBy event.Emits (turn limits env) base old result new →
+    first.state.ended ≡ None → env_at limits.base plan first.state.machine.taken ≡ env → old.standing ≡ standing_of first → RunsBy event.Emits (turn limits env) base old result new →
     RunsWriting limits items plan base first old.written result new
 
 -- a run writes the same pages in whatever environments it went from one place to another

@@ -31,7 +31,7 @@ pub step_keeps : (guard : GuardMode) (limits : Limits) (items : List Item) (plan
     → is_in_block guard path.heap range.at range.count ≡ true
 unfolding permits
 step_keeps guard limits items plan path next range guards goes touches heap =
-    let parts = serves_to limits items (env_at plan path.state.machine.taken) path next goes in
+    let parts = serves_to limits items (env_at limits.base plan path.state.machine.taken) path next goes in
     let kept : not (limits.permits path.heap range.at range.count) ≡ false = subst (λ (o : Option Range). is_refused limits path.heap o ≡ false) touches parts.kept_rule in
     let may : permits guard path.heap range.at range.count ≡ true = sym (ap (λ rule. rule path.heap range.at range.count) guards) ∙ not-false (limits.permits path.heap range.at range.count) kept in
     needed (has_byte_of path.heap.start path.heap.end range.at range.count) (is_in_block guard path.heap range.at range.count) may heap

@@ -52,7 +52,7 @@ laid_out_behind : (limits : Limits) (items : List Item) (plan : List Override) (
 laid_out_behind limits items plan first second zero out ran = subst (λ (p : Path). IsLaidOut (guest_of p)) (same_Some first second ran) out
 laid_out_behind limits items plan first second (suc count) out ran =
     option_and_then_some (planned_next limits items plan) (serve limits items plan first count) second ran (λ mid before goes.
-    laid_out_next limits items (env_at plan mid.state.machine.taken) mid second (laid_out_behind limits items plan first mid count out before) (serves_to limits items (env_at plan mid.state.machine.taken) mid second goes))
+    laid_out_next limits items (env_at limits.base plan mid.state.machine.taken) mid second (laid_out_behind limits items plan first mid count out before) (serves_to limits items (env_at limits.base plan mid.state.machine.taken) mid second goes))
 
 -- so it is laid out wherever it stands
 pub laid_out : (limits : Limits) (items : List Item) (plan : List Override) (image : Image) (path : Path) (count : ℕ) → serve limits items plan (origin image) count ≡ Some path → IsLaidOut (guest_of path)

@@ -50,7 +50,7 @@ fn are_answered(
 
 // What `run p --record r --report t` is, in whatever order.
 const SHORTEST: &str =
-    "Some(Run(RunCommand { program: \"p\", recording: \"r\", report: \"t\", form: Text, frame: Line, window: 4, hold: 0, ring: 8, every: 1, frames: 4, budget: 1000000, keep: 4, guard: Off }))";
+    "Some(Run(RunCommand { program: \"p\", recording: \"r\", report: \"t\", form: Text, frame: Line, window: 4, hold: 0, ring: 8, every: 1, frames: 4, budget: 1000000, keep: 4, env: Plain, guard: Off }))";
 
 // The program and the two names in each order.
 const ORDERS: &str = "\
@@ -64,12 +64,12 @@ const ORDERS: &str = "\
     run --guard off --durable on --budget 1000000 --report t --frames 4 --record r --every 1 p --form text\n";
 
 const ACCEPTED: &str = "\
-    run --record r --report t p --form json --frame length --window 64 --hold 1000 --ring 16 --every 64 --frames 16 --budget 68719476736 --keep 4294967295 --guard block => Some(Run(RunCommand { program: \"p\", recording: \"r\", report: \"t\", form: Json, frame: Length, window: 64, hold: 1000, ring: 16, every: 64, frames: 16, budget: 68719476736, keep: 4294967295, guard: Block }))\n\
-    run p --guard extent --keep 1 --budget 1 --frames 2 --every 1 --ring 1 --hold 0 --window 1 --frame whole --form text --report t --record r => Some(Run(RunCommand { program: \"p\", recording: \"r\", report: \"t\", form: Text, frame: Whole, window: 1, hold: 0, ring: 1, every: 1, frames: 2, budget: 1, keep: 1, guard: Extent }))\n\
-    run --frame line --ring 10 p --hold 9 --record r --every 7 --report t --window 5 => Some(Run(RunCommand { program: \"p\", recording: \"r\", report: \"t\", form: Text, frame: Line, window: 5, hold: 9, ring: 10, every: 7, frames: 4, budget: 1000000, keep: 4, guard: Off }))\n\
-    run run --record asm --report = => Some(Run(RunCommand { program: \"run\", recording: \"asm\", report: \"=\", form: Text, frame: Line, window: 4, hold: 0, ring: 8, every: 1, frames: 4, budget: 1000000, keep: 4, guard: Off }))\n\
-    run 0 --record a-b --report c--d --frames 3 --budget 999 => Some(Run(RunCommand { program: \"0\", recording: \"a-b\", report: \"c--d\", form: Text, frame: Line, window: 4, hold: 0, ring: 8, every: 1, frames: 3, budget: 999, keep: 4, guard: Off }))\n\
-    run p --budget 4294967297 --record r --report t => Some(Run(RunCommand { program: \"p\", recording: \"r\", report: \"t\", form: Text, frame: Line, window: 4, hold: 0, ring: 8, every: 1, frames: 4, budget: 4294967297, keep: 4, guard: Off }))\n\
+    run --record r --report t p --form json --frame length --window 64 --hold 1000 --ring 16 --every 64 --frames 16 --budget 68719476736 --keep 4294967295 --env all --guard block => Some(Run(RunCommand { program: \"p\", recording: \"r\", report: \"t\", form: Json, frame: Length, window: 64, hold: 1000, ring: 16, every: 64, frames: 16, budget: 68719476736, keep: 4294967295, env: All, guard: Block }))\n\
+    run p --guard extent --keep 1 --env pad --budget 1 --frames 2 --every 1 --ring 1 --hold 0 --window 1 --frame whole --form text --report t --record r => Some(Run(RunCommand { program: \"p\", recording: \"r\", report: \"t\", form: Text, frame: Whole, window: 1, hold: 0, ring: 1, every: 1, frames: 2, budget: 1, keep: 1, env: Pad, guard: Extent }))\n\
+    run --frame line --ring 10 p --hold 9 --record r --every 7 --report t --window 5 => Some(Run(RunCommand { program: \"p\", recording: \"r\", report: \"t\", form: Text, frame: Line, window: 5, hold: 9, ring: 10, every: 7, frames: 4, budget: 1000000, keep: 4, env: Plain, guard: Off }))\n\
+    run run --record asm --report = => Some(Run(RunCommand { program: \"run\", recording: \"asm\", report: \"=\", form: Text, frame: Line, window: 4, hold: 0, ring: 8, every: 1, frames: 4, budget: 1000000, keep: 4, env: Plain, guard: Off }))\n\
+    run 0 --record a-b --report c--d --frames 3 --budget 999 => Some(Run(RunCommand { program: \"0\", recording: \"a-b\", report: \"c--d\", form: Text, frame: Line, window: 4, hold: 0, ring: 8, every: 1, frames: 3, budget: 999, keep: 4, env: Plain, guard: Off }))\n\
+    run p --budget 4294967297 --record r --report t => Some(Run(RunCommand { program: \"p\", recording: \"r\", report: \"t\", form: Text, frame: Line, window: 4, hold: 0, ring: 8, every: 1, frames: 4, budget: 4294967297, keep: 4, env: Plain, guard: Off }))\n\
     asm a b => Some(Asm(AsmCommand { source: \"a\", out: \"b\" }))\n\
     asm asm run => Some(Asm(AsmCommand { source: \"asm\", out: \"run\" }))\n\
     replay p r => Some(Replay(ReplayCommand { program: \"p\", recording: \"r\" }))\n\
@@ -80,14 +80,14 @@ const ACCEPTED: &str = "\
     standby p r c --record o => Some(Standby(StandbyCommand { program: \"p\", recorded: \"r\", counts: \"c\", recording: \"o\", budget: 1000000 }))\n\
     standby --budget 68719476736 p --record o r c => Some(Standby(StandbyCommand { program: \"p\", recorded: \"r\", counts: \"c\", recording: \"o\", budget: 68719476736 }))\n\
     standby 1 2 3 --budget 1 --record standby => Some(Standby(StandbyCommand { program: \"1\", recorded: \"2\", counts: \"3\", recording: \"standby\", budget: 1 }))\n\
-    resume p r q c --record o --report t => Some(Resume(ResumeCommand { program: \"p\", recorded: \"r\", reported: \"q\", counts: \"c\", recording: \"o\", report: \"t\", form: Text, hold: 0, ring: 8, every: 1, frames: 4, budget: 1000000, keep: 4, guard: Off }))\n\
-    resume --hold 1000 1 --ring 16 2 --every 64 3 --report 6 --record 5 4 --frames 16 --keep 12 --budget 1 --form json --guard block --durable on --tell off => Some(Resume(ResumeCommand { program: \"1\", recorded: \"2\", reported: \"3\", counts: \"4\", recording: \"5\", report: \"6\", form: Json, hold: 1000, ring: 16, every: 64, frames: 16, budget: 1, keep: 12, guard: Block }))\n\
-    serve p 80 1 --record r --report t => Some(Serve(ServeCommand { session: RunCommand { program: \"p\", recording: \"r\", report: \"t\", form: Text, frame: Line, window: 4, hold: 0, ring: 8, every: 1, frames: 4, budget: 1000000, keep: 4, guard: Off }, port: 80, conns: 1, patience: 60, at_once: 1 }))\n\
-    serve --patience 0 p --record 80 --report 1 65535 --frame whole 4096 --form json --window 64 --ring 16 --every 64 --frames 16 --budget 68719476736 => Some(Serve(ServeCommand { session: RunCommand { program: \"p\", recording: \"80\", report: \"1\", form: Json, frame: Whole, window: 64, hold: 0, ring: 16, every: 64, frames: 16, budget: 68719476736, keep: 4, guard: Off }, port: 65535, conns: 4096, patience: 0, at_once: 1 }))\n\
-    serve 1 1 1 --record r --report t --patience 3600 --guard extent --keep 2 => Some(Serve(ServeCommand { session: RunCommand { program: \"1\", recording: \"r\", report: \"t\", form: Text, frame: Line, window: 4, hold: 0, ring: 8, every: 1, frames: 4, budget: 1000000, keep: 2, guard: Extent }, port: 1, conns: 1, patience: 3600, at_once: 1 }))\n\
-    serve p 80 2 --at-once 256 --record r --report t => Some(Serve(ServeCommand { session: RunCommand { program: \"p\", recording: \"r\", report: \"t\", form: Text, frame: Line, window: 4, hold: 0, ring: 8, every: 1, frames: 4, budget: 1000000, keep: 4, guard: Off }, port: 80, conns: 2, patience: 60, at_once: 256 }))\n\
-    diagnose p --record r --report t --diagnosis d => Some(Diagnose(DiagnoseCommand { session: RunCommand { program: \"p\", recording: \"r\", report: \"t\", form: Text, frame: Line, window: 4, hold: 0, ring: 8, every: 1, frames: 4, budget: 1000000, keep: 4, guard: Off }, diagnosis: \"d\" }))\n\
-    diagnose --diagnosis d --hold 7 --keep 8 --report t p --record r --form json => Some(Diagnose(DiagnoseCommand { session: RunCommand { program: \"p\", recording: \"r\", report: \"t\", form: Json, frame: Line, window: 4, hold: 7, ring: 8, every: 1, frames: 4, budget: 1000000, keep: 8, guard: Off }, diagnosis: \"d\" }))\n\
+    resume p r q c --record o --report t => Some(Resume(ResumeCommand { program: \"p\", recorded: \"r\", reported: \"q\", counts: \"c\", recording: \"o\", report: \"t\", form: Text, hold: 0, ring: 8, every: 1, frames: 4, budget: 1000000, keep: 4, env: Plain, guard: Off }))\n\
+    resume --hold 1000 1 --ring 16 2 --every 64 3 --report 6 --record 5 4 --frames 16 --keep 12 --env zero --budget 1 --form json --guard block --durable on --tell off => Some(Resume(ResumeCommand { program: \"1\", recorded: \"2\", reported: \"3\", counts: \"4\", recording: \"5\", report: \"6\", form: Json, hold: 1000, ring: 16, every: 64, frames: 16, budget: 1, keep: 12, env: Zero, guard: Block }))\n\
+    serve p 80 1 --record r --report t => Some(Serve(ServeCommand { session: RunCommand { program: \"p\", recording: \"r\", report: \"t\", form: Text, frame: Line, window: 4, hold: 0, ring: 8, every: 1, frames: 4, budget: 1000000, keep: 4, env: Plain, guard: Off }, port: 80, conns: 1, patience: 60, at_once: 1 }))\n\
+    serve --patience 0 p --record 80 --report 1 65535 --frame whole 4096 --form json --window 64 --ring 16 --every 64 --frames 16 --budget 68719476736 => Some(Serve(ServeCommand { session: RunCommand { program: \"p\", recording: \"80\", report: \"1\", form: Json, frame: Whole, window: 64, hold: 0, ring: 16, every: 64, frames: 16, budget: 68719476736, keep: 4, env: Plain, guard: Off }, port: 65535, conns: 4096, patience: 0, at_once: 1 }))\n\
+    serve 1 1 1 --record r --report t --patience 3600 --guard extent --keep 2 --env isolate => Some(Serve(ServeCommand { session: RunCommand { program: \"1\", recording: \"r\", report: \"t\", form: Text, frame: Line, window: 4, hold: 0, ring: 8, every: 1, frames: 4, budget: 1000000, keep: 2, env: Isolate, guard: Extent }, port: 1, conns: 1, patience: 3600, at_once: 1 }))\n\
+    serve p 80 2 --at-once 256 --record r --report t => Some(Serve(ServeCommand { session: RunCommand { program: \"p\", recording: \"r\", report: \"t\", form: Text, frame: Line, window: 4, hold: 0, ring: 8, every: 1, frames: 4, budget: 1000000, keep: 4, env: Plain, guard: Off }, port: 80, conns: 2, patience: 60, at_once: 256 }))\n\
+    diagnose p --record r --report t --diagnosis d => Some(Diagnose(DiagnoseCommand { session: RunCommand { program: \"p\", recording: \"r\", report: \"t\", form: Text, frame: Line, window: 4, hold: 0, ring: 8, every: 1, frames: 4, budget: 1000000, keep: 4, env: Plain, guard: Off }, diagnosis: \"d\" }))\n\
+    diagnose --diagnosis d --hold 7 --keep 8 --env delay --report t p --record r --form json => Some(Diagnose(DiagnoseCommand { session: RunCommand { program: \"p\", recording: \"r\", report: \"t\", form: Json, frame: Line, window: 4, hold: 7, ring: 8, every: 1, frames: 4, budget: 1000000, keep: 8, env: Delay, guard: Off }, diagnosis: \"d\" }))\n\
     drill 0 1 => Some(Drill(DrillCommand { seed: 0, count: 1 }))\n\
     drill 4294967295 100000 => Some(Drill(DrillCommand { seed: 4294967295, count: 100000 }))\n\
     drill 7 7 => Some(Drill(DrillCommand { seed: 7, count: 7 }))\n\
@@ -129,6 +129,10 @@ const REFUSED_ENDS: &str = "\
     --keep 4294967296\n\
     --keep\n\
     --keep 4 --keep 4\n\
+    --env none\n\
+    --env Pad\n\
+    --env\n\
+    --env pad --env pad\n\
     --form xml\n\
     --form Text\n\
     --form \n\
@@ -228,6 +232,7 @@ const REFUSED: &str = "\n \n\
     standby p r c --record o --report t\n\
     standby p r c --record o --tell off\n\
     standby p r c --record o --keep 4\n\
+    standby p r c --record o --env plain\n\
     resume\n\
     resume p r c --record o --report t\n\
     resume p r q c --record o\n\
@@ -246,6 +251,7 @@ const REFUSED: &str = "\n \n\
     resume p r q c --record o --report t --hold 1001\n\
     resume p r q c --record o --report t --ring 0\n\
     resume p r q c --record o --report t --keep 0\n\
+    resume p r q c --record o --report t --env none\n\
     stand p r c --record o\n\
     run p --record r --report t --patience 5\n\
     serve\n\
@@ -341,6 +347,7 @@ const COMPLAINTS: &str =
     run p --guard on => word 4: --guard is off or extent or block, not on\n\
     run p -h => word 3: -h is no option of run\n\
     run p --keep 0 => word 4: --keep is 1 to 4294967295, not 0\n\
+    run p --env none => word 4: --env is plain or pad or zero or isolate or delay or all, not none\n\
     run p q => word 3: q is one name too many for run\n\
     run p --budget 68719476737 => word 4: --budget is 1 to 68719476736, not 68719476737\n\
     run  => word 2: PROGRAM is a name, not nothing\n\
@@ -386,6 +393,7 @@ const RUN_USAGE: &str = "run PROGRAM and in any place, each once:
   --frames 2 to 16 (4)
   --budget 1 to 68719476736 (1000000)
   --keep 1 to 4294967295 (4)
+  --env plain or pad or zero or isolate or delay or all (plain)
   --guard off or extent or block (off)
   --tell auto or on or off (auto)
   --durable on or off (off)
@@ -401,6 +409,7 @@ const RESUME_USAGE: &str = "resume PROGRAM RECORD REPORT COUNTS and in any place
   --frames 2 to 16 (4)
   --budget 1 to 68719476736 (1000000)
   --keep 1 to 4294967295 (4)
+  --env plain or pad or zero or isolate or delay or all (plain)
   --guard off or extent or block (off)
   --tell auto or on or off (auto)
   --durable on or off (off)
@@ -427,6 +436,7 @@ resume PROGRAM RECORD REPORT COUNTS and in any place, each once:
   --frames 2 to 16 (4)
   --budget 1 to 68719476736 (1000000)
   --keep 1 to 4294967295 (4)
+  --env plain or pad or zero or isolate or delay or all (plain)
   --guard off or extent or block (off)
   --tell auto or on or off (auto)
   --durable on or off (off)
@@ -444,6 +454,7 @@ const SERVE_USAGE: &str =
   --frames 2 to 16 (4)
   --budget 1 to 68719476736 (1000000)
   --keep 1 to 4294967295 (4)
+  --env plain or pad or zero or isolate or delay or all (plain)
   --guard off or extent or block (off)
   --patience 0 to 3600 (60)
   --at-once 1 to 256 (1)
@@ -464,6 +475,7 @@ const DIAGNOSE_USAGE: &str = "diagnose PROGRAM and in any place, each once:
   --frames 2 to 16 (4)
   --budget 1 to 68719476736 (1000000)
   --keep 1 to 4294967295 (4)
+  --env plain or pad or zero or isolate or delay or all (plain)
   --guard off or extent or block (off)
   --tell auto or on or off (auto)
   --durable on or off (off)
@@ -519,6 +531,7 @@ const SERVE_HELP: &str = "serve PROGRAM PORT CONNS --record NAME --report NAME [
   --frames 2 to 16 (4): How often the memory of the program is taken, for it and its checkpoints.
   --budget 1 to 68719476736 (1000000): How many instructions may come from one item to the next. 1000000 take 4 ms, 250000000 a second.
   --keep 1 to 4294967295 (4): For how many items more an environment that survived stays in force.
+  --env plain or pad or zero or isolate or delay or all (plain): The environment of malloc and free from the start, and where no trial's is in force.
   --guard off or extent or block (off): Which accesses to the heap are refused, by its blocks.
   --patience 0 to 3600 (60): For how many seconds a client is waited for. With 0 it is without limit.
   --at-once 1 to 256 (1): How many clients are served at the same time. With 1 it is one after another.

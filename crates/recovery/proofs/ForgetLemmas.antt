@@ -35,7 +35,7 @@ before_next limits items env first second goes =
 -- a run has come no further than one that goes on from it
 before_served : (limits : Limits) (items : List Item) (plan : List Override) (first second : Path) → Served limits items plan first second → IsBefore first second
 before_served limits items plan first second served =
-    repeated_keeps (planned_next limits items plan) IsBefore before_same before_on (λ a b goes. before_next limits items (env_at plan a.state.machine.taken) a b goes) served.more first second served.ran
+    repeated_keeps (planned_next limits items plan) IsBefore before_same before_on (λ a b goes. before_next limits items (env_at limits.base plan a.state.machine.taken) a b goes) served.more first second served.ran
 
 -- nor than each of some others
 abbrev pub AreAfter : Path → List Path → Type 0

@@ -81,7 +81,7 @@ module _ {R : Type 0} {site : FailureSite} {failure : Failure} {old : Held R} (h
               (subst (λ n. Served failure.rules.limits (items_of failure) (plan_of_trial failure.rules.limits.keep failure.plan checkpoint.state.machine.taken trial.chance.env n) checkpoint trial.path) (sym has.failed.point_is) s.right.from) keeps s.adopts.stands_on adopts s.adopts.wrote)
               refl same.first;
           in_force =
-              subst (λ e. IsInForce (plan_of_trial failure.rules.limits.keep failure.plan checkpoint.state.machine.taken trial.chance.env failure.failed.state.machine.taken) failure.failed.state.machine.taken e (failure.failed.state.machine.taken + failure.rules.limits.keep)) (sym s.env_is)
+              subst (λ e. IsInForce failure.rules.limits.base (plan_of_trial failure.rules.limits.keep failure.plan checkpoint.state.machine.taken trial.chance.env failure.failed.state.machine.taken) failure.failed.state.machine.taken e (failure.failed.state.machine.taken + failure.rules.limits.keep)) (sym s.env_is)
               (in_force_from trial.chance.env adopted.index has.ring has.fails s.from);
           replies = s.adopts.replies;
           goes = s.adopts.goes;

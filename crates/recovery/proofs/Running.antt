@@ -13,8 +13,8 @@ use Rattle.recovery.proofs.Starting.{failed_still}
 use Rattle.recovery.proofs.Staying.{turns_by}
 
 -- the plan of a trial on its way has its environment
-pub force_is : (keep : ℕ) (env : Env) (point taken : ℕ) → 1 ≤ keep → taken ≤ point → env_at (everywhere keep env point) taken ≡ env
-force_is keep env point taken some early = env_within [] 0 (point + keep) env taken (omega arith) (omega (arith, some, early))
+pub force_is : (base : Env) (keep : ℕ) (env : Env) (point taken : ℕ) → 1 ≤ keep → taken ≤ point → env_at base (everywhere keep env point) taken ≡ env
+force_is base keep env point taken some early = env_within base [] 0 (point + keep) env taken (omega arith) (omega (arith, some, early))
 
 room : (steps at taken since budget : ℕ) → at ≡ steps → steps ≤ taken * (budget + 1) + since → since ≤ budget → taken ≤ MAX_ITEMS → budget ≤ 2 ^ 36 → at + budget < 2 ^ 64 - 1
 room steps at taken since budget same bounded last few budgeted =
@@ -103,7 +103,7 @@ pub record SendsOn (limits : Limits) (items : List Item) (plan : List Override) 
   pub lives : now.state.ended ≡ None
   pub later : first.steps < now.steps
 
-sends_last : (limits : Limits) (items : List Item) (plan : List Override) (env : Env) (base : ℕ) (first : Path) (flags : List Bool) (conn : ℕ) (bytes : List ℕ) (before new : Live) (t : Turn Event) → env_at plan first.state.machine.taken ≡ env
+sends_last : (limits : Limits) (items : List Item) (plan : List Override) (env : Env) (base : ℕ) (first : Path) (flags : List Bool) (conn : ℕ) (bytes : List ℕ) (before new : Live) (t : Turn Event) → env_at limits.base plan first.state.machine.taken ≡ env
     → ComesWriting limits items plan base first flags before → turn limits env before.standing ≡ Some t → t.event ≡ Some (event.Emits conn bytes) → new ≡ live_after base before t → SendsOn limits items plan base first flags conn bytes new
 sends_last limits items plan env base first flags conn bytes before new t in_force came turns is left =
     let comes = came.comes in
@@ -114,7 +114,7 @@ sends_last limits items plan env base first flags conn bytes before new t in_for
     subst (λ (e : Option Event). Means limits env (standing_of comes.now) e t.standing) is (turn_means limits env (standing_of comes.now) t here) in
     let range : t.written ≡ writes limits items env comes.now = subst (λ (e : Option Event). WritesAs e t.written (writes limits items env comes.now)) is (turn_writes limits items env comes.now t here) in
     let served : served_next limits items env comes.now ≡ Some follows.next = served_next_more limits [] items env comes.now follows.next adds.0 in
-    let force : env_at plan comes.now.state.machine.taken ≡ env = ap (env_at plan) comes.goes.taken ∙ in_force in
+    let force : env_at limits.base plan comes.now.state.machine.taken ≡ env = ap (env_at limits.base plan) comes.goes.taken ∙ in_force in
     record {
       before = comes.now;
       quiet = comes.goes;
@@ -170,17 +170,17 @@ module _ {R : Type 0} {failure : Failure} {point : ℕ} {checkpoint : Path} {env
     ran_under : (result : Result Event AllocError) → Ran budget permits env old new result → RunsBy event.Emits (turn failure.rules.limits env) old.base (live_of old) result (live_of new)
     ran_under result ran =
         subst (λ (limits : Limits). RunsBy event.Emits (turn limits env) old.base (live_of old) result (live_of new)) (sym under)
-        (subst (λ (next : Standing → Option (Turn Event)). RunsBy event.Emits next old.base (live_of old) result (live_of new)) (turns_by (record (limits_of budget permits) { keep = failure.rules.limits.keep }) env) ran)
+        (subst (λ (next : Standing → Option (Turn Event)). RunsBy event.Emits next old.base (live_of old) result (live_of new)) (turns_by (record (limits_of budget permits) { keep = failure.rules.limits.keep; base = failure.rules.limits.base }) env) ran)
 
     -- its run goes on so, and writes the pages that the guest marks
     pub ran_on : (result : Result Event AllocError) → Ran budget permits env old new result → RunsWriting failure.rules.limits (items_of failure) (everywhere failure.rules.limits.keep env point) old.base t.path old.written result (live_of new)
     ran_on result ran =
-        runs_write failure.rules.limits (items_of failure) (everywhere failure.rules.limits.keep env point) env old.base t.path (live_of old) (live_of new) result t.lives (force_is failure.rules.limits.keep env point t.path.state.machine.taken t.failed.some_keep t.unharmed.early) t.stands (ran_under result ran)
+        runs_write failure.rules.limits (items_of failure) (everywhere failure.rules.limits.keep env point) env old.base t.path (live_of old) (live_of new) result t.lives (force_is failure.rules.limits.base failure.rules.limits.keep env point t.path.state.machine.taken t.failed.some_keep t.unharmed.early) t.stands (ran_under result ran)
 
     pub ran_sends : (conn : ℕ) (bytes : List ℕ) → Ran budget permits env old new (Ok (event.Emits conn bytes))
         → SendsOn failure.rules.limits (items_of failure) (everywhere failure.rules.limits.keep env point) old.base t.path old.written conn bytes (live_of new)
     ran_sends conn bytes ran =
         let runs = ran_under (Ok (event.Emits conn bytes)) ran in
-        let force = force_is failure.rules.limits.keep env point t.path.state.machine.taken t.failed.some_keep t.unharmed.early in
+        let force = force_is failure.rules.limits.base failure.rules.limits.keep env point t.path.state.machine.taken t.failed.some_keep t.unharmed.early in
         let came = comes_writing failure.rules.limits (items_of failure) (everywhere failure.rules.limits.keep env point) env old.base t.path (live_of old) runs.before runs.count t.lives force t.stands runs.quiet in
         sends_last failure.rules.limits (items_of failure) (everywhere failure.rules.limits.keep env point) env old.base t.path old.written conn bytes runs.before (live_of new) runs.last force came runs.turns runs.is_event runs.left

@@ -22,7 +22,7 @@ pub use Rattle.trials.proofs.Chained.{chained_adopt, chained_at, chained_from}
 pub use Rattle.trials.proofs.Going.{Behind, Compared, Equal, compare, steps_later}
 pub use Rattle.trials.proofs.Planned.{env_within, past_request, start_taken, trial_comes, trial_serves}
 pub use Rattle.trials.proofs.Results.{apart_asks_fails, asks_on}
-pub use Rattle.recovery.specs.Terms.{Adds, AllByRecursion, AllocError, AreBetween, AreChained, AreCheckpoints, AreInOrder, AreSendable, AsksFor, Before, Bounds, Carries, Cause, Chance, Chapter, Checkpoint, Choice, ComesTo, Connection, CoversBefore, CpuState, Entry, Env, Episode, Event, Fails, FailsBy, GoesOn, Heap, Image, IsBounded, IsCheckpoint, IsContradicted, IsFeasible, IsInOrder, IsItemOf, IsOpened, IsRecovery, IsRight, IsSendable, IsSilent, IsUnharmed, Item, KeepsItems, KeepsReplies, Ledger, LimitEvents, LimitItems, Limits, Live, Log, MAX_ITEMS, Machine, Marks, NotBefore, Override, Passed, Path, Plain, Prefix, Range, Recovery, Rules, RunsWriting, Send, Served, Shows, ShowsStill, Slots, Standing, State, Survivor, TakesOn, TakesWriting, TooLong, Trial, Tried, Try, Turn, WalksOver, Wants, Writes, adopted, base, begun, chance_at, chances_at, count_true, discarded, does_with, entries_of, env_at, environments, episode_of, events_of, everywhere, has_room, heeded, is_left, is_refused, items_in, largest, limits_of, listed, live_after, live_of, marks_of, may_pass, may_send, oldest_of, opens, origin, page_numbers, parts, passed_in, plan_of_trial, planned_next, position_or_len, received, refusal, restored, room_for, saved_in_ring, sent_to, standing_of, starting_path, survives, survivor_in, table, trial_sends, try_of, turn_of, until, with_live, with_range, with_trial_send, with_whole_oldest, writes}
+pub use Rattle.recovery.specs.Terms.{Adds, AllByRecursion, AllocError, AreBetween, AreChained, AreCheckpoints, AreInOrder, AreSendable, AsksFor, Before, Bounds, Carries, Cause, Chance, Chapter, Checkpoint, Choice, ComesTo, Connection, CoversBefore, CpuState, Entry, Env, Episode, Event, Fails, FailsBy, GoesOn, Heap, Image, IsBounded, IsCheckpoint, IsContradicted, IsFeasible, IsInOrder, IsItemOf, IsOpened, IsRecovery, IsRight, IsSendable, IsSilent, IsUnharmed, Item, KeepsItems, KeepsReplies, Ledger, LimitEvents, LimitItems, Limits, Live, Log, MAX_ITEMS, Machine, Marks, NotBefore, Override, Passed, Path, Prefix, Range, Recovery, Rules, RunsWriting, Send, Served, Shows, ShowsStill, Slots, Standing, State, Survivor, TakesOn, TakesWriting, TooLong, Trial, Tried, Try, Turn, WalksOver, Wants, Writes, adopted, base, begun, chance_at, chances_at, count_true, discarded, does_with, entries_of, env_at, environments, episode_of, events_of, everywhere, has_room, heeded, is_left, is_refused, items_in, largest, limits_of, listed, live_after, live_of, marks_of, may_pass, may_send, oldest_of, opens, origin, page_numbers, parts, passed_in, plan_of_trial, planned_next, position_or_len, received, refusal, restored, room_for, saved_in_ring, sent_to, standing_of, starting_path, survives, survivor_in, table, trial_sends, try_of, turn_of, until, with_live, with_range, with_trial_send, with_whole_oldest, writes}
 unfoldable pub use Rattle.recovery.specs.Terms.{agree, connection_of, grant, heeded_behind, instruction_at, is_open, parts_behind, pieces_until, served_next, serves, settled, stamped, stamped_of, stamped_to, stamps_of, start, start_machine, times_of, touched, turn, unpassed, waits}
 pub use Rattle.recovery.specs.declared.recoverable.Recoverable.{Recoverable}
 pub use Rattle.recovery.specs.declared.walking.Adopted.{Adopted}

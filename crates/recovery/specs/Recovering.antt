@@ -42,7 +42,7 @@ module _ {R : Type 0} where
     pub front : take held.recorded trial.path.choices ≡ take held.recorded failure.failed.choices
     pub from : slice_get failure.ring adopted.index ≡ Some trial.chance.checkpoint
     pub ring : KeepsRing failure.rules failure.image failure.entries (adopted_by failure.rules recovery trial).plan trial.path (drop adopted.index failure.ring) held.cpu held.log held.replies
-    pub in_force : IsInForce (adopted_by failure.rules recovery trial).plan failure.failed.state.machine.taken adopted.env (failure.failed.state.machine.taken + failure.rules.limits.keep)
+    pub in_force : IsInForce failure.rules.limits.base (adopted_by failure.rules recovery trial).plan failure.failed.state.machine.taken adopted.env (failure.failed.state.machine.taken + failure.rules.limits.keep)
     pub replies : KeepsReplies failure.rules.bounds failure.entries None trial.path.state.sends held.replies
     pub goes : CanGoOn failure.rules failure.entries trial.path
     pub enough : trial.path.steps ≤ failure.failed.steps + steps_of recovery.trials

@@ -1,7 +1,7 @@
 -- A session's checkpoints beside its log and its ledger.
 use Rattle.std.specs.Prelude.{◌≡◌, ℕ, ◌<◌, ◌≤◌, Bool, true, false, List, [], ◌∷◌, ◌++◌, length, take, replicate, nat_lt, if◌then◌else◌, IfSome, slice_get}
 use Rattle.guest_image.specs.Image as images
-use Rattle.recovery.specs.Terms.{Item, Entry, Env, Plain, saved_in_ring, Log, Ledger, Image, AsksFor, Override, Path, env_at, origin, CpuState, standing_of, Writes, events_of, heeded, items_in, Rules, opens, AreChained, AreCheckpoints}
+use Rattle.recovery.specs.Terms.{Item, Entry, Env, saved_in_ring, Log, Ledger, Image, AsksFor, Override, Path, env_at, origin, CpuState, standing_of, Writes, events_of, heeded, items_in, Rules, opens, AreChained, AreCheckpoints}
 use Rattle.recovery.specs.Sessions.{AreKept, CanGoOn, HasSaved}
 
 -- a guest that stands on its newest checkpoint
@@ -71,6 +71,6 @@ abbrev pub ring_if : Bool → ℕ → Path → List Path → List Path
 ring_if true count now ring = take count (now ∷ ring)
 ring_if false count now ring = ring
 
--- From so many items taken on an environment is in force, up to a number of items; then Plain.
-pub record IsInForce (plan : List Override) (taken : ℕ) (env : Env) (until : ℕ) : Type 0 where
-  pub in_force : (count : ℕ) → taken ≤ count → env_at plan count ≡ (if nat_lt count until then env else Plain)
+-- From so many items taken on an environment is in force, up to a number of items; then the base.
+pub record IsInForce (base : Env) (plan : List Override) (taken : ℕ) (env : Env) (until : ℕ) : Type 0 where
+  pub in_force : (count : ℕ) → taken ≤ count → env_at base plan count ≡ (if nat_lt count until then env else base)

@@ -57,9 +57,9 @@ items_of failure = items_in failure.rules.bounds failure.entries
 abbrev pub pieces_of : Failure → List Send
 pieces_of failure = passed_in failure.rules.bounds failure.entries
 
--- a session allows its guest so many instructions between two items, by this rule, for however many items it keeps an environment
+-- a session allows its guest so many instructions between two items, by this rule, whatever its environments are and for however many items
 abbrev pub IsUnder : Failure → ℕ → (Heap → ℕ → ℕ → Bool) → Type 0
-IsUnder failure budget permits = failure.rules.limits ≡ record (limits_of budget permits) { keep = failure.rules.limits.keep }
+IsUnder failure budget permits = failure.rules.limits ≡ record (limits_of budget permits) { keep = failure.rules.limits.keep; base = failure.rules.limits.base }
 
 -- the session failed so, with so many items taken
 pub record FailedAt {R : Type 0} (point : ℕ) (failure : Failure) (cpu : CpuState R) (log : Log) (ledger : Ledger) : Type 0 where

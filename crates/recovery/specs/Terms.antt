@@ -9,7 +9,6 @@ pub use Rattle.links.specs.declared.journal.Entry.{Entry}
 pub use Rattle.block_book.specs.declared.choice.Choice.{Choice}
 pub use Rattle.block_book.specs.Heap.{Heap}
 pub use Rattle.alloc_env.specs.declared.env.Env.{Env}
-pub use Rattle.alloc_env.specs.declared.env.Env.TheVariants.{Plain}
 pub use Rattle.ckpt_ring.specs.Line.{count_true}
 pub use Rattle.ckpt_ring.specs.Rings.{has_room, largest, room_for, saved_in_ring}
 pub use Rattle.ckpt_ring.specs.Slots.{Checkpoint, Slots, oldest_of, page_numbers, restored, with_whole_oldest, without_newer}

@@ -34,7 +34,7 @@ laid_out_behind : (limits : Limits) (items : List Item) (plan : List Override) (
 laid_out_behind limits items plan first {second = second} zero out ran = subst (λ (p : Path). IsLaidOut (guest_of p)) (same_Some first second ran) out
 laid_out_behind limits items plan first {second = second} (suc count) out ran =
     option_and_then_some (planned_next limits items plan) (serve limits items plan first count) second ran (λ mid before goes.
-    let env = env_at plan mid.state.machine.taken in
+    let env = env_at limits.base plan mid.state.machine.taken in
     laid_out_next limits items env mid second (laid_out_behind limits items plan first count out before) (serves_to limits items env mid second goes))
 
 -- no more blocks are live than stand
@@ -140,7 +140,7 @@ served_has_room limits image items plan {path = path} {count = count} ran earlie
     let split = sym (repeated_add (planned_next limits items plan) (origin image) earlier rest) ∙ ap (λ (n : ℕ). serve limits items plan (origin image) n) (sym parts) ∙ ran in
     option_and_then_some (λ (p : Path). serve limits items plan p rest) (serve limits items plan (origin image) earlier) path split (λ mid before behind.
     let steps = first_of_steps (planned_next limits items plan) rest mid path later behind in
-    let env = env_at plan mid.state.machine.taken in
+    let env = env_at limits.base plan mid.state.machine.taken in
     let first = served_follows limits items plan (origin image) mid earlier refl before in
     let step = serves_to limits items env mid steps.0 steps.2 in
     let used = serves_used limits items env mid steps.0 first.used step in

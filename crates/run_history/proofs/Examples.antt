@@ -1,11 +1,12 @@
 -- The definitions at values that were worked out by hand from the RISC-V manual's formats and the ELF specification.
+use Rattle.alloc_env.specs.declared.env.Env.TheVariants.{Delay, Pad, Plain}
 use Rattle.rv_isa.specs.declared.instr.BranchOp.TheVariants.{Beq, Blt, Bgeu}
 use Rattle.rv_isa.specs.declared.instr.LoadOp.TheVariants.{Lb, Lh, Lw, Lbu, Lhu}
 use Rattle.rv_isa.specs.declared.instr.StoreOp.TheVariants.{Sb, Sh, Sw}
 use Rattle.rv_isa.specs.declared.instr.ImmOp.TheVariants.{Addi, Srai}
 use Rattle.rv_isa.specs.declared.instr.RegOp.TheVariants.{Add, Div}
 use Rattle.guest_image.proofs.Examples.{echo_bytes, echo_image}
-use Rattle.run_history.proofs.Terms.{Bool, List, None, Option, Some, [], false, map, refl, replicate, true, ℕ, ◌++◌, ◌∷◌, ◌≡◌, flat_map, negsuc, option_and_then, pos, Item, sent_to, Calloc, Malloc, Realloc, Choice, is_allowed, is_block, is_clear, may_carry, Delay, Pad, Plain, Branch, Ecall, Jal, Load, Lui, Op, OpImm, Store, displaced, extended, indirect_target, is_less_signed, quotient_signed, shifted_right_signed, word_sum, base_op, branch_op, branch_row, imm_op, imm_row, load_op, load_row, op_row, reg_op, row, store_op, store_row, system_row, funct3, funct7, imm_b, imm_i, imm_j, imm_s, imm_u, little_bytes, little_number, opcode, rd, rs1, rs2, base, heap_end, heap_start, zeros, Area, permitted, read, AssertFailed, BadAccess, BadCall, BadFree, BadJump, Hang, Chooses, Emits, Ends, Fails, Goes, Machine, State, register, start_machine, with_register, auipc, branch, ebreak, fence, jal, jalr, load, op, op_imm, store, allocated, answered, call, freed, received, send, set_bytes, does, instruction, next, run, Guest, Limits, Override, env_at, serves}
+use Rattle.run_history.proofs.Terms.{Bool, List, None, Option, Some, [], false, map, refl, replicate, true, ℕ, ◌++◌, ◌∷◌, ◌≡◌, flat_map, negsuc, option_and_then, pos, Item, sent_to, Calloc, Malloc, Realloc, Choice, is_allowed, is_block, is_clear, may_carry, Branch, Ecall, Jal, Load, Lui, Op, OpImm, Store, displaced, extended, indirect_target, is_less_signed, quotient_signed, shifted_right_signed, word_sum, base_op, branch_op, branch_row, imm_op, imm_row, load_op, load_row, op_row, reg_op, row, store_op, store_row, system_row, funct3, funct7, imm_b, imm_i, imm_j, imm_s, imm_u, little_bytes, little_number, opcode, rd, rs1, rs2, base, heap_end, heap_start, zeros, Area, permitted, read, AssertFailed, BadAccess, BadCall, BadFree, BadJump, Hang, Chooses, Emits, Ends, Fails, Goes, Machine, State, register, start_machine, with_register, auipc, branch, ebreak, fence, jal, jalr, load, op, op_imm, store, allocated, answered, call, freed, received, send, set_bytes, does, instruction, next, run, Guest, Limits, Override, env_at, serves}
 
 -- A program that sends back each message. Its words, as an assembler gives them:
 abbrev pub echo : List ℕ
@@ -515,7 +516,7 @@ free_nothing = refl
 -- an empty budget is tested before all else, and the rule before the instruction is done; no word is fetched from where
 -- none may be executed
 abbrev pub forbidding : ℕ → Limits
-forbidding budget = record { budget = budget; permits = λ heap at count. false; keep = 4 }
+forbidding budget = record { budget = budget; permits = λ heap at count. false; keep = 4; base = Plain }
 
 abbrev pub guest : ℕ → Guest
 guest pc = record { machine = record waiting { pc = pc }; heap = record { start = 0x1000; end = 0x2000; blocks = [] } }
@@ -532,7 +533,7 @@ fetch_outside = refl
 abbrev pub planned : List Override
 planned = record { low = 4; until = 9; env = Delay } ∷ record { low = 2; until = 7; env = Pad } ∷ []
 
-pub envs : map (env_at planned) (0 ∷ 1 ∷ 2 ∷ 3 ∷ 4 ∷ 8 ∷ 9 ∷ []) ≡ Plain ∷ Plain ∷ Pad ∷ Pad ∷ Delay ∷ Delay ∷ Plain ∷ []
+pub envs : map (env_at Plain planned) (0 ∷ 1 ∷ 2 ∷ 3 ∷ 4 ∷ 8 ∷ 9 ∷ []) ≡ Plain ∷ Plain ∷ Pad ∷ Pad ∷ Delay ∷ Delay ∷ Plain ∷ []
 envs = refl
 
 -- the sends of a connection, in their order

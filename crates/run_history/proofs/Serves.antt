@@ -211,7 +211,7 @@ served_follows limits items plan first second zero used ran =
 served_follows limits items plan first second (suc n) used ran =
     option_and_then_some (planned_next limits items plan) (serve limits items plan first n) second ran (λ mid before goes.
     let earlier = served_follows limits items plan first mid n used before in
-    let env = env_at plan mid.state.machine.taken in
+    let env = env_at limits.base plan mid.state.machine.taken in
     let parts = serves_to limits items env mid second goes in
     let last = serves_next limits items env mid second earlier.used parts in
     record {
@@ -266,4 +266,4 @@ served_next_more limits items more env path to goes = of_ended path.state.ended 
 pub served_more : (limits : Limits) (items more : List Item) (plan : List Override) (first second : Path) (n : ℕ) → serve limits items plan first n ≡ Some second → serve limits (items ++ more) plan first n ≡ Some second
 served_more limits items more plan first second n ran =
     repeated_as (planned_next limits items plan) (planned_next limits (items ++ more) plan)
-    (λ x y goes. served_next_more limits items more (env_at plan x.state.machine.taken) x y goes) n first second ran
+    (λ x y goes. served_next_more limits items more (env_at limits.base plan x.state.machine.taken) x y goes) n first second ran

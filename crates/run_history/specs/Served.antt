@@ -1,18 +1,19 @@
 -- A served run: malloc, calloc, realloc and free are answered by the environment in force, an access rule is asked for each byte that is
 -- touched, and a budget bounds the instructions between two items.
 use Rattle.std.specs.Prelude.{◌≡◌, ℕ, ◌+◌, Bool, false, not, List, [], ◌∷◌, ◌++◌, Option, Some, None, is_some, option_map, slice_get, nat_le, nat_lt, if◌then◌else◌, ◌==◌}
-use Rattle.run_history.specs.Terms.{Item, Ask, Calloc, Malloc, Realloc, Choice, live_blocks, Heap, IsHeap, empty_heap, Env, Plain, served_ask, served_free, Instr, Ecall, Image, heap_end, heap_start, Cause, BadAccess, BadFree, Hang}
+use Rattle.run_history.specs.Terms.{Item, Ask, Calloc, Malloc, Realloc, Choice, live_blocks, Heap, IsHeap, empty_heap, Env, served_ask, served_free, Instr, Ecall, Image, heap_end, heap_start, Cause, BadAccess, BadFree, Hang}
 use Rattle.run_history.specs.Machine.{Machine, State, register, start, Effect, Wants, Fails}
 use Rattle.run_history.specs.Run.{does, after}
 use Rattle.run_history.specs.Repeating.{repeated}
 use Rattle.run_history.specs.Touching.{Range, instruction_at, touched}
 
 -- What a session allows: so many instructions between two items, and by a rule, which looks at the blocks of the heap, each range of bytes that is
--- touched; and for how many items behind a failure the environment of the trial that is adopted stays in force.
+-- touched; for how many items behind a failure the environment of the trial that is adopted stays in force; and which one is in force where none does.
 pub record Limits : Type 0 where
   pub budget : ℕ
   pub permits : Heap → ℕ → ℕ → Bool
   pub keep : ℕ
+  pub base : Env
 
 -- a machine, and the layout of its heap
 pub record Guest : Type 0 where
@@ -110,23 +111,23 @@ served_next limits items env path =
     option_map (longer path (grant env (guest_of path))) (after path.state (serves limits env (slice_get items path.state.machine.taken) (guest_of path)))
 
 -- A plan of environments, the latest first: each has its environment for the counts of items taken from one count up to
--- another, which isn't one of them, and Plain from there on. Before its first count the earlier ones are in force.
+-- another, which isn't one of them, and the base from there on. Before its first count the earlier ones are in force.
 pub record Override : Type 0 where
   pub low : ℕ
   pub until : ℕ
   pub env : Env
 
--- the environment that is in force at a count of items taken
-abbrev pub env_at : List Override → ℕ → Env
-env_at [] count = Plain
-env_at (override ∷ plan) count =
-    if nat_lt count override.low then env_at plan count else
+-- the environment that is in force at a count of items taken: the base where the plan has none
+abbrev pub env_at : Env → List Override → ℕ → Env
+env_at base [] count = base
+env_at base (override ∷ plan) count =
+    if nat_lt count override.low then env_at base plan count else
     if nat_lt count override.until then override.env else
-    Plain
+    base
 
 -- one more instruction of a run under a plan
 abbrev pub planned_next : Limits → List Item → List Override → Path → Option Path
-planned_next limits items plan path = served_next limits items (env_at plan path.state.machine.taken) path
+planned_next limits items plan path = served_next limits items (env_at limits.base plan path.state.machine.taken) path
 
 -- so many more instructions of a run under a plan
 abbrev pub serve : Limits → List Item → List Override → Path → ℕ → Option Path
@@ -140,10 +141,10 @@ pub record Served (limits : Limits) (items : List Item) (plan : List Override) (
 -- a run fails by this cause at its next instruction
 pub record FailsBy (limits : Limits) (plan : List Override) (path : Path) (cause : Cause) : Type 0 where
   pub lives : path.state.ended ≡ None
-  pub fails : serves limits (env_at plan path.state.machine.taken) None (guest_of path) ≡ Fails cause
+  pub fails : serves limits (env_at limits.base plan path.state.machine.taken) None (guest_of path) ≡ Fails cause
 
 -- a run stands at its request for the item of a number
 pub record AsksFor (limits : Limits) (plan : List Override) (path : Path) (item : ℕ) : Type 0 where
   pub lives : path.state.ended ≡ None
   pub taken : path.state.machine.taken ≡ item
-  pub asks : serves limits (env_at plan path.state.machine.taken) None (guest_of path) ≡ Wants
+  pub asks : serves limits (env_at limits.base plan path.state.machine.taken) None (guest_of path) ≡ Wants

@@ -5,11 +5,10 @@ pub use Rattle.rx_base.specs.Sends.{Send, sent_to}
 pub use Rattle.block_book.specs.declared.choice.Ask.{Ask}
 pub use Rattle.block_book.specs.declared.choice.Ask.TheVariants.{Calloc, Malloc, Realloc}
 pub use Rattle.block_book.specs.declared.choice.Choice.{Choice}
-pub use Rattle.block_book.specs.Answer.{bytes_asked, is_defined, kept_count, live_blocks, live_with, moved_count, replaced, size_at, without_live}
+pub use Rattle.block_book.specs.Answer.{bytes_asked, is_defined, live_blocks, live_with, moved_count, replaced, without_live}
 unfoldable pub use Rattle.block_book.specs.Answer.{is_allowed, is_block, is_clear, may_carry}
 pub use Rattle.block_book.specs.Heap.{Heap, IsHeap, empty_heap}
 pub use Rattle.alloc_env.specs.declared.env.Env.{Env}
-pub use Rattle.alloc_env.specs.declared.env.Env.TheVariants.{Delay, Pad, Plain}
 pub use Rattle.alloc_env.specs.Serving.{Served}
 unfoldable pub use Rattle.alloc_env.specs.Serving.{served_ask, served_free}
 pub use Rattle.rv_isa.specs.declared.instr.BranchOp.{BranchOp}

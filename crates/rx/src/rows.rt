@@ -144,7 +144,7 @@ pub fn rest_of(
                 } else {
                     ""
                 },
-                ". They have to be of this program, and of this input from its beginning, made under no larger budget, under no weaker guard and with the same --keep",
+                ". They have to be of this program, and of this input from its beginning, made under no larger budget, under no weaker guard and with the same --keep and --env",
             ],
             (_, Some(difference)) => [
                 difference_text(difference),

@@ -12,7 +12,7 @@ module _ {R : Type 0} {rules here : Rules} {image : Image} {handed : Handed} {to
   pub fails_whole : FailsBy rules.limits (plan_of rules.limits.keep handed.episodes) w.stands.now w.cause
   fails_whole = record {
     lives = w.fails.lives;
-    fails = subst (λ (e : Env). serves rules.limits e None (guest_of w.stands.now) ≡ Fails w.cause) (up_to_same (plan_of rules.limits.keep handed.episodes) w.stands.now.state.machine.taken w.stands.now.state.machine.taken (omega arith)) w.fails.fails;
+    fails = subst (λ (e : Env). serves rules.limits e None (guest_of w.stands.now) ≡ Fails w.cause) (up_to_same rules.limits.base (plan_of rules.limits.keep handed.episodes) w.stands.now.state.machine.taken w.stands.now.state.machine.taken (omega arith)) w.fails.fails;
   }
 
   -- where it is judged by the counts of the session

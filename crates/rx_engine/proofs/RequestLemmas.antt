@@ -20,7 +20,7 @@ use Rattle.rx_engine.proofs.Terms.{List, [], ap, append-nil, arith, drop, inl, i
 module _ {R : Type 0} {rules here : Rules} {image : Image} {handed : Handed} {told : Told} {seen : Seen} {before noted : Noted} {missing : List ℕ} {session : SessionState R} (a : AsksOn rules here image handed told seen before noted missing session) where
   -- it asks so under the whole plan of the report
   pub asks_whole : AsksFor rules.limits (plan_of rules.limits.keep handed.episodes) a.stands.now a.stands.now.state.machine.taken
-  asks_whole = asks_under_all rules.limits (plan_up_to (plan_of rules.limits.keep handed.episodes) a.stands.now.state.machine.taken) (plan_of rules.limits.keep handed.episodes) a.stands.now a.stands.now.state.machine.taken a.asks
+  asks_whole = asks_under_all rules.limits (plan_up_to rules.limits.base (plan_of rules.limits.keep handed.episodes) a.stands.now.state.machine.taken) (plan_of rules.limits.keep handed.episodes) a.stands.now a.stands.now.state.machine.taken a.asks
 
   -- where it is judged by the counts of the session
   pub judged_request : IsJudgedAt rules.limits (enough a.stands.now.state.machine.taken) handed a.stands.now (AtRequest asks_whole) missing kind.Request session.taken session.steps (session.recorded + length session.choices) false

@@ -20,7 +20,7 @@ module _ {R : Type 0} (permits : R → Heap → ℕ → ℕ → Bool) {rules : R
   ran_rules = λ i. rules_in (ap (λ (t : SessionState R). t.options) same i) (ap (λ (t : SessionState R). t.before) same i) (ap (λ (t : SessionState R). t.hold) same i) (permits ((ap (λ (c : CpuState R). c.rule) kept ∙ ap (λ (t : SessionState R). t.cpu.rule) same) i))
 
   pub runs_to : (result : Result Event AllocError) → Ran permits env inside cpu result
-      → RunsWriting rules.limits (items_in (rules_following (held_back rules) handed s.events s.now).bounds []) (plan_up_to (plan_of rules.limits.keep handed.episodes) s.now.state.machine.taken) old.cpu.base s.now old.cpu.written result (live_of cpu)
+      → RunsWriting rules.limits (items_in (rules_following (held_back rules) handed s.events s.now).bounds []) (plan_up_to rules.limits.base (plan_of rules.limits.keep handed.episodes) s.now.state.machine.taken) old.cpu.base s.now old.cpu.written result (live_of cpu)
   runs_to result ran = ran_to permits cpu result (ap (λ (r : Rules). r.limits) s.here_is) force same s.follows ran
 
   pub run_on : {found happened : Event} → found ≡ happened → Ran permits env inside cpu (Ok found) → HasRunOn rules (rules_by permits (record inside { cpu = cpu })) image handed told seen before noted missing happened (record inside { cpu = cpu })
@@ -45,7 +45,7 @@ module _ {R : Type 0} (permits : R → Heap → ℕ → ℕ → Bool) {rules : R
       (omega (arith, answers, there, later), omega (arith, from, there, later))
 
   -- and where it sent or asked the allocator it has done more of them
-  more_than : (happened : Event) (runs : RunsWriting rules.limits (items_in (rules_following (held_back rules) handed s.events s.now).bounds []) (plan_up_to (plan_of rules.limits.keep handed.episodes) s.now.state.machine.taken) old.cpu.base s.now old.cpu.written (Ok happened) (live_of cpu))
+  more_than : (happened : Event) (runs : RunsWriting rules.limits (items_in (rules_following (held_back rules) handed s.events s.now).bounds []) (plan_up_to rules.limits.base (plan_of rules.limits.keep handed.episodes) s.now.state.machine.taken) old.cpu.base s.now old.cpu.written (Ok happened) (live_of cpu))
       → s.now.steps < runs.ran.now.steps → old.cpu.slots.live.steps < cpu.slots.live.steps
   more_than happened runs more =
       let from : old.cpu.slots.live.steps ≡ s.now.steps = ap (λ (t : Standing). t.steps) s.follows.stands.goes.guest in
@@ -98,7 +98,7 @@ module _ {R : Type 0} (permits : R → Heap → ℕ → ℕ → Bool) {rules : R
       let to : Path = h.runs.ran.now in
       record {
         stands = moves permits h is comes.0.choices comes.0.sends comes.1.lives;
-        asks = subst (λ (n : ℕ). AsksFor rules.limits (plan_up_to plan n) to n) (sym still) comes.1;
+        asks = subst (λ (n : ℕ). AsksFor rules.limits (plan_up_to rules.limits.base plan n) to n) (sym still) comes.1;
       }
 
   pub fails_on : {cause : Cause} → HasRunOn rules (rules_by permits ran) image handed told seen before noted missing (step.Failed cause) ran → FailsOn rules (rules_by permits new) image handed told seen before noted missing new
@@ -111,7 +111,7 @@ module _ {R : Type 0} (permits : R → Heap → ℕ → ℕ → Bool) {rules : R
       record {
         stands = moves permits h is comes.0.choices comes.0.sends comes.1.lives;
         cause = cause;
-        fails = subst (λ (n : ℕ). FailsBy rules.limits (plan_up_to plan n) to cause) (sym still) comes.1;
+        fails = subst (λ (n : ℕ). FailsBy rules.limits (plan_up_to rules.limits.base plan n) to cause) (sym still) comes.1;
       }
 
 module _ {R : Type 0} where

@@ -68,7 +68,12 @@ impl<R: AccessRule> Session<R> {
         ensures one { self.new.cpu.slots.live.steps ≡ self.old.cpu.slots.live.steps + 1 }
     {
         self.take(steps);
-        self.env = env_planned(handed.episodes, self.taken, self.options.keep);
+        self.env = env_planned(
+            handed.episodes,
+            self.taken,
+            self.options.keep,
+            self.options.base,
+        );
         self.until = self.taken + 1;
         self.past = Past::of(&Took {
             past: &self.past,

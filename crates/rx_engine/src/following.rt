@@ -80,7 +80,7 @@ impl<R: AccessRule> Session<R> {
         ensures trimmed { IsTrimmed self.new }
     {
         self.save_start();
-        self.env = env_planned(handed.episodes, 0, self.options.keep);
+        self.env = env_planned(handed.episodes, 0, self.options.keep, self.options.base);
         self.until = 1;
         self.hold = u32::MAX;
         self.past = Past::of(&Began {

@@ -63,7 +63,7 @@ impl<R: AccessRule + Drop> Session<R> {
             events: 0,
             taken: 0,
             steps: 0,
-            env: Env::Plain,
+            env: options.base,
             until: 0,
             past: Past::of(&Nothing),
             hold: options.hold,
@@ -136,7 +136,7 @@ impl<R: AccessRule> Session<R> {
         if self.taken < self.until {
             return self.env;
         }
-        Env::Plain
+        self.options.base
     }
 
     /// The counts of the guest's run are those that the session answers for.

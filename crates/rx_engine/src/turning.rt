@@ -103,7 +103,12 @@ impl<R: AccessRule> Session<R> {
         ensures keeps { KeepsOldest self.old self.new × (self.new.options ≡ self.old.options) × (self.new.cpu ≡ self.old.cpu) × HasSameOpen self.old.replies self.new.replies }
         ensures low { self.old.steps ≤ self.old.cpu.slots.live.steps → self.new.steps ≤ self.new.cpu.slots.live.steps }
     {
-        let (env, until) = in_force(handed.episodes, self.taken, self.options.keep);
+        let (env, until) = in_force(
+            handed.episodes,
+            self.taken,
+            self.options.keep,
+            self.options.base,
+        );
         self.env = env;
         self.until = until;
         self.hold = self.options.hold;

@@ -60,7 +60,7 @@ counts_few first budget path to (Stops is code ended) lives early counts few = r
 -- one more instruction of a run under a plan
 next_few : (first : ℕ) (limits : Limits) (items : List Item) (plan : List Override) (path to : Path) → planned_next limits items plan path ≡ Some to → IsFew first limits.budget path → IsFew first limits.budget to
 next_few first limits items plan path to goes few =
-    let parts = serves_to limits items (env_at plan path.state.machine.taken) path to goes in
+    let parts = serves_to limits items (env_at limits.base plan path.state.machine.taken) path to goes in
     counts_few first limits.budget path to (does_counts path.state to.state _ parts.given.chosen parts.goes) parts.lives parts.early parts.steps few
 
 -- A run that is served from somewhere on has behind that no more instructions than the budget and one for each item that it took, and as many after the
@@ -107,6 +107,6 @@ few_taken limits items plan from path most served few low =
     repeated_keeps (planned_next limits items plan) (λ x y. x.state.machine.taken ≤ most → y.state.machine.taken ≤ most)
     (λ x low. low) (λ x y z one other low. other (one low))
     (λ x y goes low.
-    let parts = serves_to limits items (env_at plan x.state.machine.taken) x y goes in
+    let parts = serves_to limits items (env_at limits.base plan x.state.machine.taken) x y goes in
     takes_few most items x.state y.state parts.given.chosen parts.goes few low)
     served.more from path served.ran low

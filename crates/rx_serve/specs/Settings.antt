@@ -19,6 +19,7 @@ options_of value = record {
   frames = value.frames;
   budget = value.budget;
   keep = value.keep;
+  base = value.env;
   max_items = MAX_ITEMS;
   max_events = MAX_EVENTS;
 }

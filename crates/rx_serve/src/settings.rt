@@ -26,6 +26,7 @@ pub fn options_of(run: &RunCommand<'_>) -> Options
         frames: run.frames,
         budget: run.budget,
         keep: run.keep,
+        base: run.env,
         max_items: MAX_ITEMS,
         max_events: MAX_EVENTS,
     }

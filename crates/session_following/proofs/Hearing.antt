@@ -13,7 +13,7 @@ module _ {R : Type 0} where
 
   -- an event was heard that closes nothing: the log and the ledger know it, and nothing is passed
   pub event_following : {rules : Rules} {image : Image} {handed : Handed} {events : List LinkEvent} {now : Path} {began : Since} {was seen : Seen} {old : SessionState R} {log : Log} {ledger : Ledger} {count : ℕ} (e : LinkEvent) → rules.bounds.before ≡ nothing_before
-      → IsFollowing rules image handed events now began was.phases old → IsNotReached rules.limits handed now → AsksFor rules.limits (plan_up_to (plan_of rules.limits.keep handed.episodes) now.state.machine.taken) now now.state.machine.taken → logs.received old.log ≤ old.taken
+      → IsFollowing rules image handed events now began was.phases old → IsNotReached rules.limits handed now → AsksFor rules.limits (plan_up_to rules.limits.base (plan_of rules.limits.keep handed.episodes) now.state.machine.taken) now now.state.machine.taken → logs.received old.log ≤ old.taken
       → closing_of e ≡ None → HeardEvent (rules_following rules handed events now).bounds [] now.state.sends was seen log ledger count e → log.first ≡ old.log.first → ledger.first ≡ old.replies.first → ledger.trial ≡ None
       → IsFollowing rules image handed (events ++ e ∷ []) now began seen.phases (with_heard old log ledger count)
   event_following {rules = rules} {handed = handed} {events = events} {now = now} {was = was} {old = old} {log = log} {ledger = ledger} {count = count} e alone f not_yet asks none_left quiet h kept first no_trial =
@@ -22,7 +22,7 @@ module _ {R : Type 0} where
 
   -- a close was heard, and is marked
   pub close_following : {rules : Rules} {image : Image} {handed : Handed} {events : List LinkEvent} {now : Path} {began : Since} {was seen : Seen} {old : SessionState R} {log : Log} {ledger : Ledger} {count : ℕ} (conn : ℕ) → rules.bounds.before ≡ nothing_before
-      → IsFollowing rules image handed events now began was.phases old → IsNotReached rules.limits handed now → AsksFor rules.limits (plan_up_to (plan_of rules.limits.keep handed.episodes) now.state.machine.taken) now now.state.machine.taken → logs.received old.log ≤ old.taken
+      → IsFollowing rules image handed events now began was.phases old → IsNotReached rules.limits handed now → AsksFor rules.limits (plan_up_to rules.limits.base (plan_of rules.limits.keep handed.episodes) now.state.machine.taken) now now.state.machine.taken → logs.received old.log ≤ old.taken
       → HeardEvent (rules_following rules handed events now).bounds [] now.state.sends was seen log ledger count (event.Closes conn) → log.first ≡ old.log.first → ledger.first ≡ old.replies.first → ledger.trial ≡ None
       → IsFollowing rules image handed (events ++ event.Closes conn ∷ []) now began seen.phases (with_heard old log (with_change ledger conn closed_connection) count)
   close_following {rules = rules} {handed = handed} {events = events} {now = now} {was = was} {old = old} {log = log} {ledger = ledger} {count = count} conn alone f not_yet asks none_left h kept first no_trial =

@@ -10,17 +10,17 @@ use Rattle.session_following.proofs.Steps.{IsMarked}
 module _ {R : Type 0} where
   -- its environment is in force up to the next item alone, for which it asks: so it ends within as many items as environments are kept for
   ends_following : {rules : Rules} {image : Image} {handed : Handed} {events : List LinkEvent} {now : Path} {began : Since} {phases : Phases} {session : SessionState R} → IsFollowing rules image handed events now began phases session
-      → AsksFor rules.limits (plan_up_to (plan_of rules.limits.keep handed.episodes) now.state.machine.taken) now now.state.machine.taken → EndsWithin rules.limits session.until now
+      → AsksFor rules.limits (plan_up_to rules.limits.base (plan_of rules.limits.keep handed.episodes) now.state.machine.taken) now now.state.machine.taken → EndsWithin rules.limits session.until now
   ends_following {rules = rules} {handed = handed} {now = now} {session = session} f asks =
       elim (cases_lt session.until (now.state.machine.taken + rules.limits.keep)) [
         | inl less ↦ inl less
-        | inr most ↦ inr (omega (arith, f.until, f.some_keep, most), asks_under_all rules.limits (plan_up_to (plan_of rules.limits.keep handed.episodes) now.state.machine.taken) [] now now.state.machine.taken asks)
+        | inr most ↦ inr (omega (arith, f.until, f.some_keep, most), asks_under_all rules.limits (plan_up_to rules.limits.base (plan_of rules.limits.keep handed.episodes) now.state.machine.taken) [] now now.state.machine.taken asks)
       ]
 
   -- it waits for an item, where it holds back more items than it may receive
   pub waiting_following : {rules : Rules} {image : Image} {handed : Handed} {events : List LinkEvent} {now : Path} {began : Since} {seen : Seen} {session : SessionState R} → IsFollowing rules image handed events now began seen.phases session → began.told ≡ seen.told → began.lost ≡ 0
       → Grew began.noted_before.episodes began.noted.episodes [] → TellsMore began.tables_before began.tables (AreTables (rules_following rules handed events now) [] [] []) → rules.bounds.max_items < rules.hold
-      → AsksFor rules.limits (plan_up_to (plan_of rules.limits.keep handed.episodes) now.state.machine.taken) now now.state.machine.taken → IsWaitingFor (rules_following rules handed events now) image began seen session
+      → AsksFor rules.limits (plan_up_to rules.limits.base (plan_of rules.limits.keep handed.episodes) now.state.machine.taken) now now.state.machine.taken → IsWaitingFor (rules_following rules handed events now) image began seen session
   waiting_following {rules = rules} {handed = handed} {events = events} {now = now} f told lost episodes tables most asks =
       just_hearing f.stands (ends_following f asks) told lost episodes tables asks (let few = f.stands.goes.few in omega (arith, few, most))
 
@@ -39,7 +39,7 @@ module _ {R : Type 0} where
       → AreStampedBy now.state.machine.taken session.replies
   stamped_following {rules = rules} {image = image} {handed = handed} {events = events} {now = now} {session = session} f =
       stamped_by now.state.machine.taken (subst (Shows session.replies now.state.sends) (append-nil (held handed.counts now.state.sends)) f.stands.replies.shows)
-      (held_is_in_order rules.limits (items_in (rules_following rules handed events now).bounds []) (plan_up_to (plan_of rules.limits.keep handed.episodes) now.state.machine.taken) image now handed.counts f.stands.sound.carries.served)
+      (held_is_in_order rules.limits (items_in (rules_following rules handed events now).bounds []) (plan_up_to rules.limits.base (plan_of rules.limits.keep handed.episodes) now.state.machine.taken) image now handed.counts f.stands.sound.carries.served)
 
 pub is_marked : (before now : Noted) → IsMarked (marked before now) nothing_told
 is_marked before now = record { told = refl; still = refl; tables_before = refl; tables = refl }
@@ -77,6 +77,6 @@ module _ {R : Type 0} where
 
   -- where it waits for an item, it does as an ordinary session, told so
   pub marked_following : {rules : Rules} {image : Image} {handed : Handed} {events : List LinkEvent} {now : Path} {before noted : Noted} (seen : Seen) {session : SessionState R} → IsFollowing rules image handed events now (marked before noted) seen.phases session → Grew before.episodes noted.episodes []
-      → rules.bounds.max_items < rules.hold → AsksFor rules.limits (plan_up_to (plan_of rules.limits.keep handed.episodes) now.state.machine.taken) now now.state.machine.taken
+      → rules.bounds.max_items < rules.hold → AsksFor rules.limits (plan_up_to rules.limits.base (plan_of rules.limits.keep handed.episodes) now.state.machine.taken) now now.state.machine.taken
       → IsWaitingFor (rules_following rules handed events now) image (marked before noted) (record seen { told = nothing_told }) session
   marked_following seen f episodes most asks = waiting_following {seen = record seen { told = nothing_told }} f refl refl episodes ([], refl, tt) most asks

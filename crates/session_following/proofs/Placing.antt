@@ -1,7 +1,7 @@
 -- The environment that is in force behind the last episode of a report.
 use Rattle.std.specs.Option.{option_map_or}
 use Rattle.trials.specs.Trials.{plan_of_trial}
-use Rattle.session_following.proofs.Terms.{Bool, List, None, Option, Some, [], ap, arith, cond, get_or, length, ltb, refl, subst, sym, take, ℕ, ◌++◌, ◌+◌, ◌-◌, ◌∙◌, ◌∷◌, ◌≡◌, ◌≤◌, false≢true, le-ltb, take_all, take_more, last_or, IfSome, is_some, Plain, Override, env_at, Episode, Try, AreWellPlaced, IsWellPlaced, adopted_try, first_count, plan_behind, plan_from, plan_of, IsInForce, EndsAfter, IsFollowedBy}
+use Rattle.session_following.proofs.Terms.{Bool, List, None, Option, Some, [], ap, arith, cond, get_or, length, ltb, refl, subst, sym, take, ℕ, ◌++◌, ◌+◌, ◌-◌, ◌∙◌, ◌∷◌, ◌≡◌, ◌≤◌, false≢true, le-ltb, take_all, take_more, last_or, IfSome, is_some, Env, Override, env_at, Episode, Try, AreWellPlaced, IsWellPlaced, adopted_try, first_count, plan_behind, plan_from, plan_of, IsInForce, EndsAfter, IsFollowedBy}
 
 -- the plan behind an episode of which a trial survived
 behind_trial : (keep : ℕ) (plan : List Override) (episode : Episode) (attempt : Try) → adopted_try episode.tries ≡ Some attempt → plan_behind keep plan episode ≡ plan_of_trial keep plan attempt.checkpoint attempt.env episode.point
@@ -28,20 +28,20 @@ plan_end keep plan [] episode = refl
 plan_end keep plan (first ∷ episodes) episode = plan_end keep (plan_behind keep plan first) episodes episode
 
 -- what is in force behind it
-pub last_in_force : (keep : ℕ) (episodes : List Episode) (episode : Episode) (attempt : Try) (taken : ℕ) → 1 ≤ length episodes → episode ≡ get_or episodes (length episodes - 1) episode → adopted_try episode.tries ≡ Some attempt
-    → first_count attempt.checkpoint ≤ episode.point → episode.point ≤ taken → IsInForce (plan_of keep episodes) taken attempt.env (episode.point + keep)
-last_in_force keep episodes episode attempt taken some last is placed behind =
+pub last_in_force : (base : Env) (keep : ℕ) (episodes : List Episode) (episode : Episode) (attempt : Try) (taken : ℕ) → 1 ≤ length episodes → episode ≡ get_or episodes (length episodes - 1) episode → adopted_try episode.tries ≡ Some attempt
+    → first_count attempt.checkpoint ≤ episode.point → episode.point ≤ taken → IsInForce base (plan_of keep episodes) taken attempt.env (episode.point + keep)
+last_in_force base keep episodes episode attempt taken some last is placed behind =
     let front : List Episode = take (length episodes - 1) episodes in
     let whole : plan_of keep episodes ≡ plan_of_trial keep (plan_of keep front) attempt.checkpoint attempt.env episode.point = ap (plan_of keep) (last_split episodes episode some last) ∙ (plan_end keep [] front episode ∙ behind_trial keep (plan_of keep front) episode attempt is) in
     record {
       in_force = λ count from.
-          ap (λ (p : List Override). env_at p count) whole
-          ∙ ap (λ (b : Bool). cond b (env_at (plan_of keep front) count) (cond (ltb count (episode.point + keep)) attempt.env Plain)) (le-ltb count (first_count attempt.checkpoint) (omega (arith, from, placed, behind)));
+          ap (λ (p : List Override). env_at base p count) whole
+          ∙ ap (λ (b : Bool). cond b (env_at base (plan_of keep front) count) (cond (ltb count (episode.point + keep)) attempt.env base)) (le-ltb count (first_count attempt.checkpoint) (omega (arith, from, placed, behind)));
     }
 
--- without an episode it is Plain
-pub none_in_force : (keep : ℕ) (episodes : List Episode) (taken : ℕ) → episodes ≡ [] → IsInForce (plan_of keep episodes) taken Plain 0
-none_in_force keep episodes taken none = record { in_force = λ count from. ap (λ (l : List Episode). env_at (plan_of keep l) count) none ∙ sym (ap (λ (b : Bool). cond b Plain Plain) (le-ltb count 0 (omega arith))) }
+-- without an episode it is the base
+pub none_in_force : (base : Env) (keep : ℕ) (episodes : List Episode) (taken : ℕ) → episodes ≡ [] → IsInForce base (plan_of keep episodes) taken base 0
+none_in_force base keep episodes taken none = record { in_force = λ count from. ap (λ (l : List Episode). env_at base (plan_of keep l) count) none ∙ sym (ap (λ (b : Bool). cond b base base) (le-ltb count 0 (omega arith))) }
 
 -- what is said of the last episode, by where it stands
 pub followed_last : (episodes : List Episode) (episode : Episode) (taken : ℕ) → 1 ≤ length episodes → episode ≡ get_or episodes (length episodes - 1) episode → IsFollowedBy taken (last_or None episodes) → IsFollowedBy taken (Some episode)

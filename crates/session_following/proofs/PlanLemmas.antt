@@ -1,45 +1,45 @@
 -- Plans that say the same up to a count of items have the same runs up to there.
 use Rattle.trials.proofs.Going.{Before}
-use Rattle.session_following.proofs.Terms.{Bool, List, Some, [], ap, arith, cond, inl, inr, ltb, subst, suc, sym, zero, ℕ, ◌+◌, ◌<◌, ◌∙◌, ◌∷◌, ◌≡◌, ◌≤◌, ◌⊎◌, cases_lt, le-ltb, lt-ltb, Item, Env, Plain, Image, serves_to, Limits, Override, Path, Served, env_at, origin, planned_next, served_next, later_of, served_on, served_same, Rules, Behind, Equal, compare, served_as, served_one, steps_later, taken_later, env_before, env_within, plan_up_to, UpToIsExact}
+use Rattle.session_following.proofs.Terms.{Bool, List, Some, [], ap, arith, cond, inl, inr, ltb, subst, suc, sym, zero, ℕ, ◌+◌, ◌<◌, ◌∙◌, ◌∷◌, ◌≡◌, ◌≤◌, ◌⊎◌, cases_lt, le-ltb, lt-ltb, Item, Env, Image, serves_to, Limits, Override, Path, Served, env_at, origin, planned_next, served_next, later_of, served_on, served_same, Rules, Behind, Equal, compare, served_as, served_one, steps_later, taken_later, env_before, env_within, plan_up_to, UpToIsExact}
 use Rattle.session_following.proofs.Based.{SaysAs}
 
 -- the plan up to a count says the same there
-pub up_to_same : (plan : List Override) (last count : ℕ) → count ≤ last → env_at (plan_up_to plan last) count ≡ env_at plan count
+pub up_to_same : (base : Env) (plan : List Override) (last count : ℕ) → count ≤ last → env_at base (plan_up_to base plan last) count ≡ env_at base plan count
 unfolding plan_up_to
-up_to_same plan zero count few =
+up_to_same base plan zero count few =
     let none : count ≡ 0 = omega (arith, few) in
-    env_within [] 0 1 (env_at plan 0) count (omega arith) (omega (arith, none)) ∙ ap (env_at plan) (sym none)
-up_to_same plan (suc last) count few =
+    env_within base [] 0 1 (env_at base plan 0) count (omega arith) (omega (arith, none)) ∙ ap (env_at base plan) (sym none)
+up_to_same base plan (suc last) count few =
     elim (cases_lt count (last + 1)) [
-      | inl less ↦ env_before (plan_up_to plan last) (last + 1) (last + 2) (env_at plan (last + 1)) count less ∙ up_to_same plan last count (omega (arith, less))
+      | inl less ↦ env_before base (plan_up_to base plan last) (last + 1) (last + 2) (env_at base plan (last + 1)) count less ∙ up_to_same base plan last count (omega (arith, less))
       | inr most ↦
           let is : count ≡ last + 1 = omega (arith, few, most) in
-          env_within (plan_up_to plan last) (last + 1) (last + 2) (env_at plan (last + 1)) count most (omega (arith, is)) ∙ ap (env_at plan) (sym is)
+          env_within base (plan_up_to base plan last) (last + 1) (last + 2) (env_at base plan (last + 1)) count most (omega (arith, is)) ∙ ap (env_at base plan) (sym is)
     ]
 
--- behind its last count an override leaves Plain
-env_past : (plan : List Override) (low until : ℕ) (env : Env) (count : ℕ) → low ≤ count → until ≤ count → env_at (record { low = low; until = until; env = env } ∷ plan) count ≡ Plain
-env_past plan low until env count from past =
-    ap (λ (b : Bool). cond b (env_at plan count) (cond (ltb count until) env Plain)) (le-ltb count low from) ∙ ap (λ (b : Bool). cond b env Plain) (le-ltb count until past)
+-- behind its last count an override leaves the base
+env_past : (base : Env) (plan : List Override) (low until : ℕ) (env : Env) (count : ℕ) → low ≤ count → until ≤ count → env_at base (record { low = low; until = until; env = env } ∷ plan) count ≡ base
+env_past base plan low until env count from past =
+    ap (λ (b : Bool). cond b (env_at base plan count) (cond (ltb count until) env base)) (le-ltb count low from) ∙ ap (λ (b : Bool). cond b env base) (le-ltb count until past)
 
--- and Plain later
-pub up_to_later : (plan : List Override) (last count : ℕ) → last < count → env_at (plan_up_to plan last) count ≡ Plain
+-- and the base later
+pub up_to_later : (base : Env) (plan : List Override) (last count : ℕ) → last < count → env_at base (plan_up_to base plan last) count ≡ base
 unfolding plan_up_to
-up_to_later plan zero count late = env_past [] 0 1 (env_at plan 0) count (omega arith) (omega (arith, late))
-up_to_later plan (suc last) count late = env_past (plan_up_to plan last) (last + 1) (last + 2) (env_at plan (last + 1)) count (omega (arith, late)) (omega (arith, late))
+up_to_later base plan zero count late = env_past base [] 0 1 (env_at base plan 0) count (omega arith) (omega (arith, late))
+up_to_later base plan (suc last) count late = env_past base (plan_up_to base plan last) (last + 1) (last + 2) (env_at base plan (last + 1)) count (omega (arith, late)) (omega (arith, late))
 
 -- so there its environment is in force up to the next item
-pub up_to_env : (plan : List Override) (last count : ℕ) → last ≤ count → env_at (plan_up_to plan last) count ≡ cond (ltb count (last + 1)) (env_at plan last) Plain
-up_to_env plan last count from =
+pub up_to_env : (base : Env) (plan : List Override) (last count : ℕ) → last ≤ count → env_at base (plan_up_to base plan last) count ≡ cond (ltb count (last + 1)) (env_at base plan last) base
+up_to_env base plan last count from =
     elim (cases_lt last count) [
-      | inl later ↦ up_to_later plan last count later ∙ ap (λ (b : Bool). cond b (env_at plan last) Plain) (sym (le-ltb count (last + 1) (omega (arith, later))))
+      | inl later ↦ up_to_later base plan last count later ∙ ap (λ (b : Bool). cond b (env_at base plan last) base) (sym (le-ltb count (last + 1) (omega (arith, later))))
       | inr most ↦
           let is : count ≡ last = omega (arith, from, most) in
-          up_to_same plan last count most ∙ (ap (env_at plan) is ∙ ap (λ (b : Bool). cond b (env_at plan last) Plain) (sym (lt-ltb count (last + 1) (omega (arith, is)))))
+          up_to_same base plan last count most ∙ (ap (env_at base plan) is ∙ ap (λ (b : Bool). cond b (env_at base plan last) base) (sym (lt-ltb count (last + 1) (omega (arith, is)))))
     ]
 
 -- Two plans that say the same at each count up to that of a run have the same run there.
-pub says_alike : (rules : Rules) (image : Image) (items : List Item) (plan other : List Override) (now : Path) → ((count : ℕ) → count ≤ now.state.machine.taken → env_at plan count ≡ env_at other count) → SaysAs rules image items plan other now
+pub says_alike : (rules : Rules) (image : Image) (items : List Item) (plan other : List Override) (now : Path) → ((count : ℕ) → count ≤ now.state.machine.taken → env_at rules.limits.base plan count ≡ env_at rules.limits.base other count) → SaysAs rules image items plan other now
 says_alike rules image items plan other now alike = record {
   same = λ x y first then last.
       served_as rules.limits items plan other x y y.state.machine.taken
@@ -52,7 +52,7 @@ same_steps limits items plan first second served few =
     elim (later_of limits items plan first second served) [
       | inl same ↦ same
       | inr later ↦
-          let steps = (serves_to limits items (env_at plan first.state.machine.taken) first later.next later.goes).steps in
+          let steps = (serves_to limits items (env_at limits.base plan first.state.machine.taken) first later.next later.goes).steps in
           absurd (let last = steps_later limits items plan later.next second later.on in omega (arith, few, steps, last))
     ]
 
@@ -65,7 +65,7 @@ one_next limits items plan first second served one =
     elim (later_of limits items plan first second served) [
       | inl same ↦ absurd (let is : first.steps ≡ second.steps = ap (λ (p : Path). p.steps) same in omega (arith, is, one))
       | inr later ↦
-          let steps = (serves_to limits items (env_at plan first.state.machine.taken) first later.next later.goes).steps in
+          let steps = (serves_to limits items (env_at limits.base plan first.state.machine.taken) first later.next later.goes).steps in
           record { next = later.goes ∙ ap (λ (p : Path). Some p) (same_steps limits items plan later.next second later.on (omega (arith, one, steps))) }
     ]
 
@@ -76,13 +76,13 @@ goes_to limits items plan start x y one other few =
       | Equal same ↦ subst (λ (p : Path). Served limits items plan x p) same (served_same limits items plan x)
       | Before later ↦ served_on limits items plan x later.next y (served_one limits items plan x later.next later.goes) later.on
       | Behind later ↦
-          let steps = (serves_to limits items (env_at plan y.state.machine.taken) y later.next later.goes).steps in
+          let steps = (serves_to limits items (env_at limits.base plan y.state.machine.taken) y later.next later.goes).steps in
           absurd (let last = steps_later limits items plan later.next x later.on in omega (arith, few, steps, last))
     ]
 
 -- A run has just made one instruction more: two plans that say the same at each count up to the one before it have the same run there.
 pub says_until : (rules : Rules) (image : Image) (items : List Item) (plan other : List Override) (mid now : Path) → Served rules.limits items plan (origin image) mid → Served rules.limits items plan mid now → now.steps ≡ mid.steps + 1
-    → ((count : ℕ) → count ≤ mid.state.machine.taken → env_at plan count ≡ env_at other count) → SaysAs rules image items plan other now
+    → ((count : ℕ) → count ≤ mid.state.machine.taken → env_at rules.limits.base plan count ≡ env_at rules.limits.base other count) → SaysAs rules image items plan other now
 says_until rules image items plan other mid now begins on one alike = record { same = λ x y first then last. by x y first then last (cases_lt y.steps now.steps) }
   where
     -- up to the instruction before
@@ -116,4 +116,4 @@ says_start rules image items plan other now none = record {
 }
 
 pub up_to_is_exact : UpToIsExact
-up_to_is_exact plan last count = (up_to_same plan last count, up_to_later plan last count)
+up_to_is_exact base plan last count = (up_to_same base plan last count, up_to_later base plan last count)

@@ -49,7 +49,7 @@ steps_are : (limits : Limits) (items : List Item) (plan : List Override) (first 
 steps_are limits items plan first second zero ran = let same : first.steps ≡ second.steps = ap (λ (p : Path). p.steps) (same_Some first second ran) in omega (arith, same)
 steps_are limits items plan first second (suc n) ran =
     option_and_then_some (planned_next limits items plan) (serve limits items plan first n) second ran (λ mid before goes.
-    let one = (serves_to limits items (env_at plan mid.state.machine.taken) mid second goes).steps in
+    let one = (serves_to limits items (env_at limits.base plan mid.state.machine.taken) mid second goes).steps in
     let all = steps_are limits items plan first mid n before in
     omega (arith, one, all))
 

@@ -42,7 +42,7 @@ module _ {R : Type 0} where
   -- Re-basing: what came before takes in all that came since, and what clients have of the run's sends. The plan may be another one that says the same up to here.
   pub rebased : {rules : Rules} {image : Image} {began : Since} {phases : Phases} {survivor : Survivor} {since : List Entry} {session : SessionState R} {events : List LinkEvent} {had : List Send} (counts : List (ℕ × ℕ)) (other : List Override) → StandsThere rules image began phases survivor since session
       → events ≡ events_of rules.bounds since → had ≡ held counts survivor.now.state.sends → SaysAs rules image (items_in rules.bounds since) survivor.plan other survivor.now
-      → KeepsReplies (rules_after rules (came_before events had other survivor.now)).bounds [] None survivor.now.state.sends session.replies → session.replies.trial ≡ None → IsInForce other survivor.now.state.machine.taken session.env session.until
+      → KeepsReplies (rules_after rules (came_before events had other survivor.now)).bounds [] None survivor.now.state.sends session.replies → session.replies.trial ≡ None → IsInForce rules.limits.base other survivor.now.state.machine.taken session.env session.until
       → HasJustBegun (rules_after rules (came_before events had other survivor.now)) image began phases session
   rebased {rules = rules} {image = image} {began = began} {survivor = survivor} {since = since} {session = session} {events = events} {had = had} counts other there same had_is says replies no_trial in_force =
       let now : Path = survivor.now in

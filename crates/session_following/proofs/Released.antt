@@ -2,7 +2,7 @@
 use Rattle.session_history.specs.declared.ends.SessionEnd.TheVariants as session_end
 use Rattle.session_history.specs.declared.ends.Stop.TheVariants as stop
 use Rattle.session_state.proofs.recovering.TableLemmas.{tables_here, told_unwatched}
-use Rattle.session_following.proofs.Terms.{Bool, List, None, Some, [], ap, append-nil, arith, cond, inl, inr, ltb, refl, subst, sym, ℕ, ◌+◌, ◌<◌, ◌∙◌, ◌∷◌, ◌≡◌, ◌≤◌, ◌⊎◌, cases_lt, le-ltb, IsSome, Item, Send, LinkEvent, Grew, events_in, Seen, Plain, Ledger, Image, AsksFor, Override, Path, Served, env_at, origin, GoesOn, IsSilent, standing_of, Writes, served_on, Before, events_of, items_in, nothing_before, KeepsItems, KeepsReplies, Rules, timed_from, HasFollowed, heard_alone, rules_behind, AtExit, Handed, HasReached, held, plan_of, IsInForce, TellsMore, answers_for, none_lost, none_noted, received_is, HasSameSide, saved_on, requests_on, keeping_of, AreTables, IsCounted, SessionState, EndsWithin, IsEnding, IsTold, Since, came_before, plan_up_to, begun_story, IsFollowing, rules_following}
+use Rattle.session_following.proofs.Terms.{Bool, List, None, Some, [], ap, append-nil, arith, cond, inl, inr, ltb, refl, subst, sym, ℕ, ◌+◌, ◌<◌, ◌∙◌, ◌∷◌, ◌≡◌, ◌≤◌, ◌⊎◌, cases_lt, le-ltb, IsSome, Item, Send, LinkEvent, Grew, events_in, Seen, Env, Ledger, Image, AsksFor, Override, Path, Served, env_at, origin, GoesOn, IsSilent, standing_of, Writes, served_on, Before, events_of, items_in, nothing_before, KeepsItems, KeepsReplies, Rules, timed_from, HasFollowed, heard_alone, rules_behind, AtExit, Handed, HasReached, held, plan_of, IsInForce, TellsMore, answers_for, none_lost, none_noted, received_is, HasSameSide, saved_on, requests_on, keeping_of, AreTables, IsCounted, SessionState, EndsWithin, IsEnding, IsTold, Since, came_before, plan_up_to, begun_story, IsFollowing, rules_following}
 use Rattle.session_following.proofs.Based.{SaysAs, items_after, replies_after}
 use Rattle.session_following.proofs.Following.{items_following, whole_following}
 use Rattle.session_following.proofs.Handled.{handled_after}
@@ -12,9 +12,9 @@ use Rattle.session_following.proofs.Rebased.{just_told}
 use Rattle.session_following.proofs.Rings.{carries_after, ring_after, says_now}
 
 -- From where it begins the latest override of a plan is in force.
-pub newest_in_force : (override : Override) (plan : List Override) (taken : ℕ) → override.low ≤ taken → IsInForce (override ∷ plan) taken override.env override.until
-newest_in_force override plan taken begun = record {
-  in_force = λ count from. ap (λ (b : Bool). cond b (env_at plan count) (cond (ltb count override.until) override.env Plain)) (le-ltb count override.low (omega (arith, begun, from)));
+pub newest_in_force : (base : Env) (override : Override) (plan : List Override) (taken : ℕ) → override.low ≤ taken → IsInForce base (override ∷ plan) taken override.env override.until
+newest_in_force base override plan taken begun = record {
+  in_force = λ count from. ap (λ (b : Bool). cond b (env_at base plan count) (cond (ltb count override.until) override.env base)) (le-ltb count override.low (omega (arith, begun, from)));
 }
 
 -- It ends within so many items where its failure was at this point, and the run asks for an item no earlier.
@@ -30,7 +30,7 @@ module _ {R : Type 0} where
   -- Its guest ends itself where its run has reached what was handed over: an ordinary session that has just begun there has come to its end.
   pub exited_following : {rules : Rules} {image : Image} {handed : Handed} {events : List LinkEvent} {now to : Path} {began : Since} {seen : Seen} {old new : SessionState R} {code : ℕ} → rules.bounds.before ≡ nothing_before → IsFollowing rules image handed events now began seen.phases old
       → began.told ≡ seen.told → began.lost ≡ 0 → Grew began.noted_before.episodes began.noted.episodes [] → TellsMore began.tables_before began.tables (AreTables (rules_behind rules handed events to) [] [] [])
-      → HasSameSide old new → new.replies ≡ old.replies → new.choices ≡ old.choices → IsCounted new → GoesOn rules.limits (items_in (rules_following rules handed events now).bounds []) (plan_up_to (plan_of rules.limits.keep handed.episodes) now.state.machine.taken) now to → IsSilent now to
+      → HasSameSide old new → new.replies ≡ old.replies → new.choices ≡ old.choices → IsCounted new → GoesOn rules.limits (items_in (rules_following rules handed events now).bounds []) (plan_up_to rules.limits.base (plan_of rules.limits.keep handed.episodes) now.state.machine.taken) now to → IsSilent now to
       → Writes rules.limits (items_in (rules_following rules handed events now).bounds []) old.cpu.base now old.cpu.written to new.cpu.written → to.state.ended ≡ Some code → new.cpu.slots.live ≡ standing_of to
       → (there : IsSome to.state.ended) → HasReached rules.limits handed to (AtExit there) → HasFollowed rules image handed events to × IsEnding (rules_behind rules handed events to) image began seen new (session_end.Exited code)
   exited_following {rules = rules} {image = image} {handed = handed} {events = events} {now = now} {to = to} {began = began} {seen = seen} {old = old} {new = new} {code = code} alone f told lost episodes tables side replies chosen counted goes silent wrote ended stands there reached =
@@ -38,11 +38,11 @@ module _ {R : Type 0} where
       let here : Rules = rules_following rules handed events now in
       let next : Rules = rules_behind rules handed events to in
       let items : List Item = items_in here.bounds [] in
-      let under : List Override = plan_up_to plan now.state.machine.taken in
+      let under : List Override = plan_up_to rules.limits.base plan now.state.machine.taken in
       let what : Before = came_before (events_in (heard_alone events)) (held handed.counts to.state.sends) plan to in
       let same : what.events ≡ events_of here.bounds [] = sym (append-nil (events_in (heard_alone events))) in
       let still = goes.taken in
-      let says : SaysAs here image items under plan to = says_alike here image items under plan to (λ count few. up_to_same plan now.state.machine.taken count (omega (arith, few, still))) in
+      let says : SaysAs here image items under plan to = says_alike here image items under plan to (λ count few. up_to_same rules.limits.base plan now.state.machine.taken count (omega (arith, few, still))) in
       let served : Served rules.limits items under (origin image) to = served_on rules.limits items under (origin image) now to f.stands.sound.carries.served goes.served in
       let saved = saved_on {story = begun_story here image} {to = to} side (ap (λ (l : Ledger). l.first) replies) goes.served wrote (omega (arith, still)) (requests_on {to = to} goes.served still f.stands.saved.requests) f.stands.saved in
       let ring = ring_after here image [] what under plan to saved.paths new.cpu new.log new.replies same says saved.ring in

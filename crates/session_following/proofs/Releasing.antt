@@ -6,7 +6,7 @@ use Rattle.session_history.specs.declared.ends.SessionBreak.TheVariants as sessi
 use Rattle.session_history.specs.declared.ends.Stop.TheVariants as stop
 use Rattle.session_state.proofs.ending.EndLemmas.{served_off}
 use Rattle.session_state.proofs.ending.LeavingLemmas.{left_by}
-use Rattle.session_following.proofs.Terms.{Bool, List, None, Option, Some, [], ap, append-nil, arith, drop, inl, inr, length, refl, subst, sym, take, true, ℕ, ◌+◌, ◌<◌, ◌∙◌, ◌∷◌, ◌≡◌, ◌≤◌, ◌⊎◌, last_or, All, Err, IfSome, IsSome, ◌≢◌, Item, Send, LinkEvent, Grew, Phases, Tells, Told, Seen, Choice, Heap, Env, Image, AsksFor, Override, Path, Served, origin, CpuState, standing_of, Standing, Writes, Stop, served_on, Before, items_in, nothing_before, Rules, Episode, Try, Noted, asks_under_all, heard_alone, rules_behind, AtExit, AtFailure, AtRequest, Handed, HasReached, IsPastFailure, Stand, adopted_try, plan_of, IsInForce, TellsMore, taken_all, IsTrimmed, LeavesBy, keeping_of, rules_in, AreTables, Telling, BreaksPassing, IsCounted, StopsBy, TrimsAt, rules_by, SessionState, EndsWithin, IsGoing, Since, told_since, Unfollowed, plan_up_to, rules_after, HasJustBegun, before_moved, before_released, rules_following, EndsAfter, IsFollowedBy, IsMissing, Agree, IsJudgedAt, kind_of, IsUnfollowed, IsUnfollowedBy, TookOver, Follows, HasReachedOn, HasRunOn, IsReleased, IsReleasedAtExit, held_back, holding, marked}
+use Rattle.session_following.proofs.Terms.{Bool, List, None, Option, Some, [], ap, append-nil, arith, drop, inl, inr, length, refl, subst, sym, take, true, ℕ, ◌+◌, ◌<◌, ◌∙◌, ◌∷◌, ◌≡◌, ◌≤◌, ◌⊎◌, last_or, All, Err, IfSome, IsSome, ◌≢◌, Item, Send, LinkEvent, Grew, Phases, Tells, Told, Seen, Choice, Heap, Env, Image, AsksFor, Limits, Override, Path, Served, origin, CpuState, standing_of, Standing, Writes, Stop, served_on, Before, items_in, nothing_before, Rules, Episode, Try, Noted, asks_under_all, heard_alone, rules_behind, AtExit, AtFailure, AtRequest, Handed, HasReached, IsPastFailure, Stand, adopted_try, plan_of, IsInForce, TellsMore, taken_all, IsTrimmed, LeavesBy, keeping_of, rules_in, AreTables, Telling, BreaksPassing, IsCounted, StopsBy, TrimsAt, rules_by, SessionState, EndsWithin, IsGoing, Since, told_since, Unfollowed, plan_up_to, rules_after, HasJustBegun, before_moved, before_released, rules_following, EndsAfter, IsFollowedBy, IsMissing, Agree, IsJudgedAt, kind_of, IsUnfollowed, IsUnfollowedBy, TookOver, Follows, HasReachedOn, HasRunOn, IsReleased, IsReleasedAtExit, held_back, holding, marked}
 use Rattle.session_following.proofs.Following.{released_following, whole_following}
 use Rattle.session_following.proofs.Holding.{following_holding}
 use Rattle.session_following.proofs.Moving.{moved_before}
@@ -33,13 +33,13 @@ module _ {R : Type 0} (permits : R → Heap → ℕ → ℕ → Bool) (rules : R
 module _ {R : Type 0} (permits : R → Heap → ℕ → ℕ → Bool) {rules : Rules} {image : Image} {handed : Handed} {told : Told} {seen : Seen} {before noted : Noted} where
   -- It is released where its run has reached what was handed over.
   pub released_on : {missing : List ℕ} {old new : SessionState R} {env : Env} {until : ℕ} → rules.bounds.before ≡ nothing_before → (s : Follows rules (rules_by permits old) image handed told seen before noted missing old) → (stand : Stand rules.limits (plan_of rules.limits.keep handed.episodes) s.now)
-      → HasReached rules.limits handed s.now stand → IsInForce (plan_of old.options.keep handed.episodes) s.now.state.machine.taken env until
+      → HasReached rules.limits handed s.now stand → IsInForce old.options.base (plan_of old.options.keep handed.episodes) s.now.state.machine.taken env until
       → EndsWithin rules.limits until s.now → new ≡ record old { env = env; until = until; before = new.before; hold = rules.hold } → new.before ≡ before_released old.before (plan_of old.options.keep handed.episodes)
       → IsReleased rules (rules_by permits new) image handed told seen before noted new
   released_on {old = old} {new = new} {env = env} {until = until} alone s stand reached in_force past same came =
       let f = following_holding rules.hold s.follows in
       let keeps : old.options.keep ≡ rules.limits.keep = ap (λ (x : Rules). x.limits.keep) s.here_is in
-      let forced = subst (λ (keep : ℕ). IsInForce (plan_of keep handed.episodes) s.now.state.machine.taken env until) keeps in_force in
+      let forced = subst (λ (l : Limits). IsInForce l.base (plan_of l.keep handed.episodes) s.now.state.machine.taken env until) (ap (λ (x : Rules). x.limits) s.here_is) in_force in
       let r = released_following alone f stand reached forced in
       record {
         events = s.events;
@@ -90,13 +90,13 @@ module _ {R : Type 0} (permits : R → Heap → ℕ → ℕ → Bool) {rules : R
       let s = h.stood in
       let a = f.stands.answers in
       let plan : List Override = plan_of rules.limits.keep handed.episodes in
-      let under : List Override = plan_up_to plan s.now.state.machine.taken in
+      let under : List Override = plan_up_to rules.limits.base plan s.now.state.machine.taken in
       let items : List Item = items_in (rules_following rules handed s.events s.now).bounds [] in
       let heard : List Item = items_in rules.bounds (heard_alone s.events) in
       let still = h.runs.ran.goes.taken in
       let served : Served rules.limits items under (origin image) to = served_on rules.limits items under (origin image) s.now to f.stands.sound.carries.served h.runs.ran.goes.served in
       let whole : Served rules.limits heard plan (origin image) to =
-      whole_following rules image handed s.events s.now s.alone to (subst (λ (n : ℕ). Served rules.limits items (plan_up_to plan n) (origin image) to) (sym still) served) in
+      whole_following rules image handed s.events s.now s.alone to (subst (λ (n : ℕ). Served rules.limits items (plan_up_to rules.limits.base plan n) (origin image) to) (sym still) served) in
       let to_now = whole_following rules image handed s.events s.now s.alone s.now f.stands.sound.carries.served in
       let live : new.cpu.slots.live ≡ standing_of to = ap (λ (t : SessionState R). t.cpu.slots.live) same ∙ sym h.runs.ran.stands in
       let recorded : new.recorded ≡ h.was.recorded = ap (λ (t : SessionState R). t.recorded) same ∙ ap (λ (t : SessionState R). t.recorded) h.same in
@@ -141,7 +141,7 @@ module _ {R : Type 0} (permits : R → Heap → ℕ → ℕ → Bool) {rules : R
             ∙ ap (λ (keep : ℕ). before_released (before_moved old.before old.cpu.slots.live []) (plan_of keep handed.episodes)) keeps
             ∙ ap (λ (b : Before). before_released b (plan_of rules.limits.keep handed.episodes))
             (ap (λ (b : Before). before_moved b old.cpu.slots.live []) (ap (λ (r : Rules). r.bounds.before) s.here_is)
-            ∙ moved_before rules.limits.keep handed s.events s.now to old.cpu.slots.live (sym h.runs.ran.stands) [] h.runs.ran.comes.0.sends (h.runs.ran.comes.0.choices ∙ sym (append-nil s.now.choices)) h.runs.ran.goes.taken));
+            ∙ moved_before rules.limits handed s.events s.now to old.cpu.slots.live (sym h.runs.ran.stands) [] h.runs.ran.comes.0.sends (h.runs.ran.comes.0.choices ∙ sym (append-nil s.now.choices)) h.runs.ran.goes.taken));
         ends = λ tables. (ends tables).1;
       }
 

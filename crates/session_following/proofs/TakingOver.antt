@@ -37,7 +37,7 @@ module _ {R : Type 0} where
   -- A session that was begun follows from the start of its program, once the start is its first checkpoint, in the environment of the report, and nothing is passed.
   pub begins_on : (permits : R → Heap → ℕ → ℕ → Bool) {image : Image} {handed : Handed} {seen : Seen} {shown : Noted} {missing : List ℕ} {old mid new : SessionState R} → IsBegun image old.options old.cpu.rule old → IsFresh seen.phases
       → ((any : Rules) → KeepsRing any image [] [] (origin image) (origin image ∷ []) mid.cpu old.log old.replies) → mid ≡ record old { cpu = mid.cpu } → mid.cpu.slots.live ≡ old.cpu.slots.live → mid.cpu.rule ≡ old.cpu.rule → stands_of mid.cpu.slots.saved ≡ alone 0 mid.cpu.slots.pages
-      → IsMissing handed.counts [] missing → new ≡ record mid { env = new.env; until = 1; before = new.before; hold = 4294967295 } → new.env ≡ env_at (plan_of old.options.keep handed.episodes) 0 → new.before ≡ before_begun mid.cpu.slots.live new.env
+      → IsMissing handed.counts [] missing → new ≡ record mid { env = new.env; until = 1; before = new.before; hold = 4294967295 } → new.env ≡ env_at old.options.base (plan_of old.options.keep handed.episodes) 0 → new.before ≡ before_begun mid.cpu.slots.live new.env
       → Follows (rules_by permits old) (rules_by permits new) image handed seen.told seen shown shown missing new
   begins_on permits {image = image} {handed = handed} {seen = seen} {shown = shown} {missing = missing} {old = old} {mid = mid} {new = new} begun fresh keeps same live rule stands lacks is env came =
       let rules : Rules = rules_by permits old in
@@ -45,10 +45,10 @@ module _ {R : Type 0} where
       let nothing : rules.bounds.before ≡ nothing_before = begun.nothing_came in
       let b = starts_between permits {image = image} {seen = record seen { told = nothing_told }} {noted = shown} {tables = Some []} {session = old} {after = mid} begun fresh keeps same live stands in
       let f = started_following handed nothing begun.in_range.some_keep b.going (is_marked shown shown) (ap (λ (s : SessionState R). s.steps) same ∙ begun.no_steps) in
-      let after : new ≡ record mid { env = env_at plan 0; until = 1; before = new.before; hold = 4294967295 } = is ∙ (λ i. record mid { env = env i; until = 1; before = new.before; hold = 4294967295 }) in
+      let after : new ≡ record mid { env = env_at rules.limits.base plan 0; until = 1; before = new.before; hold = 4294967295 } = is ∙ (λ i. record mid { env = env i; until = 1; before = new.before; hold = 4294967295 }) in
       let first : mid.cpu.slots.live ≡ standing_of (origin image) = live ∙ starts_at begun in
-      let before_is : new.before ≡ followed_before rules.limits.keep handed [] (origin image) =
-      came ∙ ((λ i. before_begun (first i) (env i)) ∙ (ap (λ (p : Path). came_before [] [] (record { low = 0; until = 1; env = env_at plan 0 } ∷ []) p) (start_there image) ∙ start_before rules.limits.keep handed image)) in
+      let before_is : new.before ≡ followed_before rules.limits handed [] (origin image) =
+      came ∙ ((λ i. before_begun (first i) (env i)) ∙ (ap (λ (p : Path). came_before [] [] (record { low = 0; until = 1; env = env_at rules.limits.base plan 0 } ∷ []) p) (start_there image) ∙ start_before rules.limits handed image)) in
       record {
         alone = nothing;
         hold_is = begun.hold_is ∙ sym (ap (λ (s : SessionState R). s.options.hold) is ∙ ap (λ (s : SessionState R). s.options.hold) same);

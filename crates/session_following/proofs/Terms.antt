@@ -25,7 +25,7 @@ pub use Rattle.session_state.proofs.guest.GuestLemmas.{answers_for, goes_with, n
 pub use Rattle.session_state.proofs.guest.NoteLemmas.{taken_all}
 pub use Rattle.session_state.proofs.standing.CheckpointLemmas.{HasSameSide, saved_on}
 pub use Rattle.session_state.proofs.standing.HeldLemmas.{requests_on}
-pub use Rattle.session_following.specs.Terms.{AnswersFor, AreBehind, AreBetween, AreInOrder, AreKept, AreRinged, AreSendable, AreTables, AreWellPlaced, AreWritten, AsksFor, AsksForMore, AtExit, AtFailure, AtRequest, Before, Bounds, BreaksPassing, Brings, CanGoOn, Carries, Cause, Chapter, Choice, ComesLast, Coming, Covers, CpuState, EndsWithin, Entry, Env, Episode, Event, FailsBy, Finish, GoesOn, GoesWith, Grew, Handed, HandedOver, HandlesRequests, HasFollowed, HasFollowedRequests, HasHandled, HasPassedDue, HasReached, HasWritten, Heap, HearFault, HearsBy, HearsEvent, Image, IsBegun, IsCounted, IsEnding, IsFeasible, IsFollowed, IsFresh, IsGoing, IsHearing, IsInForce, IsOpened, IsPastFailure, IsSendable, IsShown, IsSilent, IsSoundBefore, IsStopAt, IsStuck, IsTakeover, IsTold, IsTrimmed, IsWaitingFor, IsWellPlaced, Item, Keeping, KeepsCheckpoints, KeepsItems, KeepsPhases, KeepsReplies, KeepsRing, LeavesBy, Ledger, Limits, LinkEvent, Log, MayHear, NotBefore, Noted, Override, Passed, Path, Phases, Place, Plain, Prefix, Recovery, Rules, RunsWriting, Seen, Send, Served, SessionState, Shows, Since, Stand, Standing, Stop, StopsBy, Story, Survivor, Takeover, Telling, Tells, TellsMore, Told, TrimsAt, Try, Unfollowed, Writes, adopted_try, alone, closed_connection, closes, closing_of, count_of, entries, entries_of, env_at, env_of, episode_of, events_in, events_of, first_count, first_stands, first_survivor, handle, handled, heard_alone, heeded, held, held_behind, is_gone, is_open, items_in, keeping_of, last_or, live_of, nothing_before, opens, origin, passed_connection, passed_in, passed_to, phase_after, plan_behind, plan_from, plan_in, plan_of, planned_next, received, refusal, rules_behind, rules_by, rules_in, sends, sent_to, serve, spent, standing_of, stands_of, starting_path, starting_stands, stopped, told_since, with_change, with_live, with_passed, with_send}
+pub use Rattle.session_following.specs.Terms.{AnswersFor, AreBehind, AreBetween, AreInOrder, AreKept, AreRinged, AreSendable, AreTables, AreWellPlaced, AreWritten, AsksFor, AsksForMore, AtExit, AtFailure, AtRequest, Before, Bounds, BreaksPassing, Brings, CanGoOn, Carries, Cause, Chapter, Choice, ComesLast, Coming, Covers, CpuState, EndsWithin, Entry, Env, Episode, Event, FailsBy, Finish, GoesOn, GoesWith, Grew, Handed, HandedOver, HandlesRequests, HasFollowed, HasFollowedRequests, HasHandled, HasPassedDue, HasReached, HasWritten, Heap, HearFault, HearsBy, HearsEvent, Image, IsBegun, IsCounted, IsEnding, IsFeasible, IsFollowed, IsFresh, IsGoing, IsHearing, IsInForce, IsOpened, IsPastFailure, IsSendable, IsShown, IsSilent, IsSoundBefore, IsStopAt, IsStuck, IsTakeover, IsTold, IsTrimmed, IsWaitingFor, IsWellPlaced, Item, Keeping, KeepsCheckpoints, KeepsItems, KeepsPhases, KeepsReplies, KeepsRing, LeavesBy, Ledger, Limits, LinkEvent, Log, MayHear, NotBefore, Noted, Override, Passed, Path, Phases, Place, Prefix, Recovery, Rules, RunsWriting, Seen, Send, Served, SessionState, Shows, Since, Stand, Standing, Stop, StopsBy, Story, Survivor, Takeover, Telling, Tells, TellsMore, Told, TrimsAt, Try, Unfollowed, Writes, adopted_try, alone, closed_connection, closes, closing_of, count_of, entries, entries_of, env_at, env_of, episode_of, events_in, events_of, first_count, first_stands, first_survivor, handle, handled, heard_alone, heeded, held, held_behind, is_gone, is_open, items_in, keeping_of, last_or, live_of, nothing_before, opens, origin, passed_connection, passed_in, passed_to, phase_after, plan_behind, plan_from, plan_in, plan_of, planned_next, received, refusal, rules_behind, rules_by, rules_in, sends, sent_to, serve, spent, standing_of, stands_of, starting_path, starting_stands, stopped, told_since, with_change, with_live, with_passed, with_send}
 unfoldable pub use Rattle.session_following.specs.Terms.{connection_of, served_next, stamped, stamped_of, stamped_to, start, start_machine, times_of}
 pub use Rattle.session_following.specs.declared.judging.StandKind.{StandKind}
 pub use Rattle.session_following.specs.declared.judging.StandKind.TheVariants.{Exit, Failure, Request}

@@ -4,7 +4,7 @@ use Rattle.std.specs.declared.alloc.AllocError.{AllocError}
 use Rattle.session_history.specs.declared.ends.SessionBreak.TheVariants as session_break
 use Rattle.session_history.specs.declared.ends.Stop.TheVariants as stop
 use Rattle.session_state.proofs.ending.TurnLemmas.{Ran, ran_as}
-use Rattle.session_following.proofs.Terms.{Bool, List, None, Option, [], ap, append-nil, arith, cond, drop, inl, length, ltb, refl, subst, sym, take, ℕ, ◌++◌, ◌+◌, ◌∙◌, ◌∷◌, ◌≡◌, ◌≤◌, Result, ◌≢◌, Send, LinkEvent, Grew, Phases, Tells, Told, Seen, Choice, Heap, Env, Plain, IsOpened, Ledger, Image, Limits, Override, Path, env_at, Event, CpuState, live_of, with_live, standing_of, RunsWriting, Writes, Before, items_in, nothing_before, IsSendable, Rules, Noted, heard_alone, Handed, plan_of, HasSameSide, rules_in, IsCounted, rules_by, SessionState, env_of, Since, Unfollowed, plan_up_to, rules_after, HasJustBegun, held_count, with_held, before_moved, before_sent, IsFollowing, followed_before, rules_following, OtherAnswer, IsMissing, Agree, IsOther, IsUnfollowed, IsUnfollowedBy, Follows, HasRunOn, held_back, marked}
+use Rattle.session_following.proofs.Terms.{Bool, List, None, Option, [], ap, append-nil, arith, cond, drop, inl, length, ltb, refl, subst, sym, take, ℕ, ◌++◌, ◌+◌, ◌∙◌, ◌∷◌, ◌≡◌, ◌≤◌, Result, ◌≢◌, Send, LinkEvent, Grew, Phases, Tells, Told, Seen, Choice, Heap, Env, IsOpened, Ledger, Image, Limits, Override, Path, env_at, Event, CpuState, live_of, with_live, standing_of, RunsWriting, Writes, Before, items_in, nothing_before, IsSendable, Rules, Noted, heard_alone, Handed, plan_of, HasSameSide, rules_in, IsCounted, rules_by, SessionState, env_of, Since, Unfollowed, plan_up_to, rules_after, HasJustBegun, held_count, with_held, before_moved, before_sent, IsFollowing, followed_before, rules_following, OtherAnswer, IsMissing, Agree, IsOther, IsUnfollowed, IsUnfollowedBy, Follows, HasRunOn, held_back, marked}
 use Rattle.session_following.specs.declared.unfollowed.Unfollowed.TheVariants as unfollowed
 use Rattle.session_following.proofs.Following.{sent_following, went_following, whole_following}
 use Rattle.session_following.proofs.Holding.{following_holding}
@@ -37,7 +37,7 @@ module _ {R : Type 0} where
   past_following came hold f = record { stands = past_begun came hold f.stands; env = f.env; until = f.until; some_keep = f.some_keep; before = f.before; asked = f.asked }
 
   -- so what it allows is told by what came before it
-  pub here_then : (permits : R → Heap → ℕ → ℕ → Bool) (rules : Rules) (handed : Handed) (events later : List LinkEvent) (now to : Path) {old new : SessionState R} → HasSameBase old new → rules_by permits old ≡ rules_following rules handed events now → new.before ≡ followed_before rules.limits.keep handed later to
+  pub here_then : (permits : R → Heap → ℕ → ℕ → Bool) (rules : Rules) (handed : Handed) (events later : List LinkEvent) (now to : Path) {old new : SessionState R} → HasSameBase old new → rules_by permits old ≡ rules_following rules handed events now → new.before ≡ followed_before rules.limits handed later to
       → rules_by permits new ≡ rules_following rules handed later to
   here_then permits rules handed events later now to {old = old} {new = new} same is before =
       (λ i. rules_in (same.options i) new.before (same.hold i) (permits (same.rule i)))
@@ -46,11 +46,13 @@ module _ {R : Type 0} where
   -- how its guest runs in the environment in force, by its plan
   pub ran_to : (permits : R → Heap → ℕ → ℕ → Bool) {env : Env} {rules : Rules} {image : Image} {handed : Handed} {events : List LinkEvent} {now : Path} {began : Since} {phases : Phases} {old inside : SessionState R} (cpu : CpuState R) (result : Result Event AllocError)
       → (rules_by permits old).limits ≡ rules.limits → env ≡ env_of old → inside ≡ old → IsFollowing rules image handed events now began phases old → Ran permits env inside cpu result
-      → RunsWriting rules.limits (items_in (rules_following rules handed events now).bounds []) (plan_up_to (plan_of rules.limits.keep handed.episodes) now.state.machine.taken) old.cpu.base now old.cpu.written result (live_of cpu)
+      → RunsWriting rules.limits (items_in (rules_following rules handed events now).bounds []) (plan_up_to rules.limits.base (plan_of rules.limits.keep handed.episodes) now.state.machine.taken) old.cpu.base now old.cpu.written result (live_of cpu)
   ran_to permits {env = env} {rules = rules} {handed = handed} {events = events} {now = now} {old = old} cpu result limits force same f ran =
-      let plan : List Override = plan_up_to (plan_of rules.limits.keep handed.episodes) now.state.machine.taken in
-      let in_force : env_at plan now.state.machine.taken ≡ env =
-      f.stands.saved.in_force.in_force now.state.machine.taken (omega arith) ∙ (ap (λ (n : ℕ). cond (ltb n old.until) old.env Plain) (sym f.stands.answers.taken) ∙ sym force) in
+      let plan : List Override = plan_up_to rules.limits.base (plan_of rules.limits.keep handed.episodes) now.state.machine.taken in
+      let base : old.options.base ≡ rules.limits.base = ap (λ (l : Limits). l.base) limits in
+      let in_force : env_at old.options.base plan now.state.machine.taken ≡ env =
+      subst (λ (e : Env). env_at e plan now.state.machine.taken ≡ cond (ltb now.state.machine.taken old.until) old.env e) (sym base) (f.stands.saved.in_force.in_force now.state.machine.taken (omega arith))
+      ∙ (ap (λ (n : ℕ). cond (ltb n old.until) old.env old.options.base) (sym f.stands.answers.taken) ∙ sym force) in
       subst (λ (l : Limits). RunsWriting l (items_in (rules_following rules handed events now).bounds []) plan old.cpu.base now old.cpu.written result (live_of cpu)) limits
       (runs_write (rules_by permits old).limits (items_in (rules_following rules handed events now).bounds []) plan env old.cpu.base now (live_of old.cpu) (live_of cpu) result f.stands.goes.lives in_force
       f.stands.goes.guest (ran_as permits env old cpu result (subst (λ (s : SessionState R). Ran permits env s cpu result) same ran)))
@@ -124,7 +126,7 @@ module _ {R : Type 0} {rules here : Rules} {image : Image} {handed : Handed} {to
 
 -- what came before it, where it stood
 before_is : {R : Type 0} (permits : R → Heap → ℕ → ℕ → Bool) {rules : Rules} {image : Image} {handed : Handed} {told : Told} {seen : Seen} {before noted : Noted} {missing : List ℕ} {happened : Event} {old : SessionState R} (h : HasRunOn rules (rules_by permits old) image handed told seen before noted missing happened old)
-    → old.before ≡ followed_before rules.limits.keep handed h.stood.events h.stood.now
+    → old.before ≡ followed_before rules.limits handed h.stood.events h.stood.now
 before_is permits h = ap (λ (r : Rules). r.bounds.before) h.stood.here_is
 
 module _ {R : Type 0} (permits : R → Heap → ℕ → ℕ → Bool) {rules : Rules} {image : Image} {handed : Handed} {told : Told} {seen : Seen} {before noted : Noted} {missing : List ℕ} {happened : Event} {old new : SessionState R} (alone : rules.bounds.before ≡ nothing_before)
@@ -137,7 +139,7 @@ module _ {R : Type 0} (permits : R → Heap → ℕ → ℕ → Bool) {rules : R
       let cpu : new.cpu ≡ old.cpu = ap (λ (s : SessionState R). s.cpu) same in (
         went_following more alone h.stood.follows (side_of h.same h.cpu same) (replies ∙ ap (λ (s : SessionState R). s.replies) h.same) used (chosen ∙ ap (λ (s : SessionState R). s.choices ++ more) h.same) sent counted h.runs.ran.goes (wrote_to h new cpu) lives (stands_to h new cpu),
         here_then permits (held_back rules) handed h.stood.events h.stood.events h.stood.now h.runs.ran.now {old = old} {new = new} (base_of same hold) h.stood.here_is
-            (came ∙ (ap (λ (b : Before). before_moved b old.cpu.slots.live more) (before_is permits h) ∙ moved_before rules.limits.keep handed h.stood.events h.stood.now h.runs.ran.now old.cpu.slots.live (sym h.runs.ran.stands) more sent used h.runs.ran.goes.taken)),
+            (came ∙ (ap (λ (b : Before). before_moved b old.cpu.slots.live more) (before_is permits h) ∙ moved_before rules.limits handed h.stood.events h.stood.now h.runs.ran.now old.cpu.slots.live (sym h.runs.ran.stands) more sent used h.runs.ran.goes.taken)),
       )
 
   -- It follows still, where what it used agrees with the record.
@@ -195,7 +197,7 @@ module _ {R : Type 0} (permits : R → Heap → ℕ → ℕ → Bool) {rules : R
             (how ∙ ap (λ (l : Ledger). with_held l send (held_count handed.counts h.stood.now.state.sends send)) replies) h.runs.ran.goes (wrote_to h new cpu) lives (stands_to h new cpu);
         here_is =
             here_then permits (held_back rules) handed h.stood.events h.stood.events h.stood.now h.runs.ran.now {old = old} {new = new} (base_of same hold) h.stood.here_is
-            (came ∙ (ap (λ (b : Before). before_sent b old.cpu.slots.live send (held_count handed.counts h.stood.now.state.sends send)) (before_is permits h) ∙ sent_before rules.limits.keep handed h.stood.events h.stood.now h.runs.ran.now old.cpu.slots.live (sym h.runs.ran.stands) send sent used h.runs.ran.goes.taken));
+            (came ∙ (ap (λ (b : Before). before_sent b old.cpu.slots.live send (held_count handed.counts h.stood.now.state.sends send)) (before_is permits h) ∙ sent_before rules.limits handed h.stood.events h.stood.now h.runs.ran.now old.cpu.slots.live (sym h.runs.ran.stands) send sent used h.runs.ran.goes.taken));
         heard = h.stood.heard;
         episodes = h.stood.episodes;
         agree = subst (λ (all : List Choice). Agree handed.choices all) (sym used) h.stood.agree;

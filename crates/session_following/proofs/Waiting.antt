@@ -7,7 +7,7 @@ use Rattle.link_gate.specs.declared.heard.Heard.TheVariants as heard
 use Rattle.guest_cpu.proofs.TakeLemmas.{takes_write}
 use Rattle.session_state.specs.declared.options.Options.{Options}
 use Rattle.std.specs.Prelude.{get_or}
-use Rattle.session_following.proofs.Terms.{Bool, List, None, [], ap, append-nil, arith, inl, inr, length, map, refl, subst, sym, true, ℕ, ◌++◌, ◌+◌, ◌<◌, ◌∙◌, ◌∷◌, ◌≡◌, ◌≤◌, ◌⊎◌, map-append, slice_get-get_or, Ok, Result, Item, Send, Entry, LinkEvent, tells_then, Grew, Tells, Told, Seen, Choice, Heap, Log, Ledger, closed_connection, with_change, Image, AsksFor, Limits, Override, Path, Served, env_at, IsSilent, closing_of, Before, Bounds, events_of, items_in, nothing_before, received, KeepsItems, KeepsPhases, KeepsReplies, Rules, HearFault, ComesLast, HearsEvent, IsShown, MayHear, Noted, asks_under_all, episode_of, AsksForMore, heard_alone, Handed, plan_of, HeardEvent, with_heard, received_is, rules_by, SessionState, IsGoing, IsWaitingFor, Since, Story, plan_up_to, before_heard, before_took, IsFollowing, rules_following, IsMissing, Agree, AsksOn, Follows, WaitsOn, held_back, marked, nothing_told}
+use Rattle.session_following.proofs.Terms.{Bool, List, None, [], ap, append-nil, arith, inl, inr, length, map, refl, subst, sym, true, ℕ, ◌++◌, ◌+◌, ◌<◌, ◌∙◌, ◌∷◌, ◌≡◌, ◌≤◌, ◌⊎◌, map-append, slice_get-get_or, Ok, Result, Item, Send, Entry, LinkEvent, tells_then, Grew, Tells, Told, Seen, Choice, Heap, Log, Ledger, closed_connection, with_change, Image, AsksFor, Limits, Override, Path, Served, env_at, IsSilent, closing_of, Before, Bounds, events_of, items_in, nothing_before, received, KeepsItems, KeepsPhases, KeepsReplies, Rules, HearFault, ComesLast, HearsEvent, IsShown, MayHear, Noted, asks_under_all, episode_of, AsksForMore, heard_alone, Handed, plan_of, HeardEvent, with_heard, received_is, rules_in, rules_by, SessionState, IsGoing, IsWaitingFor, Since, Story, plan_up_to, before_heard, before_took, IsFollowing, rules_following, IsMissing, Agree, AsksOn, Follows, WaitsOn, held_back, marked, nothing_told}
 use Rattle.session_following.specs.Waiting.{AnswersSame, EndedOn}
 use Rattle.session_following.proofs.Following.{items_following, kept_following, took_following, took_one, whole_following}
 use Rattle.session_following.proofs.Hearing.{close_following, event_following}
@@ -70,7 +70,7 @@ module _ {R : Type 0} where
       record {
         path = s.now;
         ran = whole_following (held_back rules) image handed s.events s.now alone s.now f.stands.sound.carries.served;
-        asks = subst (AsksFor rules.limits plan s.now) exact (asks_under_all rules.limits (plan_up_to plan s.now.state.machine.taken) plan s.now s.now.state.machine.taken w.asking.asks);
+        asks = subst (AsksFor rules.limits plan s.now) exact (asks_under_all rules.limits (plan_up_to rules.limits.base plan s.now.state.machine.taken) plan s.now s.now.state.machine.taken w.asking.asks);
         not_yet = w.not_yet;
       }
 
@@ -125,7 +125,7 @@ module _ {R : Type 0} where
             here_is =
                 here_then permits (held_back rules) handed s.events (s.events ++ e ∷ []) s.now s.now {old = old} {new = new}
                 (record { options = ap (λ (t : SessionState R). t.options) same; rule = ap (λ (t : SessionState R). t.cpu.rule) same; hold = ap (λ (t : SessionState R). t.hold) same }) s.here_is
-                (came ∙ (ap (λ (b : Before). before_heard b e) (ap (λ (r : Rules). r.bounds.before) s.here_is) ∙ heard_before rules.limits.keep handed s.events s.now e));
+                (came ∙ (ap (λ (b : Before). before_heard b e) (ap (λ (r : Rules). r.bounds.before) s.here_is) ∙ heard_before rules.limits handed s.events s.now e));
             heard = tells_one s.events e s.heard tells;
             episodes = s.episodes;
             agree = s.agree;
@@ -149,13 +149,13 @@ module _ {R : Type 0} where
   pub took_on : (permits : R → Heap → ℕ → ℕ → Bool) {rules : Rules} {image : Image} {handed : Handed} {told : Told} {seen : Seen} {before noted : Noted} {missing : List ℕ} {old mid new : SessionState R} → rules.bounds.before ≡ nothing_before
       → (w : WaitsOn rules (rules_by permits old) image handed told seen before noted missing old) → rules.bounds.max_items < 4294967295 → old.taken < logs.received old.log
       → ((began : Since) (one : Seen) → IsWaitingFor (rules_by permits old) image began one old → IsGoing (rules_by permits old) image began one mid) → mid.steps ≡ old.steps + 1 → HasSameBase old mid → mid.before ≡ old.before
-      → new ≡ record mid { env = new.env; until = new.until; before = new.before } → new.env ≡ env_at (plan_of mid.options.keep handed.episodes) mid.taken → new.until ≡ mid.taken + 1 → new.before ≡ before_took mid.before mid.cpu.slots.live new.env
+      → new ≡ record mid { env = new.env; until = new.until; before = new.before } → new.env ≡ env_at mid.options.base (plan_of mid.options.keep handed.episodes) mid.taken → new.until ≡ mid.taken + 1 → new.before ≡ before_took mid.before mid.cpu.slots.live new.env
       → Follows rules (rules_by permits new) image handed told seen before noted missing new
   took_on permits {rules = rules} {image = image} {handed = handed} {seen = seen} {before = before} {noted = noted} {missing = missing} {old = old} {mid = mid} {new = new} alone w few there going steps base came same told_env until before_is =
       let s = w.asking.stands in
       let plan : List Override = plan_of rules.limits.keep handed.episodes in
-      let keeps : mid.options.keep ≡ rules.limits.keep = ap (λ (o : Options). o.keep) base.options ∙ ap (λ (r : Rules). r.limits.keep) s.here_is in
-      let env : new.env ≡ env_at plan mid.taken = told_env ∙ ap (λ (keep : ℕ). env_at (plan_of keep handed.episodes) mid.taken) keeps in
+      let limits : (rules_by permits mid).limits ≡ rules.limits = (λ i. (rules_in (base.options i) mid.before mid.hold (permits (base.rule i))).limits) ∙ ap (λ (r : Rules). r.limits) s.here_is in
+      let env : new.env ≡ env_at rules.limits.base plan mid.taken = told_env ∙ ap (λ (l : Limits). env_at l.base (plan_of l.keep handed.episodes) mid.taken) limits in
       let mark = is_marked before noted in
       let here : Rules = rules_following (held_back rules) handed s.events s.now in
       let g : IsGoing here image (marked before noted) (record seen { told = nothing_told }) mid =
@@ -166,13 +166,13 @@ module _ {R : Type 0} where
       let stood : StandsThere here image (marked before noted) seen.phases g.story.survivor [] mid = going_there g mark in
       let way : Served rules.limits items under s.now to = subst (λ (p : Path). Served rules.limits items under p to) stood.begun stood.way in
       let one : to.steps ≡ s.now.steps + 1 = omega (arith, g.answers.steps, steps, s.follows.stands.answers.steps) in
-      let asks = asks_under_all rules.limits (plan_up_to plan s.now.state.machine.taken) under s.now s.now.state.machine.taken w.asking.asks in
+      let asks = asks_under_all rules.limits (plan_up_to rules.limits.base plan s.now.state.machine.taken) under s.now s.now.state.machine.taken w.asking.asks in
       let took = took_one rules.limits items under s.now to asks way one in
       let silent = took_silent rules.limits items under s.now to asks (omega (arith, there, received_is s.follows.stands.goes.items, s.follows.stands.answers.taken)) way one in
       let number : mid.taken ≡ old.taken + 1 = omega (arith, g.answers.taken, took.taken, s.follows.stands.answers.taken) in
-      let after : new ≡ record mid { env = env_at plan (old.taken + 1); until = old.taken + 2; before = new.before; hold = mid.hold } =
-      same ∙ (λ i. record mid { env = (env ∙ ap (env_at plan) number) i; until = (until ∙ two mid.taken old.taken number) i; before = new.before }) in
-      let env_is : new.env ≡ env_at plan to.state.machine.taken = env ∙ ap (env_at plan) g.answers.taken in
+      let after : new ≡ record mid { env = env_at rules.limits.base plan (old.taken + 1); until = old.taken + 2; before = new.before; hold = mid.hold } =
+      same ∙ (λ i. record mid { env = (env ∙ ap (env_at rules.limits.base plan) number) i; until = (until ∙ two mid.taken old.taken number) i; before = new.before }) in
+      let env_is : new.env ≡ env_at rules.limits.base plan to.state.machine.taken = env ∙ ap (env_at rules.limits.base plan) g.answers.taken in
       record {
         alone = alone;
         hold_is = s.hold_is ∙ sym (ap (λ (t : SessionState R). t.options.hold) same ∙ ap (λ (o : Options). o.hold) base.options);
@@ -184,7 +184,7 @@ module _ {R : Type 0} where
         here_is =
             here_then permits (held_back rules) handed s.events s.events s.now to {old = old} {new = new}
             (record { options = ap (λ (t : SessionState R). t.options) same ∙ base.options; rule = ap (λ (t : SessionState R). t.cpu.rule) same ∙ base.rule; hold = ap (λ (t : SessionState R). t.hold) same ∙ base.hold }) s.here_is
-            (before_is ∙ (ap (λ (b : Before). before_took b mid.cpu.slots.live new.env) (came ∙ ap (λ (r : Rules). r.bounds.before) s.here_is) ∙ took_before rules.limits.keep handed s.events s.now to mid.cpu.slots.live g.goes.guest new.env silent.sends silent.choices took.taken env_is));
+            (before_is ∙ (ap (λ (b : Before). before_took b mid.cpu.slots.live new.env) (came ∙ ap (λ (r : Rules). r.bounds.before) s.here_is) ∙ took_before rules.limits handed s.events s.now to mid.cpu.slots.live g.goes.guest new.env silent.sends silent.choices took.taken env_is));
         heard = s.heard;
         episodes = s.episodes;
         agree = subst (λ (all : List Choice). Agree handed.choices all) (sym silent.choices) s.agree;

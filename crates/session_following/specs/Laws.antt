@@ -1,13 +1,15 @@
 -- What holds of a session that follows, whatever its steps are.
 use Rattle.std.specs.Prelude.{◌≡◌, ℕ, ◌-◌, ◌<◌, ◌≤◌, List, [], ◌∷◌, ◌++◌, None, length, take}
-use Rattle.session_following.specs.Terms.{Item, Send, sent_to, Plain, IsOpened, Ledger, Image, Override, Path, Served, env_at, origin, Before, events_of, IsSendable, KeepsReplies, Rules, Handed, count_of, held, plan_of}
+use Rattle.session_following.specs.Terms.{Item, Send, sent_to, Env, IsOpened, Ledger, Image, Override, Path, Served, env_at, origin, Before, events_of, IsSendable, KeepsReplies, Rules, Handed, count_of, held, plan_of}
 use Rattle.session_following.specs.Following.{plan_up_to, rules_after}
 use Rattle.session_following.specs.Reaching.{HasNotReached}
 use Rattle.session_following.specs.Sending.{held_count, with_held}
 
--- Up to a count of items the plan up to it says the same as the whole one, and behind it Plain.
+-- Up to a count of items the plan up to it says the same as the whole one, and behind it the base.
 abbrev pub UpToIsExact : Type 0
-UpToIsExact = (plan : List Override) (last count : ℕ) → (count ≤ last → env_at (plan_up_to plan last) count ≡ env_at plan count) × (last < count → env_at (plan_up_to plan last) count ≡ Plain)
+UpToIsExact =
+    (base : Env) (plan : List Override) (last count : ℕ) →
+    (count ≤ last → env_at base (plan_up_to base plan last) count ≡ env_at base plan count) × (last < count → env_at base (plan_up_to base plan last) count ≡ base)
 
 -- Of one more send as much is held as the count of its connection has left.
 abbrev pub HeldGrows : Type 0

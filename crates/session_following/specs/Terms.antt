@@ -10,7 +10,6 @@ pub use Rattle.links.specs.Seen.{Seen}
 pub use Rattle.block_book.specs.declared.choice.Choice.{Choice}
 pub use Rattle.block_book.specs.Heap.{Heap}
 pub use Rattle.alloc_env.specs.declared.env.Env.{Env}
-pub use Rattle.alloc_env.specs.declared.env.Env.TheVariants.{Plain}
 pub use Rattle.item_log.specs.Log.{IsPieceOf, Log}
 pub use Rattle.reply_ledger.specs.Ledger.{IsOpened, Ledger, NotBefore, Passed, closed_connection, passed_connection, passed_to, with_change, with_passed, with_send}
 unfoldable pub use Rattle.reply_ledger.specs.Ledger.{connection_of, stamped, stamped_to, times_of}

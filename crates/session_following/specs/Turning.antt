@@ -54,12 +54,12 @@ pub record HasRunOn {R : Type 0} (rules here : Rules) (image : Image) (handed : 
   pub stood : Follows rules here image handed before seen noted_before noted missing was
   pub same : session ≡ record was { cpu = session.cpu }
   pub cpu : session.cpu ≡ with_live (live_of session.cpu) was.cpu
-  pub runs : RunsWriting rules.limits (items_in (rules_following (held_back rules) handed stood.events stood.now).bounds []) (plan_up_to (plan_of rules.limits.keep handed.episodes) stood.now.state.machine.taken) was.cpu.base stood.now was.cpu.written (Ok happened) (live_of session.cpu)
+  pub runs : RunsWriting rules.limits (items_in (rules_following (held_back rules) handed stood.events stood.now).bounds []) (plan_up_to rules.limits.base (plan_of rules.limits.keep handed.episodes) stood.now.state.machine.taken) was.cpu.base stood.now was.cpu.written (Ok happened) (live_of session.cpu)
 
 -- It stands at its request for the next item.
 pub record AsksOn {R : Type 0} (rules here : Rules) (image : Image) (handed : Handed) (before : Told) (seen : Seen) (noted_before noted : Noted) (missing : List ℕ) (session : SessionState R) : Type 0 where
   pub stands : Follows rules here image handed before seen noted_before noted missing session
-  pub asks : AsksFor rules.limits (plan_up_to (plan_of rules.limits.keep handed.episodes) stands.now.state.machine.taken) stands.now stands.now.state.machine.taken
+  pub asks : AsksFor rules.limits (plan_up_to rules.limits.base (plan_of rules.limits.keep handed.episodes) stands.now.state.machine.taken) stands.now stands.now.state.machine.taken
 
 -- And it hasn't reached what was handed over: so it waits for the item.
 pub record WaitsOn {R : Type 0} (rules here : Rules) (image : Image) (handed : Handed) (before : Told) (seen : Seen) (noted_before noted : Noted) (missing : List ℕ) (session : SessionState R) : Type 0 where
@@ -70,7 +70,7 @@ pub record WaitsOn {R : Type 0} (rules here : Rules) (image : Image) (handed : H
 pub record FailsOn {R : Type 0} (rules here : Rules) (image : Image) (handed : Handed) (before : Told) (seen : Seen) (noted_before noted : Noted) (missing : List ℕ) (session : SessionState R) : Type 0 where
   pub stands : Follows rules here image handed before seen noted_before noted missing session
   pub cause : Cause
-  pub fails : FailsBy rules.limits (plan_up_to (plan_of rules.limits.keep handed.episodes) stands.now.state.machine.taken) stands.now cause
+  pub fails : FailsBy rules.limits (plan_up_to rules.limits.base (plan_of rules.limits.keep handed.episodes) stands.now.state.machine.taken) stands.now cause
 
 -- A session is released: what it followed is a part before an ordinary session that has just begun there, past the failure behind which its environment was
 -- adopted, or there.

@@ -38,8 +38,8 @@ fn is_over(point: u64, count: u64, keep: u32) -> bool
 }
 
 // The environment at a count of items behind one more episode, where it was this one without it.
-fn env_behind(episode: &Episode, taken: u64, keep: u32, env: Env) -> Env
-    ensures { (plan : List Override) → env ≡ env_at plan taken → result ≡ env_at (plan_behind keep plan episode.now) taken }
+fn env_behind(episode: &Episode, taken: u64, keep: u32, base: Env, env: Env) -> Env
+    ensures { (plan : List Override) → env ≡ env_at base plan taken → result ≡ env_at base (plan_behind keep plan episode.now) taken }
 {
     let Some(attempt) = adopted(episode.tries.as_slice()) else {
         return env;
@@ -48,20 +48,20 @@ fn env_behind(episode: &Episode, taken: u64, keep: u32, env: Env) -> Env
         return env;
     }
     if is_over(episode.point, taken, keep) {
-        return Env::Plain;
+        return base;
     }
     attempt.env
 }
 
 /// The environment that a report tells at a count of items: that of its newest episode whose trial was in force from there on or before, until `keep` items
-/// more were taken than at its failure; then `Plain`. The episodes stand from the oldest to the newest.
-pub fn env_planned(episodes: &[Episode], taken: u64, keep: u32) -> Env
-    ensures { result ≡ env_at (plan_of keep episodes.now) taken }
+/// more were taken than at its failure; then the base. The episodes stand from the oldest to the newest.
+pub fn env_planned(episodes: &[Episode], taken: u64, keep: u32, base: Env) -> Env
+    ensures { result ≡ env_at base (plan_of keep episodes.now) taken }
 {
-    let mut env = Env::Plain;
+    let mut env = base;
     let mut rest = episodes;
     'episodes: while let [episode, behind @ ..] = rest {
-        env = env_behind(episode, taken, keep, env);
+        env = env_behind(episode, taken, keep, base, env);
         rest = behind;
     }
     env
@@ -91,19 +91,19 @@ pub fn are_well_placed(episodes: &[Episode]) -> bool
 }
 
 /// The environment that is in force from a count of items on, behind the last failure of a report, and the count where it ends: `keep` items behind that
-/// failure, or 0 without one.
-pub fn in_force(episodes: &[Episode], taken: u64, keep: u32) -> (Env, u64)
+/// failure, or 0 without one; then the base is.
+pub fn in_force(episodes: &[Episode], taken: u64, keep: u32, base: Env) -> (Env, u64)
     requires placed { AreWellPlaced episodes.now }
     requires behind { IsFollowedBy taken (last_or None episodes.now) }
     requires small { taken < 2 ^ 63 }
-    ensures in_force { IsInForce (plan_of keep episodes.now) taken result.0 result.1 }
+    ensures in_force { IsInForce base (plan_of keep episodes.now) taken result.0 result.1 }
     ensures until { EndsAfter keep (last_or None episodes.now) result.1 }
 {
     let [.., last] = episodes else {
-        return (Env::Plain, 0);
+        return (base, 0);
     };
     match adopted(last.tries.as_slice()) {
         Some(attempt) => (attempt.env, last.point + keep as u64),
-        None => (Env::Plain, 0),
+        None => (base, 0),
     }
 }

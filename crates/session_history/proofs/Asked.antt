@@ -28,7 +28,7 @@ next_grows limits items env path to goes =
 pub served_grows : (limits : Limits) (items : List Item) (plan : List Override) (first second : Path) → Served limits items plan first second → Grows first.state second.state
 served_grows limits items plan first second served =
     repeated_keeps (planned_next limits items plan) (λ a b. Grows a.state b.state) (λ a. grows_same a.state) (λ a b c. grows_on a.state b.state c.state)
-    (λ a b goes. next_grows limits items (env_at plan a.state.machine.taken) a b goes) served.more first second served.ran
+    (λ a b goes. next_grows limits items (env_at limits.base plan a.state.machine.taken) a b goes) served.more first second served.ran
 
 -- the second run is the first with one more instruction or several
 pub record Later (limits : Limits) (items : List Item) (plan : List Override) (first second : Path) : Type 0 where
@@ -75,7 +75,7 @@ pub record TookOne (first second : Path) : Type 0 where
 
 pub asks_takes : (limits : Limits) (items : List Item) (plan : List Override) (path to : Path) (item : ℕ) → AsksFor limits plan path item → planned_next limits items plan path ≡ Some to → TookOne path to
 asks_takes limits items plan path to item asks goes =
-    let env = env_at plan path.state.machine.taken in
+    let env = env_at limits.base plan path.state.machine.taken in
     let waits = waits_of limits env (guest_of path) asks.asks in
     let parts = serves_to limits items env path to goes in
     of_item (slice_get items path.state.machine.taken) (ap (after path.state) (sym (wants_takes path.state.machine waits.given.chosen waits.wants (slice_get items path.state.machine.taken) parts.given.chosen)) ∙ parts.goes)

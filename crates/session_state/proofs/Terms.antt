@@ -26,7 +26,7 @@ pub use Rattle.recovery.proofs.ForgetLemmas.{HasOldest, after_oldest, can_forget
 pub use Rattle.recovery.proofs.Handled.{handled_adopts, handled_first, handled_near, handled_on, handled_save, has_ring, near_handles, none_followed, stands_up_to}
 pub use Rattle.recovery.proofs.RingLemmas.{ring_beside, ring_fails, ring_more, ring_on}
 pub use Rattle.recovery.proofs.Sending.{between_behind, times_low}
-pub use Rattle.session_state.specs.Terms.{Adopted, AllocError, Answer, AreBehind, AreBetween, AreChained, AreDuePieces, AreFronts, AreGiven, AreHeeded, AreInOrder, AreRecovered, AreRinged, AreSendable, AreStampedBy, AsksFor, AtBreak, AtEnd, Bounds, Brings, CanGive, CanGoOn, Cause, Chapter, Checkpoint, Choice, ComesLast, ComesOn, Coming, Connection, Counts, CpuState, Ending, EndsBy, Entry, Env, Episode, EpisodeShows, Event, Fails, FailsBy, Failure, Framing, GoesOn, Grant, Grew, HandedLast, HasAdoptedRun, HasAnswerCause, HasEnded, HasHanded, HasHandled, HasNoEnding, HasPassCause, HasRecovery, HasRing, HasToRecover, HaveRings, Heap, HearFault, HearShows, Heard, HearsBy, Held, Image, IoFault, IsAccount, IsBroken, IsClosing, IsDueBy, IsDuePiece, IsEnd, IsFresh, IsHeard, IsHeeded, IsInForce, IsItemOf, IsLastRefused, IsMadeDue, IsNext, IsOpened, IsOwed, IsPassed, IsReady, IsRecovery, IsSendable, IsShown, IsSilent, IsSoundBefore, IsUnheeded, IsWaiting, Item, Keeping, KeepsItems, KeepsPassing, KeepsPhases, KeepsReplies, KeepsRing, KeepsSlots, Latest, LeavesNothing, LeavesRun, LeavesSession, Ledger, Limits, LinkEvent, Live, Log, MAX_ITEMS, MayPass, Moment, NotBefore, Noted, OneEpisode, Options, Override, OwesNothing, OwesNothingAtEnd, PassFault, Passed, Passes, PassesRest, Path, Phases, Plain, Prefix, Recovered, Recovery, Refuses, Rose, Rules, RunsWriting, SavesIf, Seen, Send, Served, Serving, Session, SessionBreak, SessionEnd, Shown, Shows, ShowsSession, Stand, Standing, Stands, StandsAt, State, Stays, Stop, Survivor, Takes, TakesBehind, TakesOn, Tells, TellsMore, TellsTable, Told, Trial, Try, Turn, Unheeded, Unnoted, Wants, WasAsked, Writes, adopted_by, after, alone, before_end, behind, behind_items, break_answer, brought, but_given, closed_connection, closes, closing_of, count_true, ending_at, entries_of, env_at, episode_of, events_in, events_of, failed_with, first_survivor, gone_on, guest_of, handle, hear, hear_parts, heeded, is_closed_by, is_closing, is_far, is_gone, is_left, is_open, items_in, items_of, journal, journal_of, keeping_by, latest, listed, live_of, live_with_item, longer, marks_of, may_send, moment_of, moves, no_replies, noted, nothing_before, oldest_of, opens, origin, passed_in, place_at, place_of, planned_next, received, received_before, received_range, recovery_of, ring_if, sent_to, standing_of, stands_of, starting_path, starting_stands, steps_of, survivor_in, table, taken_in, taken_standing, then_entries, then_entry, with_change, with_live, with_range, with_send}
+pub use Rattle.session_state.specs.Terms.{Adopted, AllocError, Answer, AreBehind, AreBetween, AreChained, AreDuePieces, AreFronts, AreGiven, AreHeeded, AreInOrder, AreRecovered, AreRinged, AreSendable, AreStampedBy, AsksFor, AtBreak, AtEnd, Bounds, Brings, CanGive, CanGoOn, Cause, Chapter, Checkpoint, Choice, ComesLast, ComesOn, Coming, Connection, Counts, CpuState, Ending, EndsBy, Entry, Env, Episode, EpisodeShows, Event, Fails, FailsBy, Failure, Framing, GoesOn, Grant, Grew, HandedLast, HasAdoptedRun, HasAnswerCause, HasEnded, HasHanded, HasHandled, HasNoEnding, HasPassCause, HasRecovery, HasRing, HasToRecover, HaveRings, Heap, HearFault, HearShows, Heard, HearsBy, Held, Image, IoFault, IsAccount, IsBroken, IsClosing, IsDueBy, IsDuePiece, IsEnd, IsFresh, IsHeard, IsHeeded, IsInForce, IsItemOf, IsLastRefused, IsMadeDue, IsNext, IsOpened, IsOwed, IsPassed, IsReady, IsRecovery, IsSendable, IsShown, IsSilent, IsSoundBefore, IsUnheeded, IsWaiting, Item, Keeping, KeepsItems, KeepsPassing, KeepsPhases, KeepsReplies, KeepsRing, KeepsSlots, Latest, LeavesNothing, LeavesRun, LeavesSession, Ledger, Limits, LinkEvent, Live, Log, MAX_ITEMS, MayPass, Moment, NotBefore, Noted, OneEpisode, Options, Override, OwesNothing, OwesNothingAtEnd, PassFault, Passed, Passes, PassesRest, Path, Phases, Prefix, Recovered, Recovery, Refuses, Rose, Rules, RunsWriting, SavesIf, Seen, Send, Served, Serving, Session, SessionBreak, SessionEnd, Shown, Shows, ShowsSession, Stand, Standing, Stands, StandsAt, State, Stays, Stop, Survivor, Takes, TakesBehind, TakesOn, Tells, TellsMore, TellsTable, Told, Trial, Try, Turn, Unheeded, Unnoted, Wants, WasAsked, Writes, adopted_by, after, alone, before_end, behind, behind_items, break_answer, brought, but_given, closed_connection, closes, closing_of, count_true, ending_at, entries_of, env_at, episode_of, events_in, events_of, failed_with, first_survivor, gone_on, guest_of, handle, hear, hear_parts, heeded, is_closed_by, is_closing, is_far, is_gone, is_left, is_open, items_in, items_of, journal, journal_of, keeping_by, latest, listed, live_of, live_with_item, longer, marks_of, may_send, moment_of, moves, no_replies, noted, nothing_before, oldest_of, opens, origin, passed_in, place_at, place_of, planned_next, received, received_before, received_range, recovery_of, ring_if, sent_to, standing_of, stands_of, starting_path, starting_stands, steps_of, survivor_in, table, taken_in, taken_standing, then_entries, then_entry, with_change, with_live, with_range, with_send}
 unfoldable pub use Rattle.session_state.specs.Terms.{connection_of, does, grant, heard_from, next_part, no_connections, parts_behind, rest_part, served_next, serves, settled, stamped, stamps_of, times_of, turn, unpassed, waits}
 pub use Rattle.session_state.specs.Options.{keeping_for, rules_in, rules_of}
 pub use Rattle.session_state.specs.Sessions.{IsBegun, SessionState, env_of, held_in}

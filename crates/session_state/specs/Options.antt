@@ -27,7 +27,7 @@ keeping_for options = record { ring = options.ring; every = options.every; pages
 -- taken before a reply is passed
 abbrev pub rules_in : Options → Before → ℕ → (Heap → ℕ → ℕ → Bool) → Rules
 rules_in options before hold permits = record {
-  limits = record { budget = options.budget; permits = permits; keep = options.keep };
+  limits = record { budget = options.budget; permits = permits; keep = options.keep; base = options.base };
   bounds = record { framing = options.frame; max_items = options.max_items; max_events = options.max_events; before = before };
   hold = hold;
 }

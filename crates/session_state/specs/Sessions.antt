@@ -1,7 +1,7 @@
 -- What a contract sees of a session.
 use Rattle.std.specs.Prelude.{◌≡◌, ℕ, ◌*◌, ◌/◌, List, [], nat_lt, if◌then◌else◌}
 use Rattle.item_log.specs.Log as logs
-use Rattle.session_state.specs.Terms.{Choice, Env, Plain, Log, empty_log, Ledger, no_replies, Image, CpuState, IsFreshCpu, Before, nothing_before, Held, Options}
+use Rattle.session_state.specs.Terms.{Choice, Env, Log, empty_log, Ledger, no_replies, Image, CpuState, IsFreshCpu, Before, nothing_before, Held, Options}
 use Rattle.session_state.specs.Options.{AreInRange}
 
 -- A session: its options, its guest with its checkpoints, the items and the replies; how many events came; of the run that it answers for
@@ -22,9 +22,9 @@ pub record SessionState (R : Type 0) : Type 0 where
   pub before : Before
   pub hold : ℕ
 
--- the environment in force: that of a session, with fewer items taken than its number; else Plain
+-- the environment in force: that of a session, with fewer items taken than its number; else the base of its options
 abbrev pub env_of : {R : Type 0} → SessionState R → Env
-env_of session = if nat_lt session.taken session.until then session.env else Plain
+env_of session = if nat_lt session.taken session.until then session.env else session.options.base
 
 -- what a recovery takes back of it
 abbrev pub held_in : {R : Type 0} → SessionState R → Held R
@@ -44,7 +44,7 @@ pub record IsBegun {R : Type 0} (image : Image) (options : Options) (rule : R) (
   pub no_choices : session.choices ≡ []
   pub no_items : session.taken ≡ 0
   pub no_steps : session.steps ≡ 0
-  pub plain : session.env ≡ Plain
+  pub based : session.env ≡ options.base
   pub until_none : session.until ≡ 0
   pub nothing_came : session.before ≡ nothing_before
   pub hold_is : session.hold ≡ options.hold

@@ -92,7 +92,7 @@ module _ {R : Type 0} where
     pub ring : KeepsRing rules image (entries story) story.survivor.plan story.survivor.now paths session.cpu session.log session.replies
     pub early : AreBehind session.recorded paths
     pub requests : HandlesRequests rules image (keeping_of session) story.earlier (entries story) story.recoveries story.survivor (stands_of session.cpu.slots.saved)
-    pub in_force : IsInForce story.survivor.plan story.survivor.now.state.machine.taken session.env session.until
+    pub in_force : IsInForce rules.limits.base story.survivor.plan story.survivor.now.state.machine.taken session.env session.until
 
 -- A run is past the failure behind which an environment was adopted that ends at this number of items; or stands there, at its request.
 abbrev pub EndsWithin : Limits → ℕ → Path → Type 0

@@ -13,7 +13,6 @@ pub use Rattle.links.specs.Seen.{Seen, but_given}
 pub use Rattle.block_book.specs.declared.choice.Choice.{Choice}
 pub use Rattle.block_book.specs.Heap.{Heap}
 pub use Rattle.alloc_env.specs.declared.env.Env.{Env}
-pub use Rattle.alloc_env.specs.declared.env.Env.TheVariants.{Plain}
 pub use Rattle.ckpt_ring.specs.Line.{count_true}
 pub use Rattle.ckpt_ring.specs.Slots.{Checkpoint, oldest_of}
 pub use Rattle.msg_frame.specs.declared.framing.Framing.{Framing}

@@ -1,4 +1,5 @@
 // What a session is asked for.
+use alloc_env::Env;
 use msg_frame::Framing;
 
 /// What a session is asked for.
@@ -20,6 +21,8 @@ pub struct Options {
     pub budget: u64,
     /// For how many items behind a failure the environment of the trial that is adopted stays in force: at least 1.
     pub keep: u32,
+    /// The environment that is in force from the first instruction on, and again where none that was adopted is.
+    pub base: Env,
     /// How many items a session may receive: 1 to 2^20.
     pub max_items: u64,
     /// How many events a session may have: 1 to 2^32.

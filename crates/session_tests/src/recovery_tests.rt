@@ -129,6 +129,22 @@ fn an_environment_is_kept_for_some_items(rt: HostRuntime) -> Result<(), Fail> {
     )
 }
 
+// One that a session is asked for is in force from the first instruction on, and again where none that was adopted is. It is tried as any other.
+#[test]
+fn an_environment_is_in_force_from_the_start(rt: HostRuntime) -> Result<(), Fail> {
+    play_rows(
+        rt.alloc(),
+        "
+            overflow o0|p0*.*.*.*.*.*.*.*.*.*.*.*. star=39 env=pad > Finished taken=13 steps=3460 watched=0 episodes=0
+            unset o0|p0a.a.a. env=pad > Finished taken=4 steps=286 watched=1 episodes=1 failure=2:AssertFailed(2)@10098 tries=1:Pad:Failed(AssertFailed(2)),1:Zero:Asks,
+            unset o0|p0a.a.a.a.a. env=pad > Finished taken=6 watched=2 episodes=2 failure=2:AssertFailed(2)@10098 tries=1:Pad:Failed(AssertFailed(2)),1:Zero:Asks, failure=6:AssertFailed(2)@10098 tries=5:Pad:Failed(AssertFailed(2)),5:Zero:Asks,
+            unset o0|p0a.a.a.a.a. env=zero > Finished taken=6 watched=0 episodes=0
+            tell_over o0|p0a. env=pad > Finished taken=2 o0|p0a.|g000013100.|e0| steps=256 blocks=13100,13310, watched=0 episodes=0
+            tell_over o0|p0a. env=plain > GaveUp{point:2,cause:AssertFailed(5)} taken=2 o0|p0a.|g000013000.| steps=247 blocks=13000,13010, watched=1 episodes=1
+        ",
+    )
+}
+
 // Which checkpoints stand. Where the start is the only one, its environment is in force from the first instruction on.
 #[test]
 fn checkpoints_stand_by_the_options(rt: HostRuntime) -> Result<(), Fail> {

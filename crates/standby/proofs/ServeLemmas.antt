@@ -1,7 +1,6 @@
 -- A follower serves: what each event of its guest makes of it.
 use Rattle.std.specs.declared.alloc.AllocError.{AllocError}
 use Rattle.links.specs.declared.journal.Entry.TheVariants as entry
-use Rattle.alloc_env.specs.declared.env.Env.TheVariants.{Plain}
 use Rattle.alloc_env.specs.declared.env.Env.{Env}
 use Rattle.run_history.specs.declared.answer.Answer.TheVariants as answer
 use Rattle.run_history.specs.declared.answer.Cause.TheVariants.{BadAccess, Hang}
@@ -17,7 +16,7 @@ use Rattle.guest_cpu.proofs.TakeLemmas.{asks_wants, takes_serve}
 use Rattle.item_log.specs.Log as logs
 use Rattle.replay.specs.Giving as giving
 use Rattle.rx_base.proofs.Composing.{rose_later}
-use Rattle.standby.proofs.Terms.{Bool, List, None, Option, Some, [], ap, append-nil, append_assoc, arith, cond, false, inl, inr, leb, length, length-append, refl, subst, suc, sym, true, zero, ℕ, ◌++◌, ◌+◌, ◌-◌, ◌<◌, ◌^◌, ◌∙◌, ◌∷◌, ◌≡◌, ◌≤◌, both_ways, leb-false, option_and_then_some, same_Some, Err, Ok, Result, slice_get, ◌⊎◌, Item, MAX_ITEMS, Prefix, Send, sent_to, Entry, LinkEvent, pieces_in-append, Coming, Open, Piece, Tells, Told, events_in, pieces_in, Seen, Choice, items_of, IsItemOf, Image, Answer, Cause, received_keeps, run_more, served_more, Fails, Wants, start, does, run, Guest, IsLaidOut, Limits, Path, Served, does_with, grant, guest_of, is_refused, planned_next, serve, serves, taken_standing, standing_of, AreCounted, Live, Standing, marks_of, turn, heeded, items_in, received, received_is, Recorded, count_of, leaves_then, HasGoneOn, AreGiven, AreOpen, HasNoFault, LinkTurns, Stage, has, stage_of, LinkAnswers, bounds_of, Follower, AreAwaited, HasHeard, HasStopped, HearsMore, IsAwaited, IsLater, KeepsRun, Unheard, HasCaughtUp, kept_to, AllGiven, PartGiven, missing, output_of, HasCutOff, HasPassed, IsPassFault, KeepsGuest, NoneTook, PassesBy, StandsHeard, one_send, AreServed, AreTold, AsksNext, EndsBy, HasServed, IsFollowed, IsRecordsEnd, MayServe, WasServed, plain_limits}
+use Rattle.standby.proofs.Terms.{Bool, List, None, Option, Some, [], ap, append-nil, append_assoc, arith, cond, false, inl, inr, leb, length, length-append, refl, subst, suc, sym, true, zero, ℕ, ◌++◌, ◌+◌, ◌-◌, ◌<◌, ◌^◌, ◌∙◌, ◌∷◌, ◌≡◌, ◌≤◌, both_ways, leb-false, option_and_then_some, same_Some, Err, Ok, Result, slice_get, ◌⊎◌, Item, MAX_ITEMS, Prefix, Send, sent_to, Entry, LinkEvent, pieces_in-append, Coming, Open, Piece, Tells, Told, events_in, pieces_in, Seen, Choice, Plain, items_of, IsItemOf, Image, Answer, Cause, received_keeps, run_more, served_more, Fails, Wants, start, does, run, Guest, IsLaidOut, Limits, Path, Served, does_with, grant, guest_of, is_refused, planned_next, serve, serves, taken_standing, standing_of, AreCounted, Live, Standing, marks_of, turn, heeded, items_in, received, received_is, Recorded, count_of, leaves_then, HasGoneOn, AreGiven, AreOpen, HasNoFault, LinkTurns, Stage, has, stage_of, LinkAnswers, bounds_of, Follower, AreAwaited, HasHeard, HasStopped, HearsMore, IsAwaited, IsLater, KeepsRun, Unheard, HasCaughtUp, kept_to, AllGiven, PartGiven, missing, output_of, HasCutOff, HasPassed, IsPassFault, KeepsGuest, NoneTook, PassesBy, StandsHeard, one_send, AreServed, AreTold, AsksNext, EndsBy, HasServed, IsFollowed, IsRecordsEnd, MayServe, WasServed, plain_limits}
 use Rattle.standby.specs.Running.{HasRoom, IsServing, IsWanting, NotesChoice, ServesBy}
 use Rattle.standby.proofs.GiveLemmas.{before_none}
 use Rattle.standby.proofs.FollowLemmas.{heard_ran, heard_takes}

@@ -21,7 +21,7 @@ pub use Rattle.replay.proofs.QuestionLemmas.{comes_to, ok_always, rises_behind}
 pub use Rattle.replay.proofs.ReplayLemmas.{replay_chooses, replay_more, replay_ran, replay_start, replay_takes}
 pub use Rattle.replay.proofs.RunLemmas.{ComesTo, Ran, comes_by, same_sends, with_send}
 pub use Rattle.replay.proofs.StartLemmas.{answers_link}
-pub use Rattle.standby.specs.Terms.{Answer, AreCounted, AreCounts, AreGiven, AreGivenInPart, AreOpen, AreOpenThen, Bounds, Cause, Choice, Coming, Difference, Differs, DiffersBy, Ended, Entry, Failed, Fails, Fits, Gives, Guest, HasAnswerCause, HasFound, HasNoFault, Heard, Image, IsCount, IsFresh, IsInOrder, IsItemOf, IsLaidOut, IsLastRefused, IsReplay, IsUnusable, Item, LeavesLink, Limits, LinkAnswers, LinkEvent, LinkFault, LinkHears, LinkTurns, Live, Log, LogsEvent, MAX_ITEMS, Marks, MayBegin, NextShows, Open, Path, Phases, Piece, Prefix, Recorded, Seen, Send, Served, Stage, Standing, Starved, StayOpen, Tells, TellsDifference, Told, Unanswered, Unheeded, Untaken, Unused, UsesBy, WaitsForItem, Wants, answer_of, bounds_of, brought, choice_by, closes, count_of, cut_entries, does_with, events_in, found_gone, guest_of, has, hear, hear_parts, heeded, in_order, is_bare, is_open, is_refused, items_by, items_in, items_of, live_of, logged, marks_of, opens, phase_after, pieces_in, planned_next, received, refusal, replay_of, rest_of, run, sent_to, serve, stage_of, standing_of, start_standing, taken_standing}
+pub use Rattle.standby.specs.Terms.{Answer, AreCounted, AreCounts, AreGiven, AreGivenInPart, AreOpen, AreOpenThen, Bounds, Cause, Choice, Coming, Difference, Differs, DiffersBy, Ended, Entry, Failed, Fails, Fits, Gives, Guest, HasAnswerCause, HasFound, HasNoFault, Heard, Image, IsCount, IsFresh, IsInOrder, IsItemOf, IsLaidOut, IsLastRefused, IsReplay, IsUnusable, Item, LeavesLink, Limits, LinkAnswers, LinkEvent, LinkFault, LinkHears, LinkTurns, Live, Log, LogsEvent, MAX_ITEMS, Marks, MayBegin, NextShows, Open, Path, Phases, Piece, Plain, Prefix, Recorded, Seen, Send, Served, Stage, Standing, Starved, StayOpen, Tells, TellsDifference, Told, Unanswered, Unheeded, Untaken, Unused, UsesBy, WaitsForItem, Wants, answer_of, bounds_of, brought, choice_by, closes, count_of, cut_entries, does_with, events_in, found_gone, guest_of, has, hear, hear_parts, heeded, in_order, is_bare, is_open, is_refused, items_by, items_in, items_of, live_of, logged, marks_of, opens, phase_after, pieces_in, planned_next, received, refusal, replay_of, rest_of, run, sent_to, serve, stage_of, standing_of, start_standing, taken_standing}
 unfoldable pub use Rattle.standby.specs.Terms.{does, grant, heeded_behind, items_from, no_connections, serves, start, start_machine, turn}
 pub use Rattle.standby.specs.declared.follower.Follower.{Follower}
 pub use Rattle.standby.specs.declared.following.Unfollowed.{Unfollowed}

@@ -4,14 +4,14 @@ use Rattle.links.specs.declared.journal.Entry.TheVariants as entry
 use Rattle.links.specs.declared.journal.LinkEvent.TheVariants as event
 use Rattle.run_history.specs.declared.answer.Answer.TheVariants as answer
 use Rattle.session_history.specs.Heeding as unheeded
-use Rattle.standby.specs.Terms.{Item, KEEP, Prefix, sent_to, Entry, LinkEvent, Coming, HasEnded, IsNext, Refuses, Tells, Told, events_in, pieces_in, Seen, Choice, is_bare, Image, Answer, Run, AsksFor, FailsBy, IsLaidOut, Limits, Path, Served, guest_of, IsLastRefused, IsLastTooLong, heeded, items_in, received, Recorded, count_of, AreOfLines, bounds_of}
+use Rattle.standby.specs.Terms.{Item, KEEP, Prefix, sent_to, Entry, LinkEvent, Coming, HasEnded, IsNext, Refuses, Tells, Told, events_in, pieces_in, Seen, Choice, is_bare, Plain, Image, Answer, Run, AsksFor, FailsBy, IsLaidOut, Limits, Path, Served, guest_of, IsLastRefused, IsLastTooLong, heeded, items_in, received, Recorded, count_of, AreOfLines, bounds_of}
 use Rattle.standby.specs.declared.follower.Follower.{Follower}
 use Rattle.standby.specs.Following.{HasCaughtUp}
 use Rattle.standby.specs.Missing.{AllGiven, PartGiven}
 
 -- so many instructions between two items, and no access rule
 abbrev pub plain_limits : ℕ → Limits
-plain_limits budget = record { budget = budget; permits = λ heap at count. true; keep = KEEP }
+plain_limits budget = record { budget = budget; permits = λ heap at count. true; keep = KEEP; base = Plain }
 
 -- Where a record ended: its run has as many instructions as the record, used all of its lines, and took as many items. The layout is that of its live
 -- blocks alone: nothing else stands in its heap, and no block is padded.

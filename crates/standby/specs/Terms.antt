@@ -10,6 +10,7 @@ pub use Rattle.links.specs.Links.{Coming, Gives, HasEnded, IsFresh, IsInOrder, I
 pub use Rattle.links.specs.Seen.{NextShows, Seen}
 pub use Rattle.block_book.specs.declared.choice.Choice.{Choice}
 pub use Rattle.block_book.specs.Heap.{is_bare}
+pub use Rattle.alloc_env.specs.declared.env.Env.TheVariants.{Plain}
 pub use Rattle.item_log.specs.Connections.{in_order, is_open, rest_of}
 pub use Rattle.item_log.specs.Heard.{Heard, brought, hear, hear_parts, items_by, items_of}
 unfoldable pub use Rattle.item_log.specs.Heard.{items_from}

@@ -1,4 +1,5 @@
 // Rows of a table: what is played to a program, and what is expected.
+use alloc_env::Env;
 use msg_frame::Framing;
 use rx_engine::Options;
 use std::alloc::Global;
@@ -10,13 +11,14 @@ pub(crate) const WINDOW: u32 = 1 << 20;
 // What may be given. `fail` is the number of a call of the link that fails, `gone` that of a give that finds its connection gone after
 // `after` bytes, and `note_fail` that of a call of the notes that fails. `memory` is how many calls of the link are done until it has no
 // memory any more, and `note_memory` how many of the notes. A `star` is so many letters x.
-const NAMES: [&str; 16] = [
+const NAMES: [&str; 17] = [
     "hold",
     "ring",
     "every",
     "frames",
     "budget",
     "keep",
+    "env",
     "max_items",
     "max_events",
     "frame",
@@ -117,6 +119,19 @@ fn framing_of(words: &str) -> Framing {
     }
 }
 
+fn env_of(words: &str) -> Result<Env, Fail> {
+    match value_of(words, "env") {
+        None => Ok(Env::Plain),
+        Some("plain") => Ok(Env::Plain),
+        Some("pad") => Ok(Env::Pad),
+        Some("zero") => Ok(Env::Zero),
+        Some("isolate") => Ok(Env::Isolate),
+        Some("delay") => Ok(Env::Delay),
+        Some("all") => Ok(Env::All),
+        Some(_) => Err(Fail::new("env")),
+    }
+}
+
 // What a session is asked for unless its row says otherwise: what its user has, but with a small window and with few pages.
 pub(crate) fn options_of(words: &str) -> Result<Options, Fail> {
     Ok(Options {
@@ -128,6 +143,7 @@ pub(crate) fn options_of(words: &str) -> Result<Options, Fail> {
         frames: small_number_of(words, "frames", 4)?,
         budget: large_number_of(words, "budget", 1_000_000)?,
         keep: small_number_of(words, "keep", 4)?,
+        base: env_of(words)?,
         max_items: large_number_of(words, "max_items", 1 << 20)?,
         max_events: large_number_of(words, "max_events", 1 << 32)?,
     })

@@ -44,11 +44,11 @@ asks_under_all limits plan other path item asks = record {
   lives = asks.lives;
   taken = asks.taken;
   asks =
-      serves_same limits (env_at other path.state.machine.taken) (env_at plan path.state.machine.taken) None (guest_of path) (idle limits (env_at plan path.state.machine.taken) (guest_of path) asks.asks)
+      serves_same limits (env_at limits.base other path.state.machine.taken) (env_at limits.base plan path.state.machine.taken) None (guest_of path) (idle limits (env_at limits.base plan path.state.machine.taken) (guest_of path) asks.asks)
       ∙ asks.asks;
 }
 
 -- so its next instruction is the same
 pub asks_next : (limits : Limits) (items : List Item) (plan other : List Override) (path : Path) (item : ℕ) → AsksFor limits plan path item → planned_next limits items plan path ≡ planned_next limits items other path
 asks_next limits items plan other path item asks =
-    served_next_same limits items (env_at plan path.state.machine.taken) (env_at other path.state.machine.taken) path (idle limits (env_at plan path.state.machine.taken) (guest_of path) asks.asks)
+    served_next_same limits items (env_at limits.base plan path.state.machine.taken) (env_at limits.base other path.state.machine.taken) path (idle limits (env_at limits.base plan path.state.machine.taken) (guest_of path) asks.asks)

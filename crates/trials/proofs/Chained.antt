@@ -30,12 +30,12 @@ chained_behind limits items plan image later (newest ∷ older) zero checkpoint 
 chained_behind limits items plan image later (newest ∷ older) (suc index) checkpoint chain are here = chained_behind limits items plan image newest older index checkpoint chain.1 are.1 here
 
 -- under plans that agree up to what was taken a run is the same
-served_alike : (limits : Limits) (items : List Item) (plan other : List Override) (first second : Path) (bound : ℕ) → ((count : ℕ) → count ≤ bound → env_at plan count ≡ env_at other count)
+served_alike : (limits : Limits) (items : List Item) (plan other : List Override) (first second : Path) (bound : ℕ) → ((count : ℕ) → count ≤ bound → env_at limits.base plan count ≡ env_at limits.base other count)
     → second.state.machine.taken ≤ bound → Served limits items plan first second → Served limits items other first second
 served_alike limits items plan other first second bound alike low served =
     served_as limits items plan other first second bound (λ now to before early goes. ap (λ (env : Env). served_next limits items env now) (sym (alike now.state.machine.taken early)) ∙ goes) low served
 
-chained_alike : (limits : Limits) (items : List Item) (plan other : List Override) (image : Image) (later : Path) (ring : List Path) (bound : ℕ) → ((count : ℕ) → count ≤ bound → env_at plan count ≡ env_at other count)
+chained_alike : (limits : Limits) (items : List Item) (plan other : List Override) (image : Image) (later : Path) (ring : List Path) (bound : ℕ) → ((count : ℕ) → count ≤ bound → env_at limits.base plan count ≡ env_at limits.base other count)
     → later.state.machine.taken ≤ bound → AreChained limits items plan image later ring → AreChained limits items other image later ring
 chained_alike limits items plan other image later [] bound alike low chain = served_alike limits items plan other (origin image) later bound alike low chain
 chained_alike limits items plan other image later (newest ∷ older) bound alike low chain = (
@@ -53,17 +53,17 @@ chained_start limits items plan other image later (newest ∷ older) is chain =
     (served_start limits items other image newest later first is, chained_start limits items plan other image newest older first chain.1)
 
 -- up to a checkpoint that isn't the start a trial's plan is the earlier one
-up_to : (keep : ℕ) (plan : List Override) (checkpoint : ℕ) (env : Env) (point count : ℕ) → 0 < checkpoint → count ≤ checkpoint → env_at plan count ≡ env_at (plan_of_trial keep plan checkpoint env point) count
-up_to keep plan checkpoint env point count some low =
-    sym (ap (λ (b : Bool). env_at (record { low = cond b 0 (checkpoint + 1); until = point + keep; env = env } ∷ plan) count) (ne_eqb checkpoint 0 (λ none. omega (arith, none, some)))
-    ∙ env_before plan (checkpoint + 1) (point + keep) env count (omega (arith, low)))
+up_to : (base : Env) (keep : ℕ) (plan : List Override) (checkpoint : ℕ) (env : Env) (point count : ℕ) → 0 < checkpoint → count ≤ checkpoint → env_at base plan count ≡ env_at base (plan_of_trial keep plan checkpoint env point) count
+up_to base keep plan checkpoint env point count some low =
+    sym (ap (λ (b : Bool). env_at base (record { low = cond b 0 (checkpoint + 1); until = point + keep; env = env } ∷ plan) count) (ne_eqb checkpoint 0 (λ none. omega (arith, none, some)))
+    ∙ env_before base plan (checkpoint + 1) (point + keep) env count (omega (arith, low)))
 
 chained_under : (limits : Limits) (items : List Item) (plan : List Override) (image : Image) (env : Env) (point : ℕ) (checkpoint : Path) (older : List Path) → IsCheckpoint limits image checkpoint → AreChained limits items plan image checkpoint older
     → AreChained limits items (plan_of_trial limits.keep plan checkpoint.state.machine.taken env point) image checkpoint older
 chained_under limits items plan image env point checkpoint older (inl is) chain = chained_start limits items plan (plan_of_trial limits.keep plan checkpoint.state.machine.taken env point) image checkpoint older is chain
 chained_under limits items plan image env point checkpoint older (inr asks) chain =
     chained_alike limits items plan (plan_of_trial limits.keep plan checkpoint.state.machine.taken env point) image checkpoint older checkpoint.state.machine.taken
-    (λ count low. up_to limits.keep plan checkpoint.state.machine.taken env point count asks.0 low) (omega arith) chain
+    (λ count low. up_to limits.base limits.keep plan checkpoint.state.machine.taken env point count asks.0 low) (omega arith) chain
 
 pub chained_adopt : ChainedAdopt
 chained_adopt limits items plan image env point later path ring index checkpoint chain are here served =

@@ -7,19 +7,19 @@ abbrev delayed : List Override
 delayed = record { low = 0; until = 5; env = Delay } ∷ []
 
 -- a trial from the start, after a failure with 3 items taken: its environment from the first instruction on, with up to 6 items taken
-from_start : map (env_at (plan_of_trial 4 delayed 0 Pad 3)) (0 ∷ 1 ∷ 2 ∷ 3 ∷ 4 ∷ 5 ∷ 6 ∷ 7 ∷ 8 ∷ []) ≡ Pad ∷ Pad ∷ Pad ∷ Pad ∷ Pad ∷ Pad ∷ Pad ∷ Plain ∷ Plain ∷ []
+from_start : map (env_at Plain (plan_of_trial 4 delayed 0 Pad 3)) (0 ∷ 1 ∷ 2 ∷ 3 ∷ 4 ∷ 5 ∷ 6 ∷ 7 ∷ 8 ∷ []) ≡ Pad ∷ Pad ∷ Pad ∷ Pad ∷ Pad ∷ Pad ∷ Pad ∷ Plain ∷ Plain ∷ []
 from_start = refl
 
 -- one from a checkpoint with 2 items taken: up to there the earlier plan, and behind it not even where that one goes on
-from_second : map (env_at (plan_of_trial 4 delayed 2 Zero 3)) (0 ∷ 1 ∷ 2 ∷ 3 ∷ 4 ∷ 5 ∷ 6 ∷ 7 ∷ 8 ∷ []) ≡ Delay ∷ Delay ∷ Delay ∷ Zero ∷ Zero ∷ Zero ∷ Zero ∷ Plain ∷ Plain ∷ []
+from_second : map (env_at Plain (plan_of_trial 4 delayed 2 Zero 3)) (0 ∷ 1 ∷ 2 ∷ 3 ∷ 4 ∷ 5 ∷ 6 ∷ 7 ∷ 8 ∷ []) ≡ Delay ∷ Delay ∷ Delay ∷ Zero ∷ Zero ∷ Zero ∷ Zero ∷ Plain ∷ Plain ∷ []
 from_second = refl
 
 -- one from the checkpoint at which the run failed
-from_last : map (env_at (plan_of_trial 4 delayed 3 All 3)) (2 ∷ 3 ∷ 4 ∷ 6 ∷ 7 ∷ []) ≡ Delay ∷ Delay ∷ All ∷ All ∷ Plain ∷ []
+from_last : map (env_at Plain (plan_of_trial 4 delayed 3 All 3)) (2 ∷ 3 ∷ 4 ∷ 6 ∷ 7 ∷ []) ≡ Delay ∷ Delay ∷ All ∷ All ∷ Plain ∷ []
 from_last = refl
 
 -- as the second, where an environment is kept for one item: Zero with 3 items taken alone
-kept_for_one : map (env_at (plan_of_trial 1 delayed 2 Zero 3)) (0 ∷ 1 ∷ 2 ∷ 3 ∷ 4 ∷ 5 ∷ []) ≡ Delay ∷ Delay ∷ Delay ∷ Zero ∷ Plain ∷ Plain ∷ []
+kept_for_one : map (env_at Plain (plan_of_trial 1 delayed 2 Zero 3)) (0 ∷ 1 ∷ 2 ∷ 3 ∷ 4 ∷ 5 ∷ []) ≡ Delay ∷ Delay ∷ Delay ∷ Zero ∷ Plain ∷ Plain ∷ []
 kept_for_one = refl
 
 -- a run that took so many items

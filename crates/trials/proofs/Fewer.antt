@@ -53,7 +53,7 @@ served_front limits items more plan first last low served = record { more = serv
     by_count (suc n) last low ran =
         option_and_then_some (planned_next limits (items ++ more) plan) (serve limits (items ++ more) plan first n) last ran (λ mid before goes.
         let early : mid.state.machine.taken ≤ length items = omega (arith, low, taken_later limits (items ++ more) plan mid last (served_one limits (items ++ more) plan mid last goes)) in
-        ap (option_and_then (planned_next limits items plan)) (by_count n mid early before) ∙ next_front limits items more (env_at plan mid.state.machine.taken) mid last goes low)
+        ap (option_and_then (planned_next limits items plan)) (by_count n mid early before) ∙ next_front limits items more (env_at limits.base plan mid.state.machine.taken) mid last goes low)
 
 -- and one that is prompt
 pub prompt_front : (rules : Rules) (items more : List Item) (survivor : Survivor) (place : Place) → survivor.now.state.machine.taken ≤ length items → IsPrompt rules (items ++ more) survivor place → IsPrompt rules items survivor place

@@ -8,7 +8,7 @@ taken_later limits items plan first second served = (served_grows limits items p
 pub steps_later : (limits : Limits) (items : List Item) (plan : List Override) (first second : Path) → Served limits items plan first second → first.steps ≤ second.steps
 steps_later limits items plan first second served =
     repeated_keeps (planned_next limits items plan) (λ a b. a.steps ≤ b.steps) (λ a. omega arith) (λ a b c one other. omega (arith, one, other))
-    (λ a b goes. let parts = serves_to limits items (env_at plan a.state.machine.taken) a b goes in omega (arith, parts.steps)) served.more first second served.ran
+    (λ a b goes. let parts = serves_to limits items (env_at limits.base plan a.state.machine.taken) a b goes in omega (arith, parts.steps)) served.more first second served.ran
 
 -- one instruction is a run
 pub served_one : (limits : Limits) (items : List Item) (plan : List Override) (first second : Path) → planned_next limits items plan first ≡ Some second → Served limits items plan first second
@@ -22,7 +22,7 @@ nothing_before limits items plan first second served none = by_count served.more
     by_count zero ran = same_Some first second ran
     by_count (suc n) ran =
         option_and_then_some (planned_next limits items plan) (serve limits items plan first n) second ran (λ mid before goes.
-        let parts = serves_to limits items (env_at plan mid.state.machine.taken) mid second goes in absurd (omega (arith, parts.steps, none)))
+        let parts = serves_to limits items (env_at limits.base plan mid.state.machine.taken) mid second goes in absurd (omega (arith, parts.steps, none)))
 
 pub later_served : (limits : Limits) (items : List Item) (plan : List Override) (first second : Path) → Later limits items plan first second → Served limits items plan first second
 later_served limits items plan first second later = served_on limits items plan first later.next second (served_one limits items plan first later.next later.goes) later.on
@@ -30,7 +30,7 @@ later_served limits items plan first second later = served_on limits items plan 
 -- and it counts more instructions
 pub later_steps : (limits : Limits) (items : List Item) (plan : List Override) (first second : Path) → Later limits items plan first second → first.steps < second.steps
 later_steps limits items plan first second later =
-    omega (arith, (serves_to limits items (env_at plan first.state.machine.taken) first later.next later.goes).steps, steps_later limits items plan later.next second later.on)
+    omega (arith, (serves_to limits items (env_at limits.base plan first.state.machine.taken) first later.next later.goes).steps, steps_later limits items plan later.next second later.on)
 
 -- Of two runs from one place under one plan, one is the other or goes on as it.
 pub data Compared (limits : Limits) (items : List Item) (plan : List Override) (first second : Path) : Type 0 where

@@ -1,21 +1,21 @@
 -- A run that was made in one environment is one under the plan of its trial.
 use Rattle.session_notes.specs.declared.episode.Tried.TheVariants as tried
-use Rattle.trials.proofs.Terms.{Bool, List, None, [], ap, arith, cond, eqb, inl, inr, ltb, subst, sym, ℕ, ◌+◌, ◌<◌, ◌∙◌, ◌∷◌, ◌≡◌, ◌≤◌, ◌⊎◌, cond_both, eqb-false, le-ltb, lt-ltb, Item, Send, Env, Plain, Image, Cause, Fails, Wants, start, start_machine, AsksFor, FailsBy, Limits, Override, Path, Served, env_at, guest_of, origin, planned_next, served_next, serves, asks_takes, later_of, Covers, Tried, ComesTo, IsBehindAt, IsContradicted, IsPast, plan_of_trial, IsCheckpoint, TrialComes, TrialServes, everywhere}
+use Rattle.trials.proofs.Terms.{Bool, List, None, [], ap, arith, cond, eqb, inl, inr, ltb, subst, sym, ℕ, ◌+◌, ◌<◌, ◌∙◌, ◌∷◌, ◌≡◌, ◌≤◌, ◌⊎◌, cond_both, eqb-false, le-ltb, lt-ltb, Item, Send, Env, Image, Cause, Fails, Wants, start, start_machine, AsksFor, FailsBy, Limits, Override, Path, Served, env_at, guest_of, origin, planned_next, served_next, serves, asks_takes, later_of, Covers, Tried, ComesTo, IsBehindAt, IsContradicted, IsPast, plan_of_trial, IsCheckpoint, TrialComes, TrialServes, everywhere}
 use Rattle.trials.proofs.Asking.{asks_under_all, asks_next}
 use Rattle.trials.proofs.Going.{taken_later, served_as}
 
 -- the environment of the latest override, and of those before it
-pub env_within : (plan : List Override) (low until : ℕ) (env : Env) (count : ℕ) → low ≤ count → count < until → env_at (record { low = low; until = until; env = env } ∷ plan) count ≡ env
-env_within plan low until env count from to =
-    ap (λ (b : Bool). cond b (env_at plan count) (cond (ltb count until) env Plain)) (le-ltb count low from) ∙ ap (λ (b : Bool). cond b env Plain) (lt-ltb count until to)
+pub env_within : (base : Env) (plan : List Override) (low until : ℕ) (env : Env) (count : ℕ) → low ≤ count → count < until → env_at base (record { low = low; until = until; env = env } ∷ plan) count ≡ env
+env_within base plan low until env count from to =
+    ap (λ (b : Bool). cond b (env_at base plan count) (cond (ltb count until) env base)) (le-ltb count low from) ∙ ap (λ (b : Bool). cond b env base) (lt-ltb count until to)
 
-pub env_before : (plan : List Override) (low until : ℕ) (env : Env) (count : ℕ) → count < low → env_at (record { low = low; until = until; env = env } ∷ plan) count ≡ env_at plan count
-env_before plan low until env count before = ap (λ (b : Bool). cond b (env_at plan count) (cond (ltb count until) env Plain)) (lt-ltb count low before)
+pub env_before : (base : Env) (plan : List Override) (low until : ℕ) (env : Env) (count : ℕ) → count < low → env_at base (record { low = low; until = until; env = env } ∷ plan) count ≡ env_at base plan count
+env_before base plan low until env count before = ap (λ (b : Bool). cond b (env_at base plan count) (cond (ltb count until) env base)) (lt-ltb count low before)
 
 -- from there on, until so many items more than the point were taken, it is in force
-pub in_force : (keep : ℕ) (plan : List Override) (checkpoint : ℕ) (env : Env) (point count : ℕ) → (checkpoint ≡ 0) ⊎ (checkpoint < count) → count < point + keep → env_at (everywhere keep env point) count ≡ env_at (plan_of_trial keep plan checkpoint env point) count
-in_force keep plan checkpoint env point count from to =
-    env_within [] 0 (point + keep) env count (omega arith) to ∙ sym (env_within plan (cond (eqb checkpoint 0) 0 (checkpoint + 1)) (point + keep) env count (low from) to)
+pub in_force : (base : Env) (keep : ℕ) (plan : List Override) (checkpoint : ℕ) (env : Env) (point count : ℕ) → (checkpoint ≡ 0) ⊎ (checkpoint < count) → count < point + keep → env_at base (everywhere keep env point) count ≡ env_at base (plan_of_trial keep plan checkpoint env point) count
+in_force base keep plan checkpoint env point count from to =
+    env_within base [] 0 (point + keep) env count (omega arith) to ∙ sym (env_within base plan (cond (eqb checkpoint 0) 0 (checkpoint + 1)) (point + keep) env count (low from) to)
   where
     of_past : (checkpoint ≡ 0) ⊎ (checkpoint < count) → (checkpoint ≡ 0 → ⊥) → checkpoint + 1 ≤ count
     of_past (inl none) some = absurd (some none)
@@ -43,13 +43,13 @@ start_taken image checkpoint is = ap (λ (p : Path). p.state.machine.taken) is
 -- on a trial's way its environment is in force, or the run asks for an item, at the checkpoint itself
 pub on_way : (limits : Limits) (items : List Item) (image : Image) (plan : List Override) (env : Env) (point : ℕ) (checkpoint path : Path) → IsCheckpoint limits image checkpoint → path.state.machine.taken < point + limits.keep
     → Served limits items (everywhere limits.keep env point) checkpoint path
-    → (env_at (everywhere limits.keep env point) path.state.machine.taken ≡ env_at (plan_of_trial limits.keep plan checkpoint.state.machine.taken env point) path.state.machine.taken) ⊎ AsksFor limits [] path path.state.machine.taken
+    → (env_at limits.base (everywhere limits.keep env point) path.state.machine.taken ≡ env_at limits.base (plan_of_trial limits.keep plan checkpoint.state.machine.taken env point) path.state.machine.taken) ⊎ AsksFor limits [] path path.state.machine.taken
 on_way limits items image plan env point checkpoint path (inl is) low served =
-    inl (in_force limits.keep plan checkpoint.state.machine.taken env point path.state.machine.taken (inl (start_taken image checkpoint is)) low)
+    inl (in_force limits.base limits.keep plan checkpoint.state.machine.taken env point path.state.machine.taken (inl (start_taken image checkpoint is)) low)
 on_way limits items image plan env point checkpoint path (inr asks) low served =
     elim (past_request limits items (everywhere limits.keep env point) checkpoint path asks.1 served) [
       | inl same ↦ inr (subst (λ (p : Path). AsksFor limits [] p p.state.machine.taken) same asks.1)
-      | inr past ↦ inl (in_force limits.keep plan checkpoint.state.machine.taken env point path.state.machine.taken (inr past) low)
+      | inr past ↦ inl (in_force limits.base limits.keep plan checkpoint.state.machine.taken env point path.state.machine.taken (inr past) low)
     ]
 
 -- so each instruction is the same

@@ -33,7 +33,7 @@ asks_on limits items plan first second item asks later =
 -- one that has ended doesn't go on
 pub ended_on : (limits : Limits) (items : List Item) (plan : List Override) (first second : Path) → IsSome first.state.ended → Later limits items plan first second → ⊥
 ended_on limits items plan first second ended later =
-    let never : false ≡ true = subst (λ (o : Option ℕ). IsSome o) (serves_to limits items (env_at plan first.state.machine.taken) first later.next later.goes).lives ended in absurd (cc)
+    let never : false ≡ true = subst (λ (o : Option ℕ). IsSome o) (serves_to limits items (env_at limits.base plan first.state.machine.taken) first later.next later.goes).lives ended in absurd (cc)
 
 -- nor does one that fails
 serves_there : (limits : Limits) (env : Env) (guest : Guest) → leb limits.budget guest.machine.since ≡ false → is_refused limits guest.heap (touched guest.machine) ≡ false → serves limits env None guest ≡ does_with (grant env guest) None guest.machine
@@ -42,7 +42,7 @@ serves_there limits env guest early rule = rw (early, rule) refl
 
 pub fails_on : (limits : Limits) (items : List Item) (plan : List Override) (first second : Path) (cause : Cause) → FailsBy limits plan first cause → Later limits items plan first second → ⊥
 fails_on limits items plan first second cause fails later =
-    let env = env_at plan first.state.machine.taken in
+    let env = env_at limits.base plan first.state.machine.taken in
     let item = slice_get items first.state.machine.taken in
     let parts = serves_to limits items env first later.next later.goes in
     let same = serves_there limits env (guest_of first) (lt-leb limits.budget first.state.machine.since parts.early) parts.kept_rule in

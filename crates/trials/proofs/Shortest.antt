@@ -27,7 +27,7 @@ after_within s t items choice goes low = by (moved s t (slice_get items s.machin
 taken_within : (limits : Limits) (items : List Item) (plan : List Override) (first second : Path) → Served limits items plan first second → first.state.machine.taken ≤ length items → second.state.machine.taken ≤ length items
 taken_within limits items plan first second served =
     repeated_keeps (planned_next limits items plan) (λ a b. a.state.machine.taken ≤ length items → b.state.machine.taken ≤ length items) (λ a low. low) (λ a b c one other low. other (one low))
-    (λ a b goes low. let parts = serves_to limits items (env_at plan a.state.machine.taken) a b goes in after_within a.state b.state items parts.given.chosen parts.goes low) served.more first second served.ran
+    (λ a b goes low. let parts = serves_to limits items (env_at limits.base plan a.state.machine.taken) a b goes in after_within a.state b.state items parts.given.chosen parts.goes low) served.more first second served.ran
 
 -- a run that asked for an item, and fails later, took it
 asked_took : (limits : Limits) (items : List Item) (plan : List Override) (path failed : Path) (item : ℕ) (cause : Cause) → AsksFor limits plan path item → Served limits items plan path failed → FailsBy limits plan failed cause

@@ -5,7 +5,7 @@ use Rattle.trials.specs.Terms.{Item, Send, sent_to, Env, agree, State, output, A
 
 -- The plan of a trial, which stays in force if the trial is adopted. Up to the checkpoint, where so many items were taken, the earlier
 -- plan; from the next item on, or from the start where the checkpoint is the start, the trial's environment, until so many items more
--- were taken than at the failure as an environment is kept; then Plain.
+-- were taken than at the failure as an environment is kept; then the base is.
 abbrev pub plan_of_trial : ℕ → List Override → ℕ → Env → ℕ → List Override
 plan_of_trial keep plan checkpoint env point = record { low = if checkpoint == 0 then 0 else checkpoint + 1; until = point + keep; env = env } ∷ plan
 

@@ -125,7 +125,7 @@ module _ {R : Type 0} where
             events = begun.no_events;
             phases_are = fresh;
           };
-          saved = record { paths = origin image ∷ []; ring = keeps; early = (omega (arith, begun.none_recorded), tt); requests = inl (handled_first rules image (keeping_by session.options.every cpu.slots) [] [] (first_story image).survivor (stands_of cpu.slots.saved) (none_followed rules image (keeping_by session.options.every cpu.slots) refl).0 stands); in_force = in_force_by begun.plain begun.until_none (in_force_none 0) };
+          saved = record { paths = origin image ∷ []; ring = keeps; early = (omega (arith, begun.none_recorded), tt); requests = inl (handled_first rules image (keeping_by session.options.every cpu.slots) [] [] (first_story image).survivor (stands_of cpu.slots.saved) (none_followed rules image (keeping_by session.options.every cpu.slots) refl).0 stands); in_force = in_force_by begun.based begun.until_none (in_force_none rules.limits.base 0) };
           past = inl (let none : session.until ≡ 0 = begun.until_none in let some = begun.in_range.some_keep in omega (arith, none, some));
           passed = record { replies = subst (λ (ledger : Ledger). KeepsReplies rules.bounds [] None [] ledger) (sym begun.replies) (first_replies session.options.frame session.options.max_items session.options.max_events); no_trial = ap (λ (ledger : Ledger). ledger.trial) begun.replies; done = λ send stands due. absurd due };
           latest = λ last found. absurd (let no : ⊥ = cc in no);

@@ -6,7 +6,7 @@ use Rattle.guest_cpu.specs.declared.event.Event.TheVariants as step
 use Rattle.guest_cpu.specs.Running.{RunsBy}
 use Rattle.recovery.proofs.Staying.{turns_by}
 use Rattle.session_state.proofs.Lemmas.{held_by, held_of, answers_as, broken_running, run_asks, run_exits, run_fails}
-use Rattle.session_state.proofs.Terms.{AllocError, Bool, Err, List, Ok, Option, Result, ap, arith, cond, inl, inr, ltb, refl, subst, sym, ℕ, ◌+◌, ◌<◌, ◌∙◌, ◌≡◌, ◌≤◌, IfOk, Seen, Choice, Heap, Env, Plain, Checkpoint, oldest_of, Image, Cause, Path, env_at, Event, runs_serve, runs_write, CpuState, live_of, with_live, Standing, Turn, turn, RunsWriting, Stop, items_in, Rules, keeping_by, SessionState, env_of, KeepsOldest, keeping_of, IsBetween, IsBrokenOff, IsEnding, IsFailing, IsWaitingFor, Since, entries, ComesBetween, GoesFurther, HasRun, HasSameFrame, IsAdoptedLater, rules_by}
+use Rattle.session_state.proofs.Terms.{AllocError, Bool, Err, List, Ok, Option, Result, ap, arith, cond, inl, inr, ltb, refl, subst, sym, ℕ, ◌+◌, ◌<◌, ◌∙◌, ◌≡◌, ◌≤◌, IfOk, Seen, Choice, Heap, Env, Checkpoint, oldest_of, Image, Cause, Path, env_at, Event, runs_serve, runs_write, CpuState, live_of, with_live, Standing, Turn, turn, RunsWriting, Stop, items_in, Rules, keeping_by, SessionState, env_of, KeepsOldest, keeping_of, IsBetween, IsBrokenOff, IsEnding, IsFailing, IsWaitingFor, Since, entries, ComesBetween, GoesFurther, HasRun, HasSameFrame, IsAdoptedLater, rules_by}
 
 module _ {R : Type 0} where
   -- how a guest runs in an environment, by the session that it is of
@@ -20,10 +20,10 @@ module _ {R : Type 0} where
       subst (λ (next : Standing → Option (Turn Event)). RunsBy step.Emits next session.cpu.base (live_of session.cpu) result (live_of cpu)) (turns_by (rules_by permits session).limits env) ran
 
   -- the environment in force is that of the survivor's plan
-  env_is : {rules : Rules} {env : Env} {image : Image} {began : Since} {seen : Seen} {old : SessionState R} (b : IsBetween rules image began seen old) → env ≡ env_of old
-      → env_at b.going.story.survivor.plan b.going.story.survivor.now.state.machine.taken ≡ env
-  env_is {old = old} b force =
-      b.going.saved.in_force.in_force b.going.story.survivor.now.state.machine.taken (omega arith) ∙ (ap (λ n. cond (ltb n old.until) old.env Plain) (sym b.going.answers.taken) ∙ sym force)
+  env_is : (permits : R → Heap → ℕ → ℕ → Bool) {env : Env} {image : Image} {began : Since} {seen : Seen} {old : SessionState R} (b : IsBetween (rules_by permits old) image began seen old) → env ≡ env_of old
+      → env_at old.options.base b.going.story.survivor.plan b.going.story.survivor.now.state.machine.taken ≡ env
+  env_is permits {old = old} b force =
+      b.going.saved.in_force.in_force b.going.story.survivor.now.state.machine.taken (omega arith) ∙ (ap (λ n. cond (ltb n old.until) old.env old.options.base) (sym b.going.answers.taken) ∙ sym force)
 
   -- its run goes on so
   pub ran_on : (permits : R → Heap → ℕ → ℕ → Bool) {env : Env} {image : Image} {began : Since} {seen : Seen} {old inside : SessionState R} (cpu : CpuState R) {happened : Event} → env ≡ env_of old → inside ≡ old
@@ -32,7 +32,7 @@ module _ {R : Type 0} where
   ran_on permits {env = env} {old = old} cpu {happened = happened} force same b ran =
       let first : Path = b.going.story.survivor.now in
       runs_write (rules_by permits old).limits (items_in (rules_by permits old).bounds (entries b.going.story)) b.going.story.survivor.plan env old.cpu.base first (live_of old.cpu) (live_of cpu)
-      (Ok happened) b.going.goes.lives (env_is b force) b.going.goes.guest (ran_as permits env old cpu (Ok happened) (subst (λ (s : SessionState R). Ran permits env s cpu (Ok happened)) same ran))
+      (Ok happened) b.going.goes.lives (env_is permits b force) b.going.goes.guest (ran_as permits env old cpu (Ok happened) (subst (λ (s : SessionState R). Ran permits env s cpu (Ok happened)) same ran))
 
   -- it ran to this event
   pub has_run : (permits : R → Heap → ℕ → ℕ → Bool) {env : Env} {image : Image} {began : Since} {seen : Seen} {old inside : SessionState R} {cpu : CpuState R} {found happened : Event} → env ≡ env_of old → inside ≡ old → found ≡ happened
@@ -60,7 +60,7 @@ module _ {R : Type 0} where
   ran_low permits {env = env} {old = old} {inside = inside} cpu result force same b ran =
       let first : Path = b.going.story.survivor.now in
       let runs = runs_serve (rules_by permits old).limits (items_in (rules_by permits old).bounds (entries b.going.story)) b.going.story.survivor.plan env old.cpu.base first (live_of old.cpu) (live_of cpu)
-      result b.going.goes.lives (env_is b force) b.going.goes.guest (ran_as permits env old cpu result (subst (λ (s : SessionState R). Ran permits env s cpu result) same ran)) in
+      result b.going.goes.lives (env_is permits b force) b.going.goes.guest (ran_as permits env old cpu result (subst (λ (s : SessionState R). Ran permits env s cpu result) same ran)) in
       let answers : inside.steps ≡ first.steps = ap (λ (s : SessionState R). s.steps) same ∙ b.going.answers.steps in
       omega (arith, answers, ap (λ (s : Standing). s.steps) runs.stands, runs.goes.later)
 
@@ -140,7 +140,7 @@ module _ {R : Type 0} where
   breaks_now permits {env = env} {image = image} {old = old} {inside = inside} {cpu = cpu} result force same kept saved b ran counts =
       let first : Path = b.going.story.survivor.now in
       let runs = runs_serve (rules_by permits old).limits (items_in (rules_by permits old).bounds (entries b.going.story)) b.going.story.survivor.plan env old.cpu.base first (live_of old.cpu) (live_of cpu)
-      result b.going.goes.lives (env_is b force) b.going.goes.guest (ran_as permits env old cpu result (subst (λ (s : SessionState R). Ran permits env s cpu result) same ran)) in
+      result b.going.goes.lives (env_is permits b force) b.going.goes.guest (ran_as permits env old cpu result (subst (λ (s : SessionState R). Ran permits env s cpu result) same ran)) in
       let answers : inside.steps ≡ first.steps = ap (λ (s : SessionState R). s.steps) same ∙ b.going.answers.steps in
       let there : runs.now.steps ≡ cpu.slots.live.steps = ap (λ (s : Standing). s.steps) runs.stands in
       broken_running runs.now b.going.told

@@ -27,10 +27,10 @@ few_one limits items plan first second goes = of (is_some first.state.ended) goe
     of_next granted None is = absurd (none-some second is)
     of_next granted (Some state) is = grown granted state (same_Some (longer first granted state) second is)
 
-    of : (ended : Bool) → cond ended None (option_map (longer first (grant (env_at plan first.state.machine.taken) (guest_of first))) (after first.state (serves limits (env_at plan first.state.machine.taken) (slice_get items first.state.machine.taken) (guest_of first)))) ≡ Some second
+    of : (ended : Bool) → cond ended None (option_map (longer first (grant (env_at limits.base plan first.state.machine.taken) (guest_of first))) (after first.state (serves limits (env_at limits.base plan first.state.machine.taken) (slice_get items first.state.machine.taken) (guest_of first)))) ≡ Some second
         → IsFew first second
     of true is = absurd (none-some second is)
-    of false is = of_next (grant (env_at plan first.state.machine.taken) (guest_of first)) (after first.state (serves limits (env_at plan first.state.machine.taken) (slice_get items first.state.machine.taken) (guest_of first))) is
+    of false is = of_next (grant (env_at limits.base plan first.state.machine.taken) (guest_of first)) (after first.state (serves limits (env_at limits.base plan first.state.machine.taken) (slice_get items first.state.machine.taken) (guest_of first))) is
 
 pub few_choices : {limits : Limits} {items : List Item} {plan : List Override} (image : Image) {path : Path} → Served limits items plan (origin image) path → length path.choices ≤ path.steps
 few_choices {limits = limits} {items = items} {plan = plan} image {path = path} served =

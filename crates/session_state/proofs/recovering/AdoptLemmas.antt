@@ -342,7 +342,7 @@ module _ {R : Type 0} {rules : Rules} {image : Image} {began : Since} {seen : Se
           ring = subst (λ es. KeepsRing rules image es (adopted_by rules recovery trial).plan trial.path (drop adopted.index g.saved.paths) new.cpu new.log new.replies) (sym same) run.ring;
           early = behind_drop new.recorded adopted.index g.saved.paths (subst (λ n. AreBehind n g.saved.paths) (sym rest.recorded) g.saved.early);
           requests = inl adopted_requests;
-          in_force = subst (λ (at : ℕ × ℕ). IsInForce (adopted_by rules recovery trial).plan at.0 adopted.env (at.1 + rules.limits.keep)) (λ i. (sym taken i, sym point i)) run.in_force;
+          in_force = subst (λ (at : ℕ × ℕ). IsInForce rules.limits.base (adopted_by rules recovery trial).plan at.0 adopted.env (at.1 + rules.limits.keep)) (λ i. (sym taken i, sym point i)) run.in_force;
         };
         past = inr (omega (arith, point, taken), subst (AsksFor rules.limits [] trial.path) (sym taken) at_point);
         passed = record {

@@ -4,8 +4,8 @@ use Rattle.session_state.proofs.standing.HeldLemmas.{stands_by}
 use Rattle.session_state.proofs.standing.StoryLemmas.{on_story}
 
 -- an environment and a number that are the same
-pub in_force_by : {plan : List Override} {taken : ℕ} {env other : Env} {until till : ℕ} → other ≡ env → till ≡ until → IsInForce plan taken env until → IsInForce plan taken other till
-in_force_by {plan = plan} {taken = taken} {env = env} {till = till} same still is = subst (λ (e : Env). IsInForce plan taken e till) (sym same) (subst (λ n. IsInForce plan taken env n) (sym still) is)
+pub in_force_by : {base : Env} {plan : List Override} {taken : ℕ} {env other : Env} {until till : ℕ} → other ≡ env → till ≡ until → IsInForce base plan taken env until → IsInForce base plan taken other till
+in_force_by {base = base} {plan = plan} {taken = taken} {env = env} {till = till} same still is = subst (λ (e : Env). IsInForce base plan taken e till) (sym same) (subst (λ n. IsInForce base plan taken env n) (sym still) is)
 
 -- a run past a failure goes on past it; one that stands at it, at its request, takes the item
 pub past_on : {limits : Limits} {items : List Item} {plan : List Override} {now to : Path} {until till : ℕ} → Served limits items plan now to → now.state.machine.taken ≤ to.state.machine.taken → till ≡ until
@@ -43,5 +43,5 @@ module _ {R : Type 0} where
         requests =
             stands_by (λ k stands. HandlesRequests rules image k story.earlier (entries story) story.recoveries (gone_on story.survivor to) stands) old new (ap (λ (cpu : CpuState R). cpu.slots.saved) side.cpu)
             (side_keeping side) requests;
-        in_force = in_force_by side.env side.until (in_force_later story.survivor.plan story.survivor.now.state.machine.taken to.state.machine.taken old.env old.until more k.in_force);
+        in_force = in_force_by side.env side.until (in_force_later rules.limits.base story.survivor.plan story.survivor.now.state.machine.taken to.state.machine.taken old.env old.until more k.in_force);
       }

@@ -1,10 +1,10 @@
-use Rattle.command_line.proofs.Terms.{ap, refl, subst, sym, ◌∙◌, ◌≡◌, diagnosis_row, form_row, frame_row, guard_row, record_row, report_row, static_row, number_at, diagnose_form, diagnose_value, session_value, AreInRange}
+use Rattle.command_line.proofs.Terms.{ap, refl, subst, sym, ◌∙◌, ◌≡◌, diagnosis_row, env_row, form_row, frame_row, guard_row, record_row, report_row, static_row, number_at, diagnose_form, diagnose_value, session_value, AreInRange}
 use Rattle.command_line.specs.declared.run_words.TheConstants as table
 use Rattle.command_line.proofs.Numbers.{small_read}
 use Rattle.command_line.proofs.diagnose_words.diagnose_from.Goals as goal
 
 pub returns : goal.returns
-unfolding diagnose_value diagnose_form diagnosis_row form_row frame_row guard_row record_row report_row
+unfolding diagnose_value diagnose_form diagnosis_row env_row form_row frame_row guard_row record_row report_row
 returns c =
     λ p read ranges i.
     let options = read.options in
@@ -12,7 +12,7 @@ returns c =
       session =
           (c.session_from.ensures p (record {
             program = read.names.0;
-            options = (options.0, (options.1.0, (options.1.1.1.0, (options.1.1.1.1.0, (options.1.1.1.1.1.0, (options.1.1.1.1.1.1.1.0, (options.1.1.1.1.1.1.1.1.0, (options.1.1.1.1.1.1.1.1.1.0, (options.1.1.1.1.1.1.1.1.1.1.0, (options.1.1.1.1.1.1.1.1.1.1.1.0, (options.1.1.1.1.1.1.1.1.1.1.1.1.0, tt)))))))))));
+            options = (options.0, (options.1.0, (options.1.1.1.0, (options.1.1.1.1.0, (options.1.1.1.1.1.0, (options.1.1.1.1.1.1.1.0, (options.1.1.1.1.1.1.1.1.0, (options.1.1.1.1.1.1.1.1.1.0, (options.1.1.1.1.1.1.1.1.1.1.0, (options.1.1.1.1.1.1.1.1.1.1.1.0, (options.1.1.1.1.1.1.1.1.1.1.1.1.0, (options.1.1.1.1.1.1.1.1.1.1.1.1.1.0, tt))))))))))));
           }) (subst (λ n. AreInRange (session_value n p)) (sym hold) ranges)
           ∙ ap (λ n. session_value n p) hold) i;
       diagnosis = c.value_in-2.ensures _ options.1.1.0 i;

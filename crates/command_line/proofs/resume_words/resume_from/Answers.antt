@@ -1,9 +1,9 @@
-use Rattle.command_line.proofs.Terms.{ap, refl, ◌∙◌, form_row, guard_row, record_row, report_row, form_of, guard_of, resume_form, resume_value}
+use Rattle.command_line.proofs.Terms.{ap, refl, ◌∙◌, env_row, form_row, guard_row, record_row, report_row, env_of, form_of, guard_of, resume_form, resume_value}
 use Rattle.command_line.proofs.Numbers.{number_read, small_read}
 use Rattle.command_line.proofs.resume_words.resume_from.Goals as goal
 
 pub returns : goal.returns
-unfolding resume_value resume_form form_row guard_row record_row report_row
+unfolding resume_value resume_form env_row form_row guard_row record_row report_row
 returns c = λ p read ranges i. record {
   program = c.value_in.ensures _ read.names.0 i;
   recorded = c.value_in-2.ensures _ read.names.1.0 i;
@@ -18,5 +18,6 @@ returns c = λ p read ranges i. record {
   frames = small_read _ _ _ _ (c.value_in-11.ensures _ read.options.1.1.1.1.1.1.0) c.number_or_zero-4.ensures ranges.1.1.1.0.1 refl i;
   budget = (c.long_or_zero.ensures ∙ ap number_read (c.value_in-12.ensures _ read.options.1.1.1.1.1.1.1.0)) i;
   keep = small_read _ _ _ _ (c.value_in-13.ensures _ read.options.1.1.1.1.1.1.1.1.0) c.number_or_zero-5.ensures ranges.1.1.1.1.1.0.1 refl i;
-  guard = (c.guard_of.ensures ∙ ap guard_of (c.value_in-14.ensures _ read.options.1.1.1.1.1.1.1.1.1.0)) i;
+  env = (c.env_of.ensures ∙ ap env_of (c.value_in-14.ensures _ read.options.1.1.1.1.1.1.1.1.1.0)) i;
+  guard = (c.guard_of.ensures ∙ ap guard_of (c.value_in-15.ensures _ read.options.1.1.1.1.1.1.1.1.1.1.0)) i;
 }

@@ -1,20 +1,20 @@
-use Rattle.command_line.proofs.Terms.{refl, conns_row, form_row, frame_row, guard_row, port_row, record_row, report_row, serve_form, serve_value}
+use Rattle.command_line.proofs.Terms.{refl, conns_row, env_row, form_row, frame_row, guard_row, port_row, record_row, report_row, serve_form, serve_value}
 use Rattle.command_line.proofs.Numbers.{small_read}
 use Rattle.command_line.proofs.Ranges.{session_in_range}
 use Rattle.command_line.proofs.serve_words.serve_from.Goals as goal
 
 pub returns : goal.returns
-unfolding serve_value serve_form conns_row form_row frame_row guard_row port_row record_row report_row
+unfolding serve_value serve_form conns_row env_row form_row frame_row guard_row port_row record_row report_row
 returns c =
     λ p read ranges i.
     let options = read.options in record {
       session =
           c.session_from.ensures p (record {
             program = read.names.0;
-            options = (options.0, (options.1.0, (options.1.1.0, (options.1.1.1.0, (options.1.1.1.1.0, (options.1.1.1.1.1.0, (options.1.1.1.1.1.1.0, (options.1.1.1.1.1.1.1.0, (options.1.1.1.1.1.1.1.1.0, (options.1.1.1.1.1.1.1.1.1.0, (options.1.1.1.1.1.1.1.1.1.1.0, tt)))))))))));
+            options = (options.0, (options.1.0, (options.1.1.0, (options.1.1.1.0, (options.1.1.1.1.0, (options.1.1.1.1.1.0, (options.1.1.1.1.1.1.0, (options.1.1.1.1.1.1.1.0, (options.1.1.1.1.1.1.1.1.0, (options.1.1.1.1.1.1.1.1.1.0, (options.1.1.1.1.1.1.1.1.1.1.0, (options.1.1.1.1.1.1.1.1.1.1.1.0, tt))))))))))));
           }) (session_in_range (serve_value p) (ranges, refl)) i;
       port = small_read _ _ _ _ (c.value_in.ensures _ read.names.1.0) c.number_or_zero.ensures ranges.0.1 refl i;
       conns = small_read _ _ _ _ (c.value_in-2.ensures _ read.names.1.1.0) c.number_or_zero-2.ensures ranges.1.0.1 refl i;
-      patience = small_read _ _ _ _ (c.value_in-3.ensures _ options.1.1.1.1.1.1.1.1.1.1.1.0) c.number_or_zero-3.ensures ranges.1.1.1.1.1.1.1.1.0.1 refl i;
-      at_once = small_read _ _ _ _ (c.value_in-4.ensures _ options.1.1.1.1.1.1.1.1.1.1.1.1.0) c.number_or_zero-4.ensures ranges.1.1.1.1.1.1.1.1.1.0.1 refl i;
+      patience = small_read _ _ _ _ (c.value_in-3.ensures _ options.1.1.1.1.1.1.1.1.1.1.1.1.0) c.number_or_zero-3.ensures ranges.1.1.1.1.1.1.1.1.0.1 refl i;
+      at_once = small_read _ _ _ _ (c.value_in-4.ensures _ options.1.1.1.1.1.1.1.1.1.1.1.1.1.0) c.number_or_zero-4.ensures ranges.1.1.1.1.1.1.1.1.1.0.1 refl i;
     }

@@ -6,7 +6,7 @@ abbrev pub invariant-episodes : goal.invariant-episodes
 invariant-episodes l = record {
   plan : List Override;
   whole : plan_from l.keep plan l.rest ≡ plan_of l.keep l.episodes;
-  env : l.env ≡ env_at plan l.taken;
+  env : l.env ≡ env_at l.base plan l.taken;
 }
 
 abbrev pub decreases-episodes : goal.decreases-episodes

@@ -12,7 +12,7 @@ returns-in-Some-clause-in_force c =
     let f = followed_last c.args.episodes.now c.last-item.result c.args.taken c.in-len1-up.len_at_least c.last-item.is c.requires.behind in
     let is = ap adopted_try (sym c.as_slice.ensures) ∙ sym c.in-Some.ensures in
     let placed = placed_last c.args.episodes.now c.last-item.result c.in-Some.attempt c.in-len1-up.len_at_least c.last-item.is is c.requires.placed in
-    last_in_force c.args.keep c.args.episodes.now c.last-item.result c.in-Some.attempt c.args.taken c.in-len1-up.len_at_least c.last-item.is is placed f.1
+    last_in_force c.args.base c.args.keep c.args.episodes.now c.last-item.result c.in-Some.attempt c.args.taken c.in-len1-up.len_at_least c.last-item.is is placed f.1
 
 pub returns-in-Some-clause-until : goal.returns-in-Some-clause-until
 returns-in-Some-clause-until c = ends_last c.args.keep c.args.episodes.now c.last-item.result c.in-len1-up.len_at_least c.last-item.is

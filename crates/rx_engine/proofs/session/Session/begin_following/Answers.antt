@@ -5,7 +5,7 @@ pub returns-clause-follows : goal.returns-clause-follows
 returns-clause-follows g c image seen shown missing begun fresh lacks =
     begins_on g.R.AccessRule.rule {mid = c.save_start.new.self} begun fresh (λ any. c.save_start.ensures.rings any image begun) c.save_start.ensures.keeps.same c.save_start.ensures.keeps.live c.save_start.ensures.keeps.rule c.save_start.ensures.first lacks
     (λ i. record (c.self.view_is i) { env = c.env_planned-self-inside.result; until = 1; before = c.of-self-inside.result.before; hold = 4294967295 })
-    (c.env_planned-self-inside.ensures ∙ ap (λ (s : SessionState _). env_at (plan_of s.options.keep c.args.handed.now.episodes.now) 0) (c.self.view_is ∙ c.save_start.ensures.keeps.same))
+    (c.env_planned-self-inside.ensures ∙ ap (λ (s : SessionState _). env_at s.options.base (plan_of s.options.keep c.args.handed.now.episodes.now) 0) (c.self.view_is ∙ c.save_start.ensures.keeps.same))
     (c.of-self-inside.ensures ∙ (λ i. before_begun (c.self.view_is i).cpu.slots.live c.env_planned-self-inside.result))
 
 pub returns-clause-keeps : goal.returns-clause-keeps

@@ -30,6 +30,6 @@ returns-clause-follows g c taken image before seen noted_before noted missing w 
     (omega (arith, keeps.marked.steps, keeps.one, s.follows.stands.answers.steps, ap (λ (x : Standing). x.steps) s.follows.stands.goes.guest))
     (record { options = keeps.frame.options; rule = keeps.frame.rule; hold = keeps.frame.hold }) keeps.frame.before
     (λ i. record (c.self.view_is i) { env = c.env_planned-self-inside.result; until = c.self.inside.taken + 1; before = c.of-self-inside.result.before })
-    (c.env_planned-self-inside.ensures ∙ ap (λ (x : SessionState _). env_at (plan_of x.options.keep c.args.handed.now.episodes.now) x.taken) c.self.view_is)
+    (c.env_planned-self-inside.ensures ∙ ap (λ (x : SessionState _). env_at x.options.base (plan_of x.options.keep c.args.handed.now.episodes.now) x.taken) c.self.view_is)
     (ap (λ (x : SessionState _). x.taken + 1) c.self.view_is)
     (c.of-self-inside.ensures ∙ (λ i. before_took (c.self.view_is i).before (c.self.view_is i).cpu.slots.live c.env_planned-self-inside.result))
