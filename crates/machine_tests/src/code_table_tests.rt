@@ -8,8 +8,11 @@ static CODE: [u8; 24] = [
     0x73, 0x00, 0x00, 0x00, 0x83, 0x23, 0x81, 0x00,
 ];
 
-// Entries that say their instruction: number, operation, and each register that it has, and the immediate. The branch goes to the first.
-static TOLD: [(usize, EntryOp, u8, u8, u8, i32); 4] = [
+// An entry that says its instruction: number, operation, each register that it has, and the immediate.
+type Told = (usize, EntryOp, u8, u8, u8, i32);
+
+// The branch goes to the first.
+static TOLD: [Told; 4] = [
     (0, EntryOp::Set, 5, 0, 0, 0x1234_5000),
     (1, EntryOp::Addi, 32, 5, 0, -1),
     (2, EntryOp::Beq, 32, 5, 6, 0),
@@ -19,25 +22,29 @@ static TOLD: [(usize, EntryOp, u8, u8, u8, i32); 4] = [
 // Entries that stop: the jump, which goes to the place behind the last word, the call, and the one behind the last word.
 static STOPS: [usize; 3] = [3, 4, 6];
 
+// Whether an entry says these.
+fn says(table: &CodeTable, (number, op, rd, rs1, rs2, imm): Told) -> bool {
+    if number >= table.len() {
+        return false;
+    }
+    let entry = table.entry(number);
+    entry.op == op && entry.rd == rd && entry.rs1 == rs1 && entry.rs2 == rs2 && entry.imm == imm
+}
+
+// Whether an entry stops.
+fn stops(table: &CodeTable, number: usize) -> bool {
+    number < table.len() && table.entry(number).op == EntryOp::Stop
+}
+
 #[test]
 fn a_table_of_six_words(rt: HostRuntime) -> Result<(), Fail> {
     let table = CodeTable::make(rt.alloc(), 0x1000, &CODE)?;
-    assert_eq!(rt; table.start(), 0x1000);
-    assert_eq!(rt; table.len(), 7);
-    for (number, op, rd, rs1, rs2, imm) in TOLD {
-        assert!(rt; number < table.len());
-        let entry = table.entry(number);
-        assert_eq!(rt; entry.op, op, "at {number}");
-        assert_eq!(rt;
-            (entry.rd, entry.rs1, entry.rs2),
-            (rd, rs1, rs2),
-            "at {number}"
-        );
-        assert_eq!(rt; entry.imm, imm, "at {number}");
+    assert!(rt; table.start() == 0x1000 && table.len() == 7);
+    for told in TOLD {
+        assert!(rt; says(&table, told), "{}", told.0);
     }
     for number in STOPS {
-        assert!(rt; number < table.len());
-        assert_eq!(rt; table.entry(number).op, EntryOp::Stop, "at {number}");
+        assert!(rt; stops(&table, number), "{number}");
     }
     Ok(())
 }
@@ -45,7 +52,6 @@ fn a_table_of_six_words(rt: HostRuntime) -> Result<(), Fail> {
 #[test]
 fn a_table_of_no_word(rt: HostRuntime) -> Result<(), Fail> {
     let table = CodeTable::none(rt.alloc())?;
-    assert_eq!(rt; table.len(), 1);
-    assert_eq!(rt; table.entry(0).op, EntryOp::Stop);
+    assert!(rt; table.len() == 1 && stops(&table, 0));
     Ok(())
 }

@@ -1,4 +1,5 @@
 use elf_file::{ElfRefusal, field_of_refusal, read_image, write_image};
+use guest_image::{Image, Segment};
 use std::alloc::{AllocError, Global};
 use std::test::Fail;
 
@@ -67,48 +68,69 @@ fn doubled(alloc: Global) -> Result<Vec<u8>, AllocError> {
     Ok(file)
 }
 
-#[test]
-fn what_is_written_is_the_file(rt: HostRuntime) -> Result<(), Fail> {
-    let image = read_image(rt.alloc(), &THREE, WINDOW)?;
-    assert_eq!(rt; image.entry, 0x10000);
-    assert_eq!(rt; image.base(), 0x10000);
-    assert_eq!(rt; image.heap_start(), 0x11000);
-    assert_eq!(rt; image.heap_end(), 0x3ff000);
-    assert_eq!(rt; image.stack_top(), 0x410000);
-    let three = write_image(rt.alloc(), &image)?;
-    assert_eq!(rt; three.as_slice(), THREE.as_slice());
-    let two = write_image(rt.alloc(), &read_image(rt.alloc(), &TWO, WINDOW)?)?;
-    assert_eq!(rt; two.as_slice(), TWO.as_slice());
+// Where a program begins, the lowest address that it has, and where its heap begins.
+fn places_of(image: &Image) -> (u32, u32, u32) {
+    (image.entry, image.base(), image.heap_start())
+}
+
+// Adds the eight words of a program header.
+fn add_words(file: &mut Vec<u8>, words: [u32; 8]) -> Result<(), AllocError> {
+    for word in words {
+        file.extend_from_slice(&word.to_le_bytes())?;
+    }
     Ok(())
 }
 
-// Two segments between program headers that aren't loaded, as a linker writes them: 0xc4 bytes at 0x10000, whose last
-// 16 are the executable's words, and 8 bytes at 0x110c4, of which the file has four.
+// What is written of a file that was read.
+fn written(alloc: Global, file: &[u8]) -> Result<Vec<u8>, Fail> {
+    Ok(write_image(alloc, &read_image(alloc, file, WINDOW)?)?)
+}
+
 #[test]
-fn a_linked_file_is_accepted(rt: HostRuntime) -> Result<(), Fail> {
-    let mut file = edited(rt.alloc(), &[(24, 0xb4), (44, 4)])?;
+fn what_is_written_is_the_file(rt: HostRuntime) -> Result<(), Fail> {
+    let image = read_image(rt.alloc(), &THREE, WINDOW)?;
+    assert_eq!(rt; places_of(&image), (0x10000, 0x10000, 0x11000));
+    assert_eq!(rt; (image.heap_end(), image.stack_top()), (0x3ff000, 0x410000));
+    for file in [THREE.as_slice(), TWO.as_slice()] {
+        assert_eq!(rt; written(rt.alloc(), file)?.as_slice(), file);
+    }
+    Ok(())
+}
+
+// The words of program headers that a linker writes: two segments between headers that aren't loaded.
+static HEADERS: [[u32; 8]; 4] = [
+    [0x7000_0003, 0, 0, 0, 0, 0, 4, 1],
+    [1, 0, 0x10000, 0x10000, 0xc4, 0xc4, 5, 0x1000],
+    [1, 0xc4, 0x110c4, 0x110c4, 4, 8, 6, 0x1000],
+    [0x6474_e551, 0, 0, 0, 0, 0, 6, 16],
+];
+
+// A file with these headers: 0xc4 bytes at 0x10000, whose last 16 are the executable's words, and 8 bytes at 0x110c4, of which it has four.
+fn linked(alloc: Global) -> Result<Vec<u8>, AllocError> {
+    let mut file = edited(alloc, &[(24, 0xb4), (44, 4)])?;
     file.truncate(52);
-    let headers: [[u32; 8]; 4] = [
-        [0x7000_0003, 0, 0, 0, 0, 0, 4, 1],
-        [1, 0, 0x10000, 0x10000, 0xc4, 0xc4, 5, 0x1000],
-        [1, 0xc4, 0x110c4, 0x110c4, 4, 8, 6, 0x1000],
-        [0x6474_e551, 0, 0, 0, 0, 0, 6, 16],
-    ];
-    for header in headers {
-        for field in header {
-            file.extend_from_slice(&field.to_le_bytes())?;
-        }
+    for header in HEADERS {
+        add_words(&mut file, header)?;
     }
     let (_, words) = THREE.split_at(84);
     file.extend_from_slice(words)?;
     file.extend_from_slice(&[1, 2, 3, 4])?;
-    let image = read_image(rt.alloc(), &file, WINDOW)?;
-    assert_eq!(rt; image.entry, 0x100b4);
-    assert_eq!(rt; image.base(), 0x10000);
-    assert_eq!(rt; image.heap_start(), 0x12000);
-    let segments = image.segments.as_slice();
-    assert_eq!(rt; segments.len(), 2);
-    assert_eq!(rt; segments[1].filled.as_slice(), [1, 2, 3, 4].as_slice());
+    Ok(file)
+}
+
+// Whether the second of two segments has these bytes in the file.
+fn has_second(segments: &[Segment], filled: &[u8]) -> bool {
+    match segments {
+        [_, second] => second.filled.as_slice() == filled,
+        _ => false,
+    }
+}
+
+#[test]
+fn a_linked_file_is_accepted(rt: HostRuntime) -> Result<(), Fail> {
+    let image = read_image(rt.alloc(), &linked(rt.alloc())?, WINDOW)?;
+    assert_eq!(rt; places_of(&image), (0x100b4, 0x10000, 0x12000));
+    assert!(rt; has_second(image.segments.as_slice(), &[1, 2, 3, 4]));
     Ok(())
 }
 
@@ -157,76 +179,92 @@ static COMPILED: [u8; 616] = [
     0, 0, 0, 0, 0, 0, 0, 0, 1, 0, 0, 0, 0, 0, 0, 0,
 ];
 
+// The address, size and flags of two segments.
+fn shape_of(segments: &[Segment]) -> Option<[(u32, u32, u32); 2]> {
+    match segments {
+        [text, bytes] => Some([
+            (text.vaddr, text.memsz, text.flags),
+            (bytes.vaddr, bytes.memsz, bytes.flags),
+        ]),
+        _ => None,
+    }
+}
+
 #[test]
 fn a_compiled_file_is_accepted(rt: HostRuntime) -> Result<(), Fail> {
     let image = read_image(rt.alloc(), &COMPILED, WINDOW)?;
-    assert_eq!(rt; image.entry, 0x10094);
-    assert_eq!(rt; image.base(), 0x10000);
-    assert_eq!(rt; image.heap_start(), 0x12000);
+    assert_eq!(rt; places_of(&image), (0x10094, 0x10000, 0x12000));
     let segments = image.segments.as_slice();
-    assert_eq!(rt; segments.len(), 2);
-    let (text, bytes) = (&segments[0], &segments[1]);
-    assert_eq!(rt; (text.vaddr, text.memsz, text.flags), (0x10000, 0xc4, 5));
-    assert_eq!(rt; (bytes.vaddr, bytes.memsz, bytes.flags), (0x110c4, 0x14, 6));
-    assert_eq!(rt; bytes.filled.as_slice(), [5, 0, 0, 0].as_slice());
+    assert_eq!(rt;
+        shape_of(segments),
+        Some([(0x10000, 0xc4, 5), (0x110c4, 0x14, 6)])
+    );
+    assert!(rt; has_second(segments, &[5, 0, 0, 0]));
     Ok(())
 }
 
-// Each edit of the executable alone, and the refusal that it brings.
+// Edits of the executable, and the refusal that they bring.
+type Broken = (&'static [(usize, u8)], u8);
+
+static BROKEN: [Broken; 15] = [
+    (&[(0, 0)], 2),
+    (&[(4, 2)], 3),
+    (&[(5, 2)], 4),
+    (&[(16, 3)], 5),
+    (&[(18, 0)], 6),
+    (&[(36, 1)], 7),
+    (&[(42, 31)], 8),
+    (&[(52, 3)], 9),
+    (&[(52, 7)], 10),
+    (&[(72, 15)], 11),
+    (&[(44, 0)], 13),
+    (&[(24, 2)], 14),
+    (&[(74, 0x40)], 15),
+    (&[(4, 2), (18, 0)], 3),
+    (&[(56, 0xff), (57, 0xff), (58, 0xff), (59, 0xff)], 11),
+];
+
 #[test]
 fn broken_files_are_refused(rt: HostRuntime) -> Result<(), Fail> {
-    let edits = [
-        (0, 0, 2),
-        (4, 2, 3),
-        (5, 2, 4),
-        (16, 3, 5),
-        (18, 0, 6),
-        (36, 1, 7),
-        (42, 31, 8),
-        (52, 3, 9),
-        (52, 7, 10),
-        (72, 15, 11),
-        (44, 0, 13),
-        (24, 2, 14),
-        (74, 0x40, 15),
-    ];
-    for (at, byte, number) in edits {
-        let file = edited(rt.alloc(), &[(at, byte)])?;
-        assert_eq!(rt; refusal_of(rt.alloc(), &file), Some(number), "at {at}");
+    let alloc = rt.alloc();
+    for (i, (edits, number)) in BROKEN.iter().enumerate() {
+        let refusal = refusal_of(alloc, &edited(alloc, edits)?);
+        assert!(rt; refusal == Some(*number), "row {i}");
     }
-    assert_eq!(rt; refusal_of(rt.alloc(), &THREE[..51]), Some(1));
-    let class_and_machine = edited(rt.alloc(), &[(4, 2), (18, 0)])?;
-    assert_eq!(rt; refusal_of(rt.alloc(), &class_and_machine), Some(3));
-    let offset = edited(
-        rt.alloc(),
-        &[(56, 0xff), (57, 0xff), (58, 0xff), (59, 0xff)],
-    )?;
-    assert_eq!(rt; refusal_of(rt.alloc(), &offset), Some(11));
-    assert_eq!(rt; refusal_of(rt.alloc(), &doubled(rt.alloc())?), Some(12));
+    let short = refusal_of(alloc, &THREE[..51]);
+    let overlapping = refusal_of(alloc, &doubled(alloc)?);
+    assert_eq!(rt; (short, overlapping), (Some(1), Some(12)));
     Ok(())
 }
 
-// 65535 segments of a byte each, the last one first; then the last of them once more where another is.
-#[test]
-fn many_segments_take_little_time(rt: HostRuntime) -> Result<(), Fail> {
+// 65535 segments of a byte each, the last one first.
+fn many(alloc: Global) -> Result<Vec<u8>, AllocError> {
     let count = 65535;
-    let mut file = edited(
-        rt.alloc(),
-        &[(24, 0), (25, 0), (26, 0), (44, 255), (45, 255)],
-    )?;
+    let mut file = edited(alloc, &[(24, 0), (25, 0), (26, 0), (44, 255), (45, 255)])?;
     file.truncate(52);
     for i in 0..count {
-        for field in [1, 0, count - i, 0, 0, 1, 5, 1] {
-            let field: u32 = field;
-            file.extend_from_slice(&field.to_le_bytes())?;
-        }
+        add_words(&mut file, [1, 0, count - i, 0, 0, 1, 5, 1])?;
     }
-    assert_eq!(rt; refusal_of(rt.alloc(), &file), Some(14));
+    Ok(file)
+}
+
+// And then the last of them once more where another is.
+#[test]
+fn many_segments_take_little_time(rt: HostRuntime) -> Result<(), Fail> {
+    let mut file = many(rt.alloc())?;
+    let first = refusal_of(rt.alloc(), &file);
     if let Some(place) = file.get_mut(60) {
         *place = 0xfe;
     }
-    assert_eq!(rt; refusal_of(rt.alloc(), &file), Some(12));
+    let second = refusal_of(rt.alloc(), &file);
+    assert_eq!(rt; (first, second), (Some(14), Some(12)));
     Ok(())
+}
+
+// The field that a file is refused for, as a person reads it.
+fn field_shown(alloc: Global, file: &[u8], number: u8) -> Result<String, Fail> {
+    let field = field_of_refusal(alloc, file, number, WINDOW)?.ok_or("no field")?;
+    Ok(format!(in alloc; "{field}")?)
 }
 
 // What a person reads of a refusal, and of the field that a file is refused for.
@@ -247,9 +285,7 @@ fn refusals_have_texts(rt: HostRuntime) -> Result<(), Fail> {
             "p_memsz at byte 72 is 4194320",
         ),
     ] {
-        let field = field_of_refusal(alloc, &file, number, WINDOW)?.ok_or("no field")?;
-        let text = format!(in alloc; "{field}")?;
-        assert_eq!(rt; text.as_str(), want);
+        assert_eq!(rt; field_shown(alloc, &file, number)?.as_str(), want);
     }
     Ok(())
 }

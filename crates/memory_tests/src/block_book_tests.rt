@@ -1,6 +1,8 @@
 // Books of small heaps, call by call, with answers worked out by hand from the rules of block_book.
+ghost use Rattle.std.specs.Prelude.{◌≡◌, true};
+ghost use Rattle.block_book.specs.Heap.{SameEnds, is_bare};
+
 use block_book::{Ask, Book, Choice, Choices, Standing};
-use std::alloc::Global;
 use std::process::Abort;
 use std::test::Fail;
 
@@ -18,6 +20,10 @@ enum Call {
     Reserves(u32, u32, bool),
     // Address and size.
     Clear(u32, u32, bool),
+    LiveSize(u32, Option<u32>),
+    LiveReach(u32, Option<u64>),
+    // Address and size, and how many of its bytes are kept.
+    Kept(u32, u32, u32),
 }
 
 // On a heap from 4096 to 4160.
@@ -89,88 +95,105 @@ static PADDED: [Call; 13] = [
     Call::Place(0, 0, 0, Some(4144)),
 ];
 
-fn try_call(rt: &impl Abort, book: &mut Book, call: Call) {
+// On a heap in which 4096 blocks of 16 bytes stand, with room for four more.
+#[rattlefmt::skip]
+static MOST: [Call; 6] = [
+    Call::Find(69616, Standing::Live(1)),
+    Call::Place(1, 0, 0, None),
+    Call::Delay(4112, true),
+    Call::Place(1, 0, 0, None),
+    Call::Recycle,
+    Call::Place(1, 0, 0, Some(4112)),
+];
+
+// On a copy of a heap from 4096 to 4160 with a block of 17 bytes and one of none.
+#[rattlefmt::skip]
+static COPY: [Call; 9] = [
+    Call::Find(4112, Standing::Live(17)),
+    Call::Find(4144, Standing::Live(0)),
+    Call::LiveSize(4112, Some(17)),
+    Call::LiveSize(4128, None),
+    Call::LiveReach(4112, Some(32)),
+    Call::LiveReach(4128, None),
+    Call::Kept(4112, 20, 17),
+    Call::Kept(4112, 5, 5),
+    Call::Kept(4128, 5, 0),
+];
+
+// Whether a place is answered; padding that no call may ask for is none.
+fn places(book: &mut Book, size: u32, side: u32, from: u32, want: Option<u32>) -> bool {
+    side % 16 == 0 && side <= 256 && book.place(size, side, from) == want
+}
+
+// Whether a call has its answer. A run of bytes has at least one.
+fn is_answered(book: &mut Book, call: Call) -> bool {
     match call {
-        Call::Place(size, side, from, want) => {
-            assert!(rt; side % 16 == 0);
-            assert!(rt; side <= 256);
-            assert_eq!(rt;
-                book.place(size, side, from),
-                want,
-                "{size} by {side} from {from}"
-            );
+        Call::Place(size, side, from, want) => places(book, size, side, from, want),
+        Call::Release(at, want) => book.release(at) == want,
+        Call::Delay(at, want) => book.delay(at) == want,
+        Call::Recycle => {
+            book.recycle();
+            true
         }
-        Call::Release(at, want) => assert_eq!(rt; book.release(at), want, "release {at}"),
-        Call::Delay(at, want) => assert_eq!(rt; book.delay(at), want, "delay {at}"),
-        Call::Recycle => book.recycle(),
-        Call::Find(at, want) => assert_eq!(rt; book.find(at), want, "find {at}"),
-        Call::Holds(at, len, want) => {
-            assert!(rt; len >= 1);
-            assert_eq!(rt; book.holds(at, len), want, "{len} held at {at}");
-        }
-        Call::Reserves(at, len, want) => {
-            assert!(rt; len >= 1);
-            assert_eq!(rt; book.reserves(at, len), want, "{len} reserved at {at}");
-        }
-        Call::Clear(at, size, want) => {
-            assert_eq!(rt; book.clear_of_live(at, size), want, "{size} clear at {at}");
-        }
+        Call::Find(at, want) => book.find(at) == want,
+        Call::Holds(at, len, want) => len >= 1 && book.holds(at, len) == want,
+        Call::Reserves(at, len, want) => len >= 1 && book.reserves(at, len) == want,
+        Call::Clear(at, size, want) => book.clear_of_live(at, size) == want,
+        Call::LiveSize(at, want) => book.live_size(at) == want,
+        Call::LiveReach(at, want) => book.live_reach(at) == want,
+        Call::Kept(at, size, want) => book.kept(at, size) == want,
     }
 }
 
 fn try_calls(rt: &impl Abort, book: &mut Book, calls: &[Call]) {
-    for call in calls {
-        try_call(rt, book, *call);
+    for (i, call) in calls.iter().enumerate() {
+        assert!(rt; is_answered(book, *call), "row {i}");
     }
 }
 
-// 4096 blocks stand, and no more, though there is room for four more.
-fn try_most(rt: &impl Abort, alloc: Global) -> Result<(), Fail> {
-    let mut book = Book::make(alloc, 4096, 4096 + 65536 + 64)?;
+// Places as many blocks as there may be.
+fn fill(rt: &impl Abort, book: &mut Book) {
     for _ in 0..4096 {
         assert!(rt; book.place(1, 0, 0).is_some());
     }
-    assert_eq!(rt; book.find(69616), Standing::Live(1));
-    assert_eq!(rt; book.place(1, 0, 0), None);
-    assert!(rt; book.delay(4112));
-    assert_eq!(rt; book.place(1, 0, 0), None);
-    book.recycle();
-    assert_eq!(rt; book.place(1, 0, 0), Some(4112));
-    Ok(())
 }
 
 #[test]
 fn books_place_and_free(rt: HostRuntime) -> Result<(), Fail> {
-    let mut small = Book::make(rt.alloc(), 4096, 4160)?;
-    try_calls(&rt, &mut small, &SMALL);
-    let mut padded = Book::make(rt.alloc(), 4096, 5152)?;
-    try_calls(&rt, &mut padded, &PADDED);
-    try_most(&rt, rt.alloc())
+    try_calls(&rt, &mut Book::make(rt.alloc(), 4096, 4160)?, &SMALL);
+    try_calls(&rt, &mut Book::make(rt.alloc(), 4096, 5152)?, &PADDED);
+    let mut most = Book::make(rt.alloc(), 4096, 4096 + 65536 + 64)?;
+    fill(&rt, &mut most);
+    try_calls(&rt, &mut most, &MOST);
+    Ok(())
+}
+
+// Puts blocks: none on the first one's seventeenth byte, none from no multiple of 16, and none past the heap.
+fn put_blocks(book: &mut Book) -> [bool; 5]
+    requires { is_bare book.old ≡ true }
+    ensures { SameEnds book.old book.new }
+{
+    let first = book.put(4112, 17);
+    let on_it = book.put(4128, 0);
+    let uneven = book.put(4152, 1);
+    let past = book.put(4144, 17);
+    let last = book.put(4144, 0);
+    [first, on_it, uneven, past, last]
 }
 
 #[test]
 fn books_take_blocks_and_copies(rt: HostRuntime) -> Result<(), Fail> {
     let mut book = Book::make(rt.alloc(), 4096, 4160)?;
-    assert!(rt; book.put(4112, 17));
-    assert!(rt; !book.put(4128, 0), "its seventeenth byte");
-    assert!(rt; !book.put(4152, 1), "no multiple of 16");
-    assert!(rt; !book.put(4144, 17), "one byte past the heap");
-    assert!(rt; book.put(4144, 0));
+    assert_eq!(rt; put_blocks(&mut book), [true, false, false, false, true]);
     let mut copy = Book::make(rt.alloc(), 4096, 4160)?;
     copy.copy_from(&book);
-    assert_eq!(rt; copy.find(4112), Standing::Live(17));
-    assert_eq!(rt; copy.find(4144), Standing::Live(0));
     assert_eq!(rt; (copy.start(), copy.end()), (4096, 4160));
-    assert_eq!(rt; copy.live_size(4112), Some(17));
-    assert_eq!(rt; copy.live_size(4128), None);
-    assert_eq!(rt;
-        (copy.live_reach(4112), copy.live_reach(4128)),
-        (Some(32), None)
-    );
-    assert_eq!(rt;
-        (copy.kept(4112, 20), copy.kept(4112, 5), copy.kept(4128, 5)),
-        (17, 5, 0)
-    );
+    try_calls(&rt, &mut copy, &COPY);
+    Ok(())
+}
+
+#[test]
+fn choices_are_a_list(rt: HostRuntime) -> Result<(), Fail> {
     let null = Choice {
         ask: Ask::Malloc { size: 1 },
         at: 0,

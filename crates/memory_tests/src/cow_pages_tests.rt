@@ -97,64 +97,86 @@ static RUNS: [Row; 26] = [
     (Call::ByteIs(0, 1), 4, 4),
 ];
 
-// Makes a call, or looks.
-fn apply(rt: &impl Abort, store: &mut PageStore, call: Call) {
+// Makes a call, and tells whether it may be made; or looks, and tells whether it is so.
+fn is_answered(store: &mut PageStore, call: Call) -> bool {
     let bytes = 4096 * store.pages();
     match call {
         Call::Byte(at, byte) => {
-            assert!(rt; at < bytes);
+            if at >= bytes {
+                return false;
+            }
             store.put_byte(at, byte);
         }
         Call::Half(at, value) => {
-            assert!(rt; at < bytes && at % 4096 < 4095);
+            if at >= bytes || at % 4096 >= 4095 {
+                return false;
+            }
             store.put_half(at, value);
         }
         Call::Word(at, value) => {
-            assert!(rt; at < bytes && at % 4096 < 4093);
+            if at >= bytes || at % 4096 >= 4093 {
+                return false;
+            }
             store.put_word(at, value);
         }
-        Call::Write(at, count, first) => write(rt, store, at, count, first),
         Call::Zero(at, count) => {
-            assert!(rt; at <= bytes && count <= bytes - at);
+            if at > bytes || count > bytes - at {
+                return false;
+            }
             store.zero_run(at, count);
         }
-        Call::Save(slot) => save(rt, store, slot),
-        Call::SaveOver(slot) => {
-            assert!(rt; store.is_saved(slot));
-            assert!(rt; store.used() + store.pages() <= store.frames());
-            store.save_over(slot);
-        }
+        Call::Write(at, count, first) => return writes(store, at, count, first),
+        Call::Save(slot) => return saves(store, slot),
+        Call::SaveOver(slot) => return saves_over(store, slot),
         Call::Release(slot) => {
-            assert!(rt; store.is_saved(slot));
+            if !store.is_saved(slot) {
+                return false;
+            }
             store.release(slot);
         }
         Call::Restore(slot) => {
-            assert!(rt; store.is_saved(slot));
+            if !store.is_saved(slot) {
+                return false;
+            }
             store.restore(slot);
         }
-        Call::ByteIs(at, byte) => {
-            assert!(rt; at < bytes);
-            assert_eq!(rt; store.byte_at(at), byte, "at {at}");
-        }
-        Call::HalfIs(at, value) => {
-            assert!(rt; at < bytes && at % 4096 < 4095);
-            assert_eq!(rt; store.half_at(at), value, "at {at}");
-        }
-        Call::WordIs(at, value) => {
-            assert!(rt; at < bytes && at % 4096 < 4093);
-            assert_eq!(rt; store.word_at(at), value, "at {at}");
-        }
-        Call::RunIs(at, count, first) => run_is(rt, store, at, count, first),
-        Call::Saved(slot, saved) => assert_eq!(rt; store.is_saved(slot), saved, "slot {slot}"),
+        _ => return finds(store, call),
     }
+    true
 }
 
 // Saves in a slot that is empty, where there is room.
-fn save(rt: &impl Abort, store: &mut PageStore, slot: u32) {
-    assert!(rt; slot < store.slots());
-    assert!(rt; store.used() + store.pages() <= store.frames());
-    assert!(rt; !store.is_saved(slot));
+fn saves(store: &mut PageStore, slot: u32) -> bool {
+    let has_room = store.used() + store.pages() <= store.frames();
+    let slots = store.slots();
+    if slot >= slots || !has_room || store.is_saved(slot) {
+        return false;
+    }
     store.save(slot);
+    true
+}
+
+// Saves in a slot that isn't empty, where there is room.
+fn saves_over(store: &mut PageStore, slot: u32) -> bool {
+    let has_room = store.used() + store.pages() <= store.frames();
+    if !has_room || !store.is_saved(slot) {
+        return false;
+    }
+    store.save_over(slot);
+    true
+}
+
+// Whether what a look finds is so.
+fn finds(store: &PageStore, call: Call) -> bool {
+    let bytes = 4096 * store.pages();
+    match call {
+        Call::ByteIs(at, byte) => at < bytes && store.byte_at(at) == byte,
+        Call::HalfIs(at, value) => at < bytes && at % 4096 < 4095 && store.half_at(at) == value,
+        Call::WordIs(at, value) => at < bytes && at % 4096 < 4093 && store.word_at(at) == value,
+        Call::RunIs(at, count, first) => finds_run(store, at, count, first),
+        Call::Saved(slot, saved) => store.is_saved(slot) == saved,
+        _ => false,
+    }
 }
 
 // Bytes, each one higher than the one before.
@@ -168,36 +190,44 @@ fn bytes_from(first: u8) -> [u8; 4200] {
     bytes
 }
 
-// Writes so many of them.
-fn write(rt: &impl Abort, store: &mut PageStore, at: u32, count: usize, first: u8) {
+// Writes so many of them, where they have room.
+fn writes(store: &mut PageStore, at: u32, count: usize, first: u8) -> bool {
     let bytes = bytes_from(first);
-    assert!(rt; count <= bytes.len());
-    assert!(rt; at as usize + count <= 4096 * store.pages() as usize);
+    if count > bytes.len() || at as usize + count > 4096 * store.pages() as usize {
+        return false;
+    }
     store.write_run(at, &bytes[..count]);
+    true
 }
 
-// So many of them stand there.
-fn run_is(rt: &impl Abort, store: &PageStore, at: u32, count: usize, first: u8) {
+// Whether so many of them stand there.
+fn finds_run(store: &PageStore, at: u32, count: usize, first: u8) -> bool {
     let wanted = bytes_from(first);
     let mut bytes = [0; 4200];
-    assert!(rt; count <= bytes.len());
-    assert!(rt; at as usize + count <= 4096 * store.pages() as usize);
+    if count > bytes.len() || at as usize + count > 4096 * store.pages() as usize {
+        return false;
+    }
     store.read_run(at, &mut bytes[..count]);
-    assert_eq!(rt; &bytes[..count], &wanted[..count], "at {at}");
+    bytes[..count] == wanted[..count]
+}
+
+// Whether a row is answered, and so many frames are used and held behind it.
+fn is_row(store: &mut PageStore, row: Row) -> bool {
+    let (call, used, held) = row;
+    is_answered(store, call) && store.used() == used && store.held() == held
+}
+
+fn play(rt: &impl Abort, store: &mut PageStore, rows: &[Row]) {
+    for (i, row) in rows.iter().enumerate() {
+        assert!(rt; is_row(store, *row), "row {i}");
+    }
 }
 
 #[test]
 fn rows(rt: HostRuntime) -> Result<(), Fail> {
     for (pages, frames, rows) in [(2, 4, SMALL.as_slice()), (4, 12, RUNS.as_slice())] {
         let mut store = PageStore::make(rt.alloc(), pages, 2, frames)?;
-        for (i, (call, used, held)) in rows.iter().enumerate() {
-            apply(&rt, &mut store, *call);
-            assert_eq!(rt;
-                (store.used(), store.held()),
-                (*used, *held),
-                "after row {i}"
-            );
-        }
+        play(&rt, &mut store, rows);
         assert_eq!(rt;
             (store.pages(), store.frames(), store.slots()),
             (pages, frames, 2)
