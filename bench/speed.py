@@ -11,8 +11,10 @@ It tells how many instructions of the host each of the two does for one of the g
 that doesn't move with what else the machine does. It is the difference between a run of six messages and one of two.
 Then it tells processor times. The runs of both take turns, and each run of rx is set beside the interpreter's run that
 follows it: of these ratios it tells the middle one, the lowest and the highest. With --count it tells no times.
+With --bars it counts rx alone, and ends with 1 where a count is above its bar: no proof sees that a function of the loop over
+entries is no longer put in place.
 
-usage: speed.py [--runs N] [--messages N] [--count] [RX] [OPTION ..]
+usage: speed.py [--runs N] [--messages N] [--count | --bars] [RX] [OPTION ..]
 
 RX is the built rx, crates/rx/out/rx unless it is given; where it isn't there, the interpreter is measured alone. The options
 are further ones of `rx run`, such as `--window 1`. The interpreter is compiled by `rustc -O`; where there is no rustc, rx is
@@ -181,6 +183,9 @@ PROGRAMS = [
 # Of guests/suite, and how often each does its work for a message.
 OF_THE_SUITE = [("sha256", 6), ("sort", 3), ("calculator", 70)]
 
+# At most so many instructions of the host for one of the guest.
+BARS = {"data segment": 15.5, "stack": 15.5, "both": 16.6, "sha256": 15.5, "sort": 17.4, "calculator": 17.9}
+
 
 def frame(kind, payload=b""):
     return struct.pack("<BHH", kind, 0, len(payload)) + payload
@@ -348,10 +353,13 @@ def host_instructions(words, frames):
 
 def count(name, program, engines):
     few, many = program.conversation(2), program.conversation(6)
+    counts = {}
     for what, words, steps_of in engines.by_name(program):
         steps = [steps_of(timed(words, *talk)[1]) for talk in (few, many)]
         host = host_instructions(words, many[0]) - host_instructions(words, few[0])
-        print("%-13s %-12s %7.1f host instructions for one of the guest" % (name, what, host / (steps[1] - steps[0])))
+        counts[what] = host / (steps[1] - steps[0])
+        print("%-13s %-12s %7.1f host instructions for one of the guest" % (name, what, counts[what]))
+    return counts
 
 
 def compiled(folder):
@@ -368,17 +376,25 @@ def main():
     parser.add_argument("--runs", type=int, default=5)
     parser.add_argument("--messages", type=int, default=112)
     parser.add_argument("--count", action="store_true")
+    parser.add_argument("--bars", action="store_true")
     parser.add_argument("rx", nargs="?", default=os.path.join(HERE, "..", "crates", "rx", "out", "rx"))
     parser.add_argument("options", nargs=argparse.REMAINDER)
     words = parser.parse_args()
     rx = os.path.abspath(words.rx) if os.path.exists(words.rx) else None
+    if words.bars and not (rx and shutil.which("valgrind")):
+        sys.exit("--bars needs a built rx, and valgrind")
     with tempfile.TemporaryDirectory() as folder:
-        engines = Engines(rx, words.options, compiled(folder), folder)
+        engines = Engines(rx, words.options, None if words.bars else compiled(folder), folder)
+        above = []
         for name, program in PROGRAMS + list(of_the_suite(folder)):
             if shutil.which("valgrind"):
-                count(name, program, engines)
-            if not words.count:
+                counts = count(name, program, engines)
+                if words.bars and not counts.get("rx", 0) <= BARS[name]:
+                    above.append("%s: %.1f, above %.1f" % (name, counts["rx"], BARS[name]))
+            if not words.count and not words.bars:
                 measure(name, program, words.runs, words.messages, engines)
+        if above:
+            sys.exit("\n".join(above))
     print("load of the machine: %.1f %.1f %.1f" % os.getloadavg())
 
 
