@@ -268,6 +268,7 @@ LINES = [
     ('"$RX" run echo %s --budget 68719476737' % WORDS, b"", 2),
     ('"$RX" run echo %s --keep 0' % WORDS, b"", 2),
     ('"$RX" run echo %s --keep 4294967296' % WORDS, b"", 2),
+    ('"$RX" run echo %s --env none' % WORDS, b"", 2),
     ('"$RX" run echo %s --window 65' % WORDS, b"", 2),
     ('"$RX" run echo %s --hold 01' % WORDS, b"", 2),
     ('"$RX" run echo %s --ring=3' % WORDS, b"", 2),
