@@ -12,6 +12,9 @@ _rx() {
     'run --frame')
         COMPREPLY=($(compgen -W 'line length whole' -- "$word"))
         return ;;
+    'run --env')
+        COMPREPLY=($(compgen -W 'plain pad zero isolate delay all' -- "$word"))
+        return ;;
     'run --guard')
         COMPREPLY=($(compgen -W 'off extent block' -- "$word"))
         return ;;
@@ -23,6 +26,9 @@ _rx() {
         return ;;
     'resume --form')
         COMPREPLY=($(compgen -W 'text json' -- "$word"))
+        return ;;
+    'resume --env')
+        COMPREPLY=($(compgen -W 'plain pad zero isolate delay all' -- "$word"))
         return ;;
     'resume --guard')
         COMPREPLY=($(compgen -W 'off extent block' -- "$word"))
@@ -39,6 +45,9 @@ _rx() {
     'serve --frame')
         COMPREPLY=($(compgen -W 'line length whole' -- "$word"))
         return ;;
+    'serve --env')
+        COMPREPLY=($(compgen -W 'plain pad zero isolate delay all' -- "$word"))
+        return ;;
     'serve --guard')
         COMPREPLY=($(compgen -W 'off extent block' -- "$word"))
         return ;;
@@ -54,6 +63,9 @@ _rx() {
     'diagnose --frame')
         COMPREPLY=($(compgen -W 'line length whole' -- "$word"))
         return ;;
+    'diagnose --env')
+        COMPREPLY=($(compgen -W 'plain pad zero isolate delay all' -- "$word"))
+        return ;;
     'diagnose --guard')
         COMPREPLY=($(compgen -W 'off extent block' -- "$word"))
         return ;;
@@ -66,15 +78,15 @@ _rx() {
     esac
     case "${COMP_WORDS[1]}" in
     run)
-        [[ $word == -* ]] && COMPREPLY=($(compgen -W '--record --report --form --frame --window --hold --ring --every --frames --budget --keep --guard --tell --durable' -- "$word")) && return ;;
+        [[ $word == -* ]] && COMPREPLY=($(compgen -W '--record --report --form --frame --window --hold --ring --every --frames --budget --keep --env --guard --tell --durable' -- "$word")) && return ;;
     standby)
         [[ $word == -* ]] && COMPREPLY=($(compgen -W '--record --budget' -- "$word")) && return ;;
     resume)
-        [[ $word == -* ]] && COMPREPLY=($(compgen -W '--record --report --form --hold --ring --every --frames --budget --keep --guard --tell --durable' -- "$word")) && return ;;
+        [[ $word == -* ]] && COMPREPLY=($(compgen -W '--record --report --form --hold --ring --every --frames --budget --keep --env --guard --tell --durable' -- "$word")) && return ;;
     serve)
-        [[ $word == -* ]] && COMPREPLY=($(compgen -W '--record --report --form --frame --window --ring --every --frames --budget --keep --guard --patience --at-once --tell --durable' -- "$word")) && return ;;
+        [[ $word == -* ]] && COMPREPLY=($(compgen -W '--record --report --form --frame --window --ring --every --frames --budget --keep --env --guard --patience --at-once --tell --durable' -- "$word")) && return ;;
     diagnose)
-        [[ $word == -* ]] && COMPREPLY=($(compgen -W '--record --report --diagnosis --form --frame --window --hold --ring --every --frames --budget --keep --guard --tell --durable' -- "$word")) && return ;;
+        [[ $word == -* ]] && COMPREPLY=($(compgen -W '--record --report --diagnosis --form --frame --window --hold --ring --every --frames --budget --keep --env --guard --tell --durable' -- "$word")) && return ;;
     help)
         COMPREPLY=($(compgen -W 'run asm replay convert standby resume serve diagnose drill frame unframe' -- "$word"))
         return ;;
