@@ -2,7 +2,7 @@
 use Rattle.std.specs.List.{find, list_any}
 use Rattle.block_book.specs.declared.block.Block.{Block}
 use Rattle.block_book.proofs.Searches.{IsAbout, at-is-about, any-above}
-use Rattle.alloc_env.proofs.Terms.{Bool, List, None, Option, Some, [], ap, cond, eqb, false, if◌then◌else◌, inl, inr, not, refl, subst, sym, true, ℕ, ◌&&◌, ◌||◌, ◌∙◌, ◌∷◌, ◌≡◌, and_parts, cases_Bool, eq-eqb, eqb-true, ne_eqb, or_parts, same_Some, Standing, Delayed, Live, Nothing, kept-front, live-delayed, live-front, live-front_delayed, live-without, sound-delayed, sound-filter, live_blocks, without_live, extent_end, Heap, IsHeap, StandWithin, is_live_at, standing_at, standing_of, with_delayed, without_block, Env, treatment_of, freed, freed_by, served_free, Follows}
+use Rattle.alloc_env.proofs.Terms.{Bool, List, None, Option, Some, [], ap, cond, eqb, false, if◌then◌else◌, inl, inr, not, refl, subst, sym, true, ℕ, ◌&&◌, ◌||◌, ◌∙◌, ◌∷◌, ◌≡◌, and_parts, cases_Bool, eq-eqb, eqb-true, ne_eqb, or_parts, same_Some, Site, Standing, Delayed, Live, Nothing, kept-front, live-delayed, live-front, live-front_delayed, live-without, sound-delayed, sound-filter, live_blocks, without_live, extent_end, Heap, IsHeap, StandWithin, is_live_at, live_at, remembering, standing_at, standing_of, with_delayed, without_block, Env, treatment_of, freed, freed_by, served_free, Follows}
 
 -- a live block of that address stands among blocks
 abbrev is_live : ℕ → Block → Bool
@@ -109,12 +109,12 @@ nothing-standing heap at is = among heap.blocks is
 stays : (heap : Heap) (at : ℕ) → IsHeap heap → is_live_at heap at ≡ false → Follows heap at heap
 stays heap at sound none = record { sound = sound; start = refl; end = refl; live = sym (without-none at heap.blocks none) }
 
-pub freed-follows : (env : Env) (heap : Heap) (at : ℕ) → IsHeap heap → Follows heap at (freed env heap at)
-freed-follows env heap at sound = by-delays (treatment_of env).delays
+pub freed-follows : (env : Env) (heap : Heap) (site : Site) (at : ℕ) → IsHeap heap → Follows heap at (freed env heap site at)
+freed-follows env heap site at sound = by-delays (treatment_of env).delays
   where
-    by-delays : (b : Bool) → Follows heap at (if b then with_delayed heap at else without_block heap at)
-    by-delays true = record { sound = sound-delayed heap at sound; start = refl; end = refl; live = live-delayed at heap.blocks }
-    by-delays false = record { sound = sound-filter (λ block. not (eqb block.at at)) heap sound; start = refl; end = refl; live = live-without at heap.blocks }
+    by-delays : (b : Bool) → Follows heap at (if b then with_delayed heap at site else without_block heap at site)
+    by-delays true = record { sound = sound-delayed heap at (remembering (live_at heap at) site heap.freed) sound; start = refl; end = refl; live = live-delayed at heap.blocks }
+    by-delays false = record { sound = sound-filter (λ block. not (eqb block.at at)) heap (remembering (live_at heap at) site heap.freed) sound; start = refl; end = refl; live = live-without at heap.blocks }
 
 pub null-follows : (heap : Heap) → IsHeap heap → Follows heap 0 heap
 null-follows heap sound = stays heap 0 sound (any-above 0 (is_live 0) (live-is-about 0) heap.start heap.blocks heap.end sound.standing sound.above_null)
@@ -122,35 +122,35 @@ null-follows heap sound = stays heap 0 sound (any-above 0 (is_live 0) (live-is-a
 pub delayed-follows : (heap : Heap) (at size : ℕ) → IsHeap heap → standing_at heap at ≡ Delayed size → Follows heap at heap
 delayed-follows heap at size sound is = stays heap at sound (delayed-standing heap at size sound is)
 
-pub free-follows : (env : Env) (heap after : Heap) (at : ℕ) → IsHeap heap → served_free env heap at ≡ Some after → Follows heap at after
+pub free-follows : (env : Env) (heap after : Heap) (site : Site) (at : ℕ) → IsHeap heap → served_free env heap site at ≡ Some after → Follows heap at after
 unfolding served_free
-free-follows env heap after at sound = by-null (eqb at 0) refl
+free-follows env heap after site at sound = by-null (eqb at 0) refl
   where
     by-delays : (size : ℕ) → standing_at heap at ≡ Delayed size → (b : Bool) → (if b then Some heap else None) ≡ Some after → Follows heap at after
     by-delays size e true h = subst (Follows heap at) (same_Some heap after h) (delayed-follows heap at size sound e)
     by-delays size e false h = absurd (cc h)
 
-    by-standing : (s : Standing) → standing_at heap at ≡ s → freed_by env heap at s ≡ Some after → Follows heap at after
+    by-standing : (s : Standing) → standing_at heap at ≡ s → freed_by env heap site at s ≡ Some after → Follows heap at after
     by-standing Nothing e h = absurd (cc h)
-    by-standing (Live size) e h = subst (Follows heap at) (same_Some (freed env heap at) after h) (freed-follows env heap at sound)
+    by-standing (Live size) e h = subst (Follows heap at) (same_Some (freed env heap site at) after h) (freed-follows env heap site at sound)
     by-standing (Delayed size) e h = by-delays size e (treatment_of env).delays h
 
-    by-null : (b : Bool) → eqb at 0 ≡ b → (if b then Some heap else freed_by env heap at (standing_at heap at)) ≡ Some after → Follows heap at after
+    by-null : (b : Bool) → eqb at 0 ≡ b → (if b then Some heap else freed_by env heap site at (standing_at heap at)) ≡ Some after → Follows heap at after
     by-null true e h = subst (Follows heap at) (same_Some heap after h) (subst (λ n. Follows heap n heap) (sym (eqb-true at 0 e)) (null-follows heap sound))
     by-null false e h = by-standing (standing_at heap at) refl h
 
 -- what free answers
-pub free-null : (env : Env) (heap : Heap) (at : ℕ) → at ≡ 0 → served_free env heap at ≡ Some heap
+pub free-null : (env : Env) (heap : Heap) (site : Site) (at : ℕ) → at ≡ 0 → served_free env heap site at ≡ Some heap
 unfolding served_free
-free-null env heap at is = ap (λ b. if b then Some heap else freed_by env heap at (standing_at heap at)) (eq-eqb at 0 is)
+free-null env heap site at is = ap (λ b. if b then Some heap else freed_by env heap site at (standing_at heap at)) (eq-eqb at 0 is)
 
-pub free-standing : (env : Env) (heap : Heap) (at : ℕ) (s : Standing) → (at ≡ 0 → ⊥) → standing_at heap at ≡ s → served_free env heap at ≡ freed_by env heap at s
+pub free-standing : (env : Env) (heap : Heap) (site : Site) (at : ℕ) (s : Standing) → (at ≡ 0 → ⊥) → standing_at heap at ≡ s → served_free env heap site at ≡ freed_by env heap site at s
 unfolding served_free
-free-standing env heap at s named is =
-    ap (λ b. if b then Some heap else freed_by env heap at (standing_at heap at)) (ne_eqb at 0 named) ∙ ap (freed_by env heap at) is
+free-standing env heap site at s named is =
+    ap (λ b. if b then Some heap else freed_by env heap site at (standing_at heap at)) (ne_eqb at 0 named) ∙ ap (freed_by env heap site at) is
 
-pub keeps-delayed : (env : Env) (heap : Heap) (at size : ℕ) → (treatment_of env).delays ≡ true → freed_by env heap at (Delayed size) ≡ Some heap
-keeps-delayed env heap at size h = ap (λ b. if b then Some heap else None) h
+pub keeps-delayed : (env : Env) (heap : Heap) (site : Site) (at size : ℕ) → (treatment_of env).delays ≡ true → freed_by env heap site at (Delayed size) ≡ Some heap
+keeps-delayed env heap site at size h = ap (λ b. if b then Some heap else None) h
 
-pub refuses-delayed : (env : Env) (heap : Heap) (at size : ℕ) → (treatment_of env).delays ≡ false → freed_by env heap at (Delayed size) ≡ None
-refuses-delayed env heap at size h = ap (λ b. if b then Some heap else None) h
+pub refuses-delayed : (env : Env) (heap : Heap) (site : Site) (at size : ℕ) → (treatment_of env).delays ≡ false → freed_by env heap site at (Delayed size) ≡ None
+refuses-delayed env heap site at size h = ap (λ b. if b then Some heap else None) h

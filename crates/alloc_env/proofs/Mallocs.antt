@@ -1,7 +1,8 @@
 -- The answers of the allocator.
 use Rattle.block_book.proofs.Asks.{same-self, size-live, size-inserted}
 use Rattle.block_book.proofs.Sizes.{reserved-touched}
-use Rattle.alloc_env.proofs.Terms.{Bool, List, None, Option, Some, ap, arith, eqb, false, if◌then◌else◌, inl, inr, min, nat_le, nat_lt, not, refl, subst, sym, true, ℕ, ◌%◌, ◌&&◌, ◌+◌, ◌-◌, ◌<◌, ◌^◌, ◌||◌, ◌∙◌, ◌≡◌, ◌≤◌, and_from, and_parts, cases_Bool, eq-eqb, eqb-true, le-leb, lt-ltb, ne_eqb, or_left, or_right, same_Some, unwrap_or, option_map_or, option_or, is_some, Ask, Realloc, Choice, has_live, live-insert_block, live-recycled, placement-apart, placement-clear, placement-positive, placement-roomy, placement-sound, reach-recycled, reach-within, sound-filter, bytes_asked, insert_live, is_allowed, is_apart, is_block, is_calloc, is_clear, kept_count, lies_in, live_blocks, live_with, may_carry, moved_count, reach, reach_at, replaced, reserved_size, same_ask, size_at, without_live, without_replaced, live_block, Heap, IsHeap, is_live_at, recycled, with_block, placement, Env, All, Delay, Isolate, Pad, Plain, Zero, treatment_of, Served, carried_over, freed, in_place_of, middle, served_ask, served_at, served_block, served_in, served_null, served_over, spot, Follows, Serves}
+use Rattle.block_book.proofs.Reaching.{has_live, placement-apart, reach-recycled, reach-within}
+use Rattle.alloc_env.proofs.Terms.{Bool, List, None, Option, Some, ap, arith, eqb, false, if◌then◌else◌, inl, inr, min, nat_le, nat_lt, not, refl, subst, sym, true, ℕ, ◌%◌, ◌&&◌, ◌+◌, ◌-◌, ◌<◌, ◌^◌, ◌||◌, ◌∙◌, ◌≡◌, ◌≤◌, and_from, and_parts, cases_Bool, eq-eqb, eqb-true, le-leb, lt-ltb, ne_eqb, or_left, or_right, same_Some, option_map_or, option_or, is_some, unwrap_or, Ask, Realloc, Choice, Site, live-insert_block, live-recycled, placement-clear, placement-positive, placement-roomy, placement-sound, sound-filter, bytes_asked, insert_live, is_allowed, is_block, is_calloc, is_clear, kept_count, live_blocks, live_with, may_carry, moved_count, replaced, same_ask, size_at, without_live, without_replaced, is_apart, lies_in, live_block, reach, reserved_size, Heap, IsHeap, is_live_at, reach_at, recycled, with_block, placement, Env, All, Delay, Isolate, Pad, Plain, Zero, treatment_of, Served, carried_over, freed, in_place_of, middle, served_ask, served_at, served_block, served_in, served_null, served_over, spot, Follows, Serves}
 use Rattle.alloc_env.proofs.Frees.{freed-follows}
 
 side-multiple : (env : Env) → (treatment_of env).side % 16 ≡ 0
@@ -73,9 +74,9 @@ pub record Places (env : Env) (heap : Heap) (ask : Ask) (served : Served) : Type
   pub live : live_blocks served.heap.blocks ≡ placed_live served.choice (live_blocks heap.blocks)
 
 -- an answer that isn't null
-places-at : (env : Env) (heap : Heap) (ask : Ask) (at : ℕ) → nat_lt (bytes_asked ask) (2 ^ 32) ≡ true → IsHeap heap → spot env heap (bytes_asked ask) ≡ Some at → Places env heap ask (served_at env heap ask at)
+places-at : (env : Env) (heap : Heap) (site : Site) (ask : Ask) (at : ℕ) → nat_lt (bytes_asked ask) (2 ^ 32) ≡ true → IsHeap heap → spot env heap (bytes_asked ask) ≡ Some at → Places env heap ask (served_at env heap site ask at)
 unfolding is_allowed is_block
-places-at env heap ask at few sound is =
+places-at env heap site ask at few sound is =
     let size = bytes_asked ask in
     let side = (treatment_of env).side in
     let zeroed = (treatment_of env).zeroes || is_calloc ask in
@@ -97,11 +98,11 @@ places-at env heap ask at few sound is =
           and_from (same_ask ask ask) (((eqb at 0 && not zeroed) && true) || ((inside && (zeroed || not (is_calloc ask))) && true)) (same-self ask)
           (or_right ((eqb at 0 && not zeroed) && true) ((inside && (zeroed || not (is_calloc ask))) && true) (and_from (inside && (zeroed || not (is_calloc ask))) true block refl));
       zeroed = sym (ap (λ b. zeroed && not b) named ∙ and-true zeroed);
-      sound = placement-sound heap size side placed.0 at sound (side-multiple env) (side-small env) placed.1;
+      sound = placement-sound heap size side placed.0 at site sound (side-multiple env) (side-small env) placed.1;
       start = refl;
       end = refl;
       live =
-          live-insert_block at size side heap.start heap.blocks heap.end sound.standing
+          live-insert_block at size side heap.start site heap.blocks heap.end sound.standing
           ∙ sym (ap (λ b. if b then live_blocks heap.blocks else insert_live (at, size) (live_blocks heap.blocks)) named);
     }
   where
@@ -149,28 +150,28 @@ places-recycled env heap ask served s = record {
   live = s.live ∙ ap (placed_live served.choice) (live-recycled heap.blocks);
 }
 
-places-tried : (env : Env) (heap : Heap) (ask : Ask) (otherwise : Served) → nat_lt (bytes_asked ask) (2 ^ 32) ≡ true → IsHeap heap → Places env heap ask otherwise → (o : Option ℕ) → spot env heap (bytes_asked ask) ≡ o → Places env heap ask (option_map_or (served_at env heap ask) o otherwise)
-places-tried env heap ask otherwise few sound s None e = s
-places-tried env heap ask otherwise few sound s (Some at) e = places-at env heap ask at few sound e
+places-tried : (env : Env) (heap : Heap) (site : Site) (ask : Ask) (otherwise : Served) → nat_lt (bytes_asked ask) (2 ^ 32) ≡ true → IsHeap heap → Places env heap ask otherwise → (o : Option ℕ) → spot env heap (bytes_asked ask) ≡ o → Places env heap ask (option_map_or (served_at env heap site ask) o otherwise)
+places-tried env heap site ask otherwise few sound s None e = s
+places-tried env heap site ask otherwise few sound s (Some at) e = places-at env heap site ask at few sound e
 
-pub block-places : (env : Env) (heap : Heap) (ask : Ask) → IsHeap heap → Places env heap ask (served_block env heap ask)
+pub block-places : (env : Env) (heap : Heap) (site : Site) (ask : Ask) → IsHeap heap → Places env heap ask (served_block env heap site ask)
 unfolding served_block
-block-places env heap ask sound = of_bytes (nat_lt (bytes_asked ask) (2 ^ 32)) refl
+block-places env heap site ask sound = of_bytes (nat_lt (bytes_asked ask) (2 ^ 32)) refl
   where
     left : Heap
     left = recycled heap
 
-    of_bytes : (b : Bool) → nat_lt (bytes_asked ask) (2 ^ 32) ≡ b → Places env heap ask (if b then served_in env heap ask (served_in env left ask (served_null left ask)) else served_null heap ask)
+    of_bytes : (b : Bool) → nat_lt (bytes_asked ask) (2 ^ 32) ≡ b → Places env heap ask (if b then served_in env heap site ask (served_in env left site ask (served_null left ask)) else served_null heap ask)
     of_bytes false e = places-null env heap ask sound
     of_bytes true e =
-        let sound' = sound-filter (λ block. not block.delayed) heap sound in
-        let again = places-tried env left ask (served_null left ask) e sound' (places-null env left ask sound') (spot env left (bytes_asked ask)) refl in
-        places-tried env heap ask (served_in env left ask (served_null left ask)) e sound (places-recycled env heap ask (served_in env left ask (served_null left ask)) again) (spot env heap (bytes_asked ask)) refl
+        let sound' = sound-filter (λ block. not block.delayed) heap heap.freed sound in
+        let again = places-tried env left site ask (served_null left ask) e sound' (places-null env left ask sound') (spot env left (bytes_asked ask)) refl in
+        places-tried env heap site ask (served_in env left site ask (served_null left ask)) e sound (places-recycled env heap ask (served_in env left site ask (served_null left ask)) again) (spot env heap (bytes_asked ask)) refl
 
 -- a block that is live stays so where a new one is placed
-pub block-keeps : (env : Env) (heap : Heap) (ask : Ask) (served : Served) (old : ℕ) → IsHeap heap → served_block env heap ask ≡ served → is_live_at heap old ≡ true → is_live_at served.heap old ≡ true
-block-keeps env heap ask served old sound is lives =
-    let s = subst (Places env heap ask) is (block-places env heap ask sound) in
+pub block-keeps : (env : Env) (heap : Heap) (site : Site) (ask : Ask) (served : Served) (old : ℕ) → IsHeap heap → served_block env heap site ask ≡ served → is_live_at heap old ≡ true → is_live_at served.heap old ≡ true
+block-keeps env heap site ask served old sound is lives =
+    let s = subst (Places env heap ask) is (block-places env heap site ask sound) in
     sym (size-live old served.heap.blocks) ∙ ap (λ live. is_some (size_at old live)) s.live ∙ of_null (eqb served.choice.at 0) (size-live old heap.blocks ∙ lives)
   where
     of_null : (b : Bool) → is_some (size_at old (live_blocks heap.blocks)) ≡ true
@@ -277,9 +278,9 @@ serves-new env heap ask served none s = record {
 }
 
 -- a new block in place of an old one
-serves-over : (env : Env) (heap : Heap) (ask : Ask) (old : ℕ) (served : Served) → IsHeap heap → is_live_at heap old ≡ true → replaced ask ≡ Some old → Places env heap ask served
-    → Serves env heap ask (in_place_of env heap old (bytes_asked ask) served)
-serves-over env heap ask old served sound lives is s = of_null (eqb served.choice.at 0) refl
+serves-over : (env : Env) (heap : Heap) (site : Site) (ask : Ask) (old : ℕ) (served : Served) → IsHeap heap → is_live_at heap old ≡ true → replaced ask ≡ Some old → Places env heap ask served
+    → Serves env heap ask (in_place_of env heap site old (bytes_asked ask) served)
+serves-over env heap site ask old served sound lives is s = of_null (eqb served.choice.at 0) refl
   where
     carrying : eqb served.choice.at 0 ≡ false → is_allowed heap.start heap.end (live_blocks heap.blocks) ask (record served.choice { carried = carried_over env heap old (bytes_asked ask) }) ≡ true
     carrying named =
@@ -288,14 +289,14 @@ serves-over env heap ask old served sound lives is s = of_null (eqb served.choic
         (allowed-carrying heap.start heap.end (live_blocks heap.blocks) ask served.choice (carried_over env heap old (bytes_asked served.choice.ask)) s.allowed some
         (carried-fine env heap old served.choice sound lives (ap replaced s.asked ∙ is) (s.carries some)))
 
-    behind : Follows served.heap old (freed env served.heap old)
-    behind = freed-follows env served.heap old s.sound
+    behind : Follows served.heap old (freed env served.heap site old)
+    behind = freed-follows env served.heap site old s.sound
 
     with_replaced : (b : Bool) → Option ℕ → List (ℕ × ℕ)
     with_replaced b replaced = if b then live_blocks heap.blocks else without_replaced replaced (insert_live (served.choice.at, bytes_asked served.choice.ask) (live_blocks heap.blocks))
 
     of_null : (b : Bool) → eqb served.choice.at 0 ≡ b → Serves env heap ask
-        (if b then served else record { choice = record served.choice { carried = carried_over env heap old (bytes_asked ask) }; heap = freed env served.heap old })
+        (if b then served else record { choice = record served.choice { carried = carried_over env heap old (bytes_asked ask) }; heap = freed env served.heap site old })
     of_null true null = record {
       asked = s.asked;
       allowed = s.allowed;
@@ -324,20 +325,20 @@ serves-over env heap ask old served sound lives is s = of_null (eqb served.choic
     }
 
 -- what is so of each answer to an ask
-pub ask-serves : (env : Env) (heap : Heap) (ask : Ask) (served : Served) → IsHeap heap → served_ask env heap ask ≡ Some served → Serves env heap ask served
+pub ask-serves : (env : Env) (heap : Heap) (site : Site) (ask : Ask) (served : Served) → IsHeap heap → served_ask env heap site ask ≡ Some served → Serves env heap ask served
 unfolding served_ask
-ask-serves env heap ask served sound is = of_replaced (replaced ask) refl is
+ask-serves env heap site ask served sound is = of_replaced (replaced ask) refl is
   where
     block : Served
-    block = served_block env heap ask
+    block = served_block env heap site ask
 
-    over : (old : ℕ) → replaced ask ≡ Some old → (b : Bool) → is_live_at heap old ≡ b → (if b then Some (in_place_of env heap old (bytes_asked ask) block) else None) ≡ Some served → Serves env heap ask served
+    over : (old : ℕ) → replaced ask ≡ Some old → (b : Bool) → is_live_at heap old ≡ b → (if b then Some (in_place_of env heap site old (bytes_asked ask) block) else None) ≡ Some served → Serves env heap ask served
     over old e true lives h =
-        subst (Serves env heap ask) (same_Some (in_place_of env heap old (bytes_asked ask) block) served h) (serves-over env heap ask old block sound lives e (block-places env heap ask sound))
+        subst (Serves env heap ask) (same_Some (in_place_of env heap site old (bytes_asked ask) block) served h) (serves-over env heap site ask old block sound lives e (block-places env heap site ask sound))
     over old e false lives h = absurd (cc h)
 
-    of_replaced : (o : Option ℕ) → replaced ask ≡ o → served_over env heap ask o ≡ Some served → Serves env heap ask served
-    of_replaced None e h = subst (Serves env heap ask) (same_Some block served h) (serves-new env heap ask block e (block-places env heap ask sound))
+    of_replaced : (o : Option ℕ) → replaced ask ≡ o → served_over env heap site ask o ≡ Some served → Serves env heap ask served
+    of_replaced None e h = subst (Serves env heap ask) (same_Some block served h) (serves-new env heap ask block e (block-places env heap site ask sound))
     of_replaced (Some old) e h = over old e (is_live_at heap old) refl h
 
 -- a realloc of what isn't null replaces that
@@ -348,28 +349,28 @@ pub replaces-none : (old size : ℕ) → old ≡ 0 → replaced (Realloc old siz
 replaces-none old size null = ap (λ b. if b then None else Some old) (eq-eqb old 0 null)
 
 -- an answer, by the block that it replaces
-pub served-new : (env : Env) (heap : Heap) (ask : Ask) (served : Served) → replaced ask ≡ None → served_block env heap ask ≡ served → served_ask env heap ask ≡ Some served
+pub served-new : (env : Env) (heap : Heap) (site : Site) (ask : Ask) (served : Served) → replaced ask ≡ None → served_block env heap site ask ≡ served → served_ask env heap site ask ≡ Some served
 unfolding served_ask
-served-new env heap ask served none is = ap (served_over env heap ask) none ∙ ap Some is
+served-new env heap site ask served none is = ap (served_over env heap site ask) none ∙ ap Some is
 
-pub served-in_place : (env : Env) (heap : Heap) (ask : Ask) (old : ℕ) (served : Served) → replaced ask ≡ Some old → is_live_at heap old ≡ true → in_place_of env heap old (bytes_asked ask) (served_block env heap ask) ≡ served → served_ask env heap ask ≡ Some served
+pub served-in_place : (env : Env) (heap : Heap) (site : Site) (ask : Ask) (old : ℕ) (served : Served) → replaced ask ≡ Some old → is_live_at heap old ≡ true → in_place_of env heap site old (bytes_asked ask) (served_block env heap site ask) ≡ served → served_ask env heap site ask ≡ Some served
 unfolding served_ask
-served-in_place env heap ask old served over lives is =
-    ap (served_over env heap ask) over ∙ ap (λ b. if b then Some (in_place_of env heap old (bytes_asked ask) (served_block env heap ask)) else None) lives ∙ ap Some is
+served-in_place env heap site ask old served over lives is =
+    ap (served_over env heap site ask) over ∙ ap (λ b. if b then Some (in_place_of env heap site old (bytes_asked ask) (served_block env heap site ask)) else None) lives ∙ ap Some is
 
-pub served-bad : (env : Env) (heap : Heap) (ask : Ask) (old : ℕ) → replaced ask ≡ Some old → is_live_at heap old ≡ false → served_ask env heap ask ≡ None
+pub served-bad : (env : Env) (heap : Heap) (site : Site) (ask : Ask) (old : ℕ) → replaced ask ≡ Some old → is_live_at heap old ≡ false → served_ask env heap site ask ≡ None
 unfolding served_ask
-served-bad env heap ask old over none =
-    ap (served_over env heap ask) over ∙ ap (λ b. if b then Some (in_place_of env heap old (bytes_asked ask) (served_block env heap ask)) else None) none
+served-bad env heap site ask old over none =
+    ap (served_over env heap site ask) over ∙ ap (λ b. if b then Some (in_place_of env heap site old (bytes_asked ask) (served_block env heap site ask)) else None) none
 
 -- what a new block is, by its two tries
-pub block-many : (env : Env) (heap : Heap) (ask : Ask) → nat_lt (bytes_asked ask) (2 ^ 32) ≡ false → served_block env heap ask ≡ served_null heap ask
+pub block-many : (env : Env) (heap : Heap) (site : Site) (ask : Ask) → nat_lt (bytes_asked ask) (2 ^ 32) ≡ false → served_block env heap site ask ≡ served_null heap ask
 unfolding served_block
-block-many env heap ask many = ap (λ b. if b then served_in env heap ask (served_in env (recycled heap) ask (served_null (recycled heap) ask)) else served_null heap ask) many
+block-many env heap site ask many = ap (λ b. if b then served_in env heap site ask (served_in env (recycled heap) site ask (served_null (recycled heap) ask)) else served_null heap ask) many
 
-block-few : (env : Env) (heap : Heap) (ask : Ask) → nat_lt (bytes_asked ask) (2 ^ 32) ≡ true → served_block env heap ask ≡ served_in env heap ask (served_in env (recycled heap) ask (served_null (recycled heap) ask))
+block-few : (env : Env) (heap : Heap) (site : Site) (ask : Ask) → nat_lt (bytes_asked ask) (2 ^ 32) ≡ true → served_block env heap site ask ≡ served_in env heap site ask (served_in env (recycled heap) site ask (served_null (recycled heap) ask))
 unfolding served_block
-block-few env heap ask few = ap (λ b. if b then served_in env heap ask (served_in env (recycled heap) ask (served_null (recycled heap) ask)) else served_null heap ask) few
+block-few env heap site ask few = ap (λ b. if b then served_in env heap site ask (served_in env (recycled heap) site ask (served_null (recycled heap) ask)) else served_null heap ask) few
 
 -- so many bytes that an ask's number of them is this
 pub record IsSized (ask : Ask) (size : ℕ) : Type 0 where
@@ -383,46 +384,46 @@ few-bytes ask size sized = let is = sized.is in let few = sized.few in lt-ltb (b
 abbrev with_marks : Ask → ℕ → Bool → Heap → Served
 with_marks ask at zeroed heap = record { choice = record { ask = ask; at = at; zeroed = zeroed; carried = 0 }; heap = heap }
 
-pub block-first : (env : Env) (heap after : Heap) (ask : Ask) (size at : ℕ) (zeroed : Bool) → IsSized ask size → zeroed ≡ ((treatment_of env).zeroes || is_calloc ask) → Some at ≡ spot env heap size → after ≡ with_block heap (live_block at size (treatment_of env).side) → served_block env heap ask ≡ with_marks ask at zeroed after
-block-first env heap after ask size at zeroed sized zeroes is new =
-    block-few env heap ask (few-bytes ask size sized)
-    ∙ ap (λ o. option_map_or (served_at env heap ask) o (served_in env (recycled heap) ask (served_null (recycled heap) ask))) (ap (spot env heap) (sym sized.is) ∙ sym is)
-    ∙ ap (λ b. with_marks ask at b (with_block heap (live_block at (bytes_asked ask) (treatment_of env).side))) (sym zeroes)
-    ∙ ap (λ n. with_marks ask at zeroed (with_block heap (live_block at n (treatment_of env).side))) (sym sized.is)
+pub block-first : (env : Env) (heap after : Heap) (site : Site) (ask : Ask) (size at : ℕ) (zeroed : Bool) → IsSized ask size → zeroed ≡ ((treatment_of env).zeroes || is_calloc ask) → Some at ≡ spot env heap size → after ≡ with_block heap (live_block at size (treatment_of env).side site) → served_block env heap site ask ≡ with_marks ask at zeroed after
+block-first env heap after site ask size at zeroed sized zeroes is new =
+    block-few env heap site ask (few-bytes ask size sized)
+    ∙ ap (λ o. option_map_or (served_at env heap site ask) o (served_in env (recycled heap) site ask (served_null (recycled heap) ask))) (ap (spot env heap) (sym sized.is) ∙ sym is)
+    ∙ ap (λ b. with_marks ask at b (with_block heap (live_block at (bytes_asked ask) (treatment_of env).side site))) (sym zeroes)
+    ∙ ap (λ n. with_marks ask at zeroed (with_block heap (live_block at n (treatment_of env).side site))) (sym sized.is)
     ∙ ap (with_marks ask at zeroed) (sym new)
 
-pub block-again : (env : Env) (heap left after : Heap) (ask : Ask) (size at : ℕ) (zeroed : Bool) → IsSized ask size → zeroed ≡ ((treatment_of env).zeroes || is_calloc ask) → None ≡ spot env heap size → left ≡ recycled heap → Some at ≡ spot env left size → after ≡ with_block left (live_block at size (treatment_of env).side) → served_block env heap ask ≡ with_marks ask at zeroed after
-block-again env heap left after ask size at zeroed sized zeroes none emptied is new =
-    block-few env heap ask (few-bytes ask size sized)
-    ∙ ap (λ o. option_map_or (served_at env heap ask) o (served_in env (recycled heap) ask (served_null (recycled heap) ask))) (ap (spot env heap) (sym sized.is) ∙ sym none)
-    ∙ ap (λ o. option_map_or (served_at env (recycled heap) ask) o (served_null (recycled heap) ask)) (ap (spot env (recycled heap)) (sym sized.is) ∙ ap (λ h. spot env h size) (sym emptied) ∙ sym is)
-    ∙ ap (λ b. with_marks ask at b (with_block (recycled heap) (live_block at (bytes_asked ask) (treatment_of env).side))) (sym zeroes)
-    ∙ ap (λ n. with_marks ask at zeroed (with_block (recycled heap) (live_block at n (treatment_of env).side))) (sym sized.is)
-    ∙ ap (λ h. with_marks ask at zeroed (with_block h (live_block at size (treatment_of env).side))) (sym emptied)
+pub block-again : (env : Env) (heap left after : Heap) (site : Site) (ask : Ask) (size at : ℕ) (zeroed : Bool) → IsSized ask size → zeroed ≡ ((treatment_of env).zeroes || is_calloc ask) → None ≡ spot env heap size → left ≡ recycled heap → Some at ≡ spot env left size → after ≡ with_block left (live_block at size (treatment_of env).side site) → served_block env heap site ask ≡ with_marks ask at zeroed after
+block-again env heap left after site ask size at zeroed sized zeroes none emptied is new =
+    block-few env heap site ask (few-bytes ask size sized)
+    ∙ ap (λ o. option_map_or (served_at env heap site ask) o (served_in env (recycled heap) site ask (served_null (recycled heap) ask))) (ap (spot env heap) (sym sized.is) ∙ sym none)
+    ∙ ap (λ o. option_map_or (served_at env (recycled heap) site ask) o (served_null (recycled heap) ask)) (ap (spot env (recycled heap)) (sym sized.is) ∙ ap (λ h. spot env h size) (sym emptied) ∙ sym is)
+    ∙ ap (λ b. with_marks ask at b (with_block (recycled heap) (live_block at (bytes_asked ask) (treatment_of env).side site))) (sym zeroes)
+    ∙ ap (λ n. with_marks ask at zeroed (with_block (recycled heap) (live_block at n (treatment_of env).side site))) (sym sized.is)
+    ∙ ap (λ h. with_marks ask at zeroed (with_block h (live_block at size (treatment_of env).side site))) (sym emptied)
     ∙ ap (with_marks ask at zeroed) (sym new)
 
-pub block-null : (env : Env) (heap left after : Heap) (ask : Ask) (size : ℕ) → IsSized ask size → None ≡ spot env heap size → left ≡ recycled heap → None ≡ spot env left size → after ≡ left → served_block env heap ask ≡ with_marks ask 0 false after
-block-null env heap left after ask size sized none emptied again new =
-    block-few env heap ask (few-bytes ask size sized)
-    ∙ ap (λ o. option_map_or (served_at env heap ask) o (served_in env (recycled heap) ask (served_null (recycled heap) ask))) (ap (spot env heap) (sym sized.is) ∙ sym none)
-    ∙ ap (λ o. option_map_or (served_at env (recycled heap) ask) o (served_null (recycled heap) ask)) (ap (spot env (recycled heap)) (sym sized.is) ∙ ap (λ h. spot env h size) (sym emptied) ∙ sym again)
+pub block-null : (env : Env) (heap left after : Heap) (site : Site) (ask : Ask) (size : ℕ) → IsSized ask size → None ≡ spot env heap size → left ≡ recycled heap → None ≡ spot env left size → after ≡ left → served_block env heap site ask ≡ with_marks ask 0 false after
+block-null env heap left after site ask size sized none emptied again new =
+    block-few env heap site ask (few-bytes ask size sized)
+    ∙ ap (λ o. option_map_or (served_at env heap site ask) o (served_in env (recycled heap) site ask (served_null (recycled heap) ask))) (ap (spot env heap) (sym sized.is) ∙ sym none)
+    ∙ ap (λ o. option_map_or (served_at env (recycled heap) site ask) o (served_null (recycled heap) ask)) (ap (spot env (recycled heap)) (sym sized.is) ∙ ap (λ h. spot env h size) (sym emptied) ∙ sym again)
     ∙ ap (with_marks ask 0 false) (sym emptied ∙ sym new)
 
 -- what the code makes of a new block in place of an old one
 abbrev with_carried : Choice → ℕ → Heap → Served
 with_carried choice carried heap = record { choice = record choice { carried = carried }; heap = heap }
 
-pub in_place-null : (env : Env) (heap after : Heap) (ask : Ask) (old size : ℕ) (choice : Choice) → served_block env heap ask ≡ record { choice = choice; heap = after } → choice.at ≡ 0
-    → in_place_of env heap old size (served_block env heap ask) ≡ record { choice = choice; heap = after }
-in_place-null env heap after ask old size choice is null =
+pub in_place-null : (env : Env) (heap after : Heap) (site : Site) (ask : Ask) (old size : ℕ) (choice : Choice) → served_block env heap site ask ≡ record { choice = choice; heap = after } → choice.at ≡ 0
+    → in_place_of env heap site old size (served_block env heap site ask) ≡ record { choice = choice; heap = after }
+in_place-null env heap after site ask old size choice is null =
     let served : Served = record { choice = choice; heap = after } in
-    ap (in_place_of env heap old size) is ∙ ap (λ b. if b then served else with_carried choice (carried_over env heap old size) (freed env after old)) (eq-eqb choice.at 0 null)
+    ap (in_place_of env heap site old size) is ∙ ap (λ b. if b then served else with_carried choice (carried_over env heap old size) (freed env after site old)) (eq-eqb choice.at 0 null)
 
-pub in_place-some : (env : Env) (heap after last : Heap) (ask : Ask) (old size carried : ℕ) (choice : Choice) → served_block env heap ask ≡ record { choice = choice; heap = after } → (choice.at ≡ 0 → ⊥)
-    → carried ≡ carried_over env heap old size → last ≡ freed env after old → in_place_of env heap old size (served_block env heap ask) ≡ record { choice = record choice { carried = carried }; heap = last }
-in_place-some env heap after last ask old size carried choice is some carried_is last_is =
+pub in_place-some : (env : Env) (heap after last : Heap) (site : Site) (ask : Ask) (old size carried : ℕ) (choice : Choice) → served_block env heap site ask ≡ record { choice = choice; heap = after } → (choice.at ≡ 0 → ⊥)
+    → carried ≡ carried_over env heap old size → last ≡ freed env after site old → in_place_of env heap site old size (served_block env heap site ask) ≡ record { choice = record choice { carried = carried }; heap = last }
+in_place-some env heap after last site ask old size carried choice is some carried_is last_is =
     let served : Served = record { choice = choice; heap = after } in
-    ap (in_place_of env heap old size) is
-    ∙ ap (λ b. if b then served else with_carried choice (carried_over env heap old size) (freed env after old)) (ne_eqb choice.at 0 some)
-    ∙ ap (λ n. with_carried choice n (freed env after old)) (sym carried_is)
+    ap (in_place_of env heap site old size) is
+    ∙ ap (λ b. if b then served else with_carried choice (carried_over env heap old size) (freed env after site old)) (ne_eqb choice.at 0 some)
+    ∙ ap (λ n. with_carried choice n (freed env after site old)) (sym carried_is)
     ∙ ap (with_carried choice carried) (sym last_is)

@@ -4,9 +4,8 @@ pub use Rattle.std.proofs.lemmas.Bool.{and_from, and_parts, cases_Bool, eq-eqb, 
 pub use Rattle.std.proofs.lemmas.Option.{same_Some}
 pub use Rattle.std.specs.Prelude.{is_some, unwrap_or}
 pub use Rattle.block_book.proofs.Live.{kept-front, live-delayed, live-front, live-front_delayed, live-insert_block, live-recycled, live-without, placement-clear, placement-positive, placement-roomy, placement-sound}
-pub use Rattle.block_book.proofs.Reaching.{has_live, placement-apart, reach-recycled, reach-within}
 pub use Rattle.block_book.proofs.Sound.{sound-delayed, sound-filter}
-pub use Rattle.alloc_env.specs.Terms.{Ask, Calloc, Choice, Delayed, Heap, IsHeap, Live, Malloc, Nothing, Realloc, StandWithin, Standing, Treatment, bytes_asked, extent_end, insert_live, is_apart, is_calloc, is_live_at, kept_count, lies_in, live_block, live_blocks, live_with, moved_count, option_map_or, option_or, reach, reach_at, recycled, replaced, same_ask, size_at, standing_at, standing_of, with_block, with_delayed, without_block, without_live, without_replaced}
+pub use Rattle.alloc_env.specs.Terms.{Ask, Calloc, Choice, Delayed, Heap, IsHeap, Live, Malloc, Nothing, Realloc, Site, StandWithin, Standing, Treatment, bytes_asked, extent_end, insert_live, is_apart, is_calloc, is_live_at, kept_count, lies_in, live_at, live_block, live_blocks, live_with, moved_count, option_map_or, option_or, reach, reach_at, recycled, remembering, replaced, same_ask, size_at, standing_at, standing_of, with_block, with_delayed, without_block, without_live, without_replaced}
 unfoldable pub use Rattle.alloc_env.specs.Terms.{is_allowed, is_block, is_clear, may_carry, placement, reserved_size}
 pub use Rattle.alloc_env.specs.declared.env.Env.{Env}
 pub use Rattle.alloc_env.specs.declared.env.Env.TheVariants.{All, Delay, Isolate, Pad, Plain, Zero}

@@ -1,6 +1,6 @@
 -- What holds of the answers in every environment.
 use Rattle.std.specs.Prelude.{◌≡◌, ℕ, true, not, ◌&&◌, ◌||◌, Some, ◌==◌}
-use Rattle.alloc_env.specs.Terms.{Ask, is_allowed, is_calloc, live_blocks, live_with, without_live, Heap, IsHeap}
+use Rattle.alloc_env.specs.Terms.{Ask, Site, is_allowed, is_calloc, live_blocks, live_with, without_live, Heap, IsHeap}
 use Rattle.alloc_env.specs.declared.env.Env.{Env}
 use Rattle.alloc_env.specs.Treatment.{treatment_of}
 use Rattle.alloc_env.specs.Serving.{Served, served_ask, served_free}
@@ -24,7 +24,7 @@ pub record Serves (env : Env) (heap : Heap) (ask : Ask) (served : Served) : Type
 
 -- that is so of each ask that is answered, in each environment and in each heap
 abbrev pub AskServes : Type 0
-AskServes = (env : Env) (heap : Heap) (ask : Ask) (served : Served) → IsHeap heap → served_ask env heap ask ≡ Some served → Serves env heap ask served
+AskServes = (env : Env) (heap : Heap) (site : Site) (ask : Ask) (served : Served) → IsHeap heap → served_ask env heap site ask ≡ Some served → Serves env heap ask served
 
 -- what is so of a heap after a free
 pub record Follows (heap : Heap) (at : ℕ) (after : Heap) : Type 0 where
@@ -36,4 +36,4 @@ pub record Follows (heap : Heap) (at : ℕ) (after : Heap) : Type 0 where
 
 -- that is so of each free that isn't refused
 abbrev pub FreeFollows : Type 0
-FreeFollows = (env : Env) (heap after : Heap) (at : ℕ) → IsHeap heap → served_free env heap at ≡ Some after → Follows heap at after
+FreeFollows = (env : Env) (heap after : Heap) (site : Site) (at : ℕ) → IsHeap heap → served_free env heap site at ≡ Some after → Follows heap at after

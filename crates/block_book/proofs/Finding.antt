@@ -1,5 +1,5 @@
 -- What a search says of the whole heap.
-use Rattle.block_book.proofs.Terms.{List, None, Some, [], ap, arith, eqb, false, leb, length, nat_le, not, slice_get, subst, suc, sym, true, zero, ℕ, ◌&&◌, ◌+◌, ◌<◌, ◌^◌, ◌∙◌, ◌∷◌, ◌≡◌, ◌≤◌, and_parts, and_right, eq-eqb, eqb-true, leb-true, lt-leb, ne_eqb, prefix_len_is, slice_get_within, AllWithin, Block, Nothing, extent_end, extent_start, lies_in, reserved_size, Heap, IsHeap, StandWithin, is_held, is_live_at, is_reserved, standing_at, standing_of, FindsLive, passed}
+use Rattle.block_book.proofs.Terms.{List, None, Some, [], ap, arith, eqb, false, leb, length, nat_le, not, slice_get, subst, suc, sym, true, zero, ℕ, ◌&&◌, ◌+◌, ◌<◌, ◌^◌, ◌∙◌, ◌∷◌, ◌≡◌, ◌≤◌, and_parts, and_right, eq-eqb, eqb-true, leb-true, lt-leb, ne_eqb, prefix_len_is, slice_get_within, AllWithin, Block, extent_end, extent_start, lies_in, reserved_size, Heap, IsHeap, StandWithin, is_held, is_live_at, is_reserved, live_at, starting_at, FindsLive, passed}
 use Rattle.block_book.proofs.Rising.{stand-ordered}
 use Rattle.block_book.proofs.Searches.{IsAbout, at-is-about, any-some, any-none, find-some, find-no_block}
 
@@ -17,18 +17,18 @@ stand-ends-at from (block ∷ blocks) to zero found h is =
 stand-ends-at from (block ∷ blocks) to (suc n) found h is = stand-ends-at (extent_end block) blocks to n found h.2 is
 
 -- the block at an address is found
-pub stands-at : (heap : Heap) (at : ℕ) (found : Block) → slice_get heap.blocks (passed heap.blocks at) ≡ Some found → found.at ≡ at → standing_at heap at ≡ standing_of (Some found)
-stands-at heap at found is begins = ap standing_of (find-some at (λ block. eqb block.at at) (at-is-about at) heap.blocks found is (eq-eqb found.at at begins))
+pub starts-at : (heap : Heap) (at : ℕ) (found : Block) → slice_get heap.blocks (passed heap.blocks at) ≡ Some found → found.at ≡ at → starting_at heap at ≡ Some found
+starts-at heap at found is begins = find-some at (λ block. eqb block.at at) (at-is-about at) heap.blocks found is (eq-eqb found.at at begins)
 
-pub stands-elsewhere : (heap : Heap) (at : ℕ) (found : Block) → IsHeap heap → slice_get heap.blocks (passed heap.blocks at) ≡ Some found → (found.at ≡ at → ⊥) → standing_at heap at ≡ Nothing
-stands-elsewhere heap at found sound is other =
-    ap standing_of (find-no_block (λ block. eqb block.at at) heap.blocks
-    (any-some at (λ block. eqb block.at at) (at-is-about at) heap.start heap.blocks heap.end found sound.standing is ∙ ne_eqb found.at at other))
+pub starts-elsewhere : (heap : Heap) (at : ℕ) (found : Block) → IsHeap heap → slice_get heap.blocks (passed heap.blocks at) ≡ Some found → (found.at ≡ at → ⊥) → starting_at heap at ≡ None
+starts-elsewhere heap at found sound is other =
+    find-no_block (λ block. eqb block.at at) heap.blocks
+    (any-some at (λ block. eqb block.at at) (at-is-about at) heap.start heap.blocks heap.end found sound.standing is ∙ ne_eqb found.at at other)
 
-pub stands-nowhere : (heap : Heap) (at : ℕ) → IsHeap heap → slice_get heap.blocks (passed heap.blocks at) ≡ None → standing_at heap at ≡ Nothing
-stands-nowhere heap at sound is =
-    ap standing_of (find-no_block (λ block. eqb block.at at) heap.blocks
-    (any-none at (λ block. eqb block.at at) (at-is-about at) heap.start heap.blocks heap.end sound.standing is))
+pub starts-nowhere : (heap : Heap) (at : ℕ) → IsHeap heap → slice_get heap.blocks (passed heap.blocks at) ≡ None → starting_at heap at ≡ None
+starts-nowhere heap at sound is =
+    find-no_block (λ block. eqb block.at at) heap.blocks
+    (any-none at (λ block. eqb block.at at) (at-is-about at) heap.start heap.blocks heap.end sound.standing is)
 
 -- bytes in a block
 pub in-is-about : (at len : ℕ) → 1 ≤ len → IsAbout at (λ block. lies_in at len (extent_start block) (extent_end block))
@@ -95,3 +95,9 @@ finds-other heap at found sound is other = live-some heap at found sound is ∙ 
 
 pub finds-nothing : (heap : Heap) (at : ℕ) → IsHeap heap → slice_get heap.blocks (passed heap.blocks at) ≡ None → FindsLive heap at None
 finds-nothing heap at sound is = any-none at (λ block. eqb block.at at && not block.delayed) (live-is-about at) heap.start heap.blocks heap.end sound.standing is
+
+-- where the live block at an address is found, it is the one that the heap has there
+pub live-found : (heap : Heap) (at place : ℕ) (block : Block) → IsHeap heap → FindsLive heap at (Some place) → slice_get heap.blocks place ≡ Some block → live_at heap at ≡ Some block
+live-found heap at place block sound found is =
+    let here : slice_get heap.blocks (passed heap.blocks at) ≡ Some block = subst (λ n. slice_get heap.blocks n ≡ Some block) found.2 is in
+    find-some at (λ block. eqb block.at at && not block.delayed) (live-is-about at) heap.blocks block here (sym (live-some heap at block sound here) ∙ found.0)

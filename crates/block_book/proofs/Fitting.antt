@@ -1,6 +1,5 @@
 -- The least address that fits, and how a walk over the blocks finds it.
-use Rattle.std.proofs.lemmas.List.{get_or_default}
-use Rattle.block_book.proofs.Terms.{Bool, List, None, Option, Some, [], ap, arith, cond, eqb, false, get_or, inl, inr, length, max, nat_le, refl, subst, suc, sym, true, zero, ℕ, ◌%◌, ◌&&◌, ◌*◌, ◌+◌, ◌/◌, ◌<◌, ◌∙◌, ◌∷◌, ◌≡◌, ◌≤◌, ◌⊎◌, and_from, and_parts, both_ways, cases_Bool, cases_lt, cases_order, eq-eqb, eqb-true, false_from_ne_true, le-leb, leb-true, or_cases, or_left, or_right, MatchOption-at_some, find, list_all, range_with_len, MatchOption, Block, IsAligned, extent_end, extent_start, is_apart, lies_in, Heap, IsHeap, StandWithin, fit, fits}
+use Rattle.block_book.proofs.Terms.{Bool, List, None, Option, Some, [], ap, arith, cond, eqb, false, get_or, inl, inr, length, max, nat_le, refl, subst, suc, sym, true, zero, ℕ, ◌%◌, ◌&&◌, ◌*◌, ◌+◌, ◌/◌, ◌<◌, ◌∙◌, ◌∷◌, ◌≡◌, ◌≤◌, ◌⊎◌, and_from, and_parts, both_ways, cases_Bool, cases_lt, cases_order, eq-eqb, eqb-true, false_from_ne_true, le-leb, leb-true, or_cases, or_left, or_right, get_or_default, MatchOption-at_some, find, list_all, range_with_len, MatchOption, Block, IsAligned, extent_end, extent_start, is_apart, lies_in, Heap, IsHeap, StandWithin, fit, fits}
 use Rattle.block_book.proofs.Sizes.{reserved-multiple}
 use Rattle.block_book.proofs.Rising.{stand-starts, stand-ends, stand-aligned, extent-rises}
 

@@ -10,3 +10,4 @@ pub mod Rooms
 pub mod Live
 pub mod Asks
 pub mod Reaching
+pub mod Copying

@@ -1,5 +1,5 @@
 -- The live blocks of a heap, and what a placement is to them.
-use Rattle.block_book.proofs.Terms.{List, None, Option, Some, [], ap, arith, cond, eqb, false, filter, if◌then◌else◌, inl, inr, length, map, nat_le, nat_lt, not, refl, subst, sym, true, ℕ, ◌%◌, ◌&&◌, ◌*◌, ◌+◌, ◌<◌, ◌∙◌, ◌∷◌, ◌≡◌, ◌≤◌, and_from, and_parts, cases_Bool, cases_lt, eq-eqb, le-leb, leb-true, lt-ltb, ltb-true, or_cases, or_left, or_right, same_Some, list_all, option_map, Block, extent_end, extent_start, is_apart, lies_in, live_block, reserved_size, touched, Heap, IsHeap, StandWithin, delayed_at, insert_block, most_blocks, with_block, fit, placement, insert_live, is_clear, live_blocks, without_live}
+use Rattle.block_book.proofs.Terms.{List, None, Option, Some, [], ap, arith, cond, eqb, false, filter, if◌then◌else◌, inl, inr, length, map, nat_le, nat_lt, not, refl, subst, sym, true, ℕ, ◌%◌, ◌&&◌, ◌*◌, ◌+◌, ◌<◌, ◌∙◌, ◌∷◌, ◌≡◌, ◌≤◌, and_from, and_parts, cases_Bool, cases_lt, eq-eqb, le-leb, leb-true, lt-ltb, ltb-true, or_cases, or_left, or_right, same_Some, list_all, option_map, Block, Site, extent_end, extent_start, is_apart, lies_in, live_block, reserved_size, touched, Heap, IsHeap, StandWithin, delayed_at, insert_block, most_blocks, with_block, fit, placement, insert_live, is_clear, live_blocks, without_live}
 use Rattle.block_book.proofs.Sizes.{reserved-least, reserved-touched}
 use Rattle.block_book.proofs.Rising.{extent-rises}
 use Rattle.block_book.proofs.Fitting.{FitsAt, fit-fits}
@@ -69,11 +69,11 @@ placement-roomy heap size side from at count even is few =
 pub placement-clear : (heap : Heap) (size side from at : ℕ) → side % 16 ≡ 0 → placement heap size side from ≡ Some at → is_clear heap.start heap.end (live_blocks heap.blocks) at size ≡ true
 placement-clear heap size side from at even is = let holds = reserved-touched size in placement-roomy heap size side from at size even is (omega arith)
 
-pub placement-sound : (heap : Heap) (size side from at : ℕ) → IsHeap heap → side % 16 ≡ 0 → side ≤ 256 → placement heap size side from ≡ Some at → IsHeap (with_block heap (live_block at size side))
-placement-sound heap size side from at sound even small is =
+pub placement-sound : (heap : Heap) (size side from at : ℕ) (made : Site) → IsHeap heap → side % 16 ≡ 0 → side ≤ 256 → placement heap size side from ≡ Some at → IsHeap (with_block heap (live_block at size side made))
+placement-sound heap size side from at made sound even small is =
     let p = placed-at heap size side from at is in
-    subst (λ n. IsHeap (with_block heap (live_block n size side))) (sym p.begins)
-    (sound-with heap (live_block (p.extent + side) size side) sound (place-room heap size side from p.extent p.few even small p.fitting))
+    subst (λ n. IsHeap (with_block heap (live_block n size side made))) (sym p.begins)
+    (sound-with heap (live_block (p.extent + side) size side made) sound (place-room heap size side from p.extent made p.few even small p.fitting))
 
 pub placement-positive : (heap : Heap) (size side from at : ℕ) → IsHeap heap → placement heap size side from ≡ Some at → 0 < at
 placement-positive heap size side from at sound is =
@@ -95,22 +95,22 @@ insert_live-first at size from (block ∷ blocks) to h below =
       | false ↦ ap (λ b. if b then (at, size) ∷ ((block.at, block.size) ∷ live_blocks blocks) else (block.at, block.size) ∷ insert_live (at, size) (live_blocks blocks)) lower
     ]
 
-pub live-insert_block : (at size side from : ℕ) (blocks : List Block) (to : ℕ) → StandWithin from blocks to → live_blocks (insert_block (live_block at size side) blocks) ≡ insert_live (at, size) (live_blocks blocks)
-live-insert_block at size side from [] to h = refl
-live-insert_block at size side from (block ∷ blocks) to h =
+pub live-insert_block : (at size side from : ℕ) (made : Site) (blocks : List Block) (to : ℕ) → StandWithin from blocks to → live_blocks (insert_block (live_block at size side made) blocks) ≡ insert_live (at, size) (live_blocks blocks)
+live-insert_block at size side from made [] to h = refl
+live-insert_block at size side from made (block ∷ blocks) to h =
     let least = reserved-least block.size in
     elim (cases_Bool (nat_lt at block.at)) [
       | inl lower ↦
           let below = ltb-true at block.at lower in
-          ap (λ b. live_blocks (if b then live_block at size side ∷ (block ∷ blocks) else block ∷ insert_block (live_block at size side) blocks)) lower
+          ap (λ b. live_blocks (if b then live_block at size side made ∷ (block ∷ blocks) else block ∷ insert_block (live_block at size side made) blocks)) lower
           ∙ elim (block.delayed) as (λ d. (at, size) ∷ map (λ (b : Block). (b.at, b.size)) (cond (not d) (block ∷ filter (λ b. not b.delayed) blocks) (filter (λ b. not b.delayed) blocks)) ≡ insert_live (at, size) (map (λ (b : Block). (b.at, b.size)) (cond (not d) (block ∷ filter (λ b. not b.delayed) blocks) (filter (λ b. not b.delayed) blocks)))) [
             | true ↦ sym (insert_live-first at size (extent_end block) blocks to h.2 (omega arith))
             | false ↦ sym (ap (λ b. if b then (at, size) ∷ ((block.at, block.size) ∷ live_blocks blocks) else (block.at, block.size) ∷ insert_live (at, size) (live_blocks blocks)) lower)
           ]
       | inr higher ↦
-          let rest = live-insert_block at size side (extent_end block) blocks to h.2 in
-          ap (λ b. live_blocks (if b then live_block at size side ∷ (block ∷ blocks) else block ∷ insert_block (live_block at size side) blocks)) higher
-          ∙ elim (block.delayed) as (λ d. map (λ (b : Block). (b.at, b.size)) (cond (not d) (block ∷ filter (λ b. not b.delayed) (insert_block (live_block at size side) blocks)) (filter (λ b. not b.delayed) (insert_block (live_block at size side) blocks))) ≡ insert_live (at, size) (map (λ (b : Block). (b.at, b.size)) (cond (not d) (block ∷ filter (λ b. not b.delayed) blocks) (filter (λ b. not b.delayed) blocks)))) [
+          let rest = live-insert_block at size side (extent_end block) made blocks to h.2 in
+          ap (λ b. live_blocks (if b then live_block at size side made ∷ (block ∷ blocks) else block ∷ insert_block (live_block at size side made) blocks)) higher
+          ∙ elim (block.delayed) as (λ d. map (λ (b : Block). (b.at, b.size)) (cond (not d) (block ∷ filter (λ b. not b.delayed) (insert_block (live_block at size side made) blocks)) (filter (λ b. not b.delayed) (insert_block (live_block at size side made) blocks))) ≡ insert_live (at, size) (map (λ (b : Block). (b.at, b.size)) (cond (not d) (block ∷ filter (λ b. not b.delayed) blocks) (filter (λ b. not b.delayed) blocks)))) [
             | true ↦ rest
             | false ↦
                 ap (λ xs. (block.at, block.size) ∷ xs) rest

@@ -1,5 +1,5 @@
 -- How far the extent of a live block reaches, and what a placement is to it.
-use Rattle.block_book.proofs.Terms.{Bool, List, None, Some, [], ap, arith, cond, eqb, false, filter, inl, inr, nat_le, not, refl, slice_get, sym, true, ℕ, ◌&&◌, ◌*◌, ◌+◌, ◌||◌, ◌∙◌, ◌∷◌, ◌≡◌, ◌≤◌, and_parts, cases_Bool, eqb-true, le-leb, leb-true, or_cases, or_left, or_right, same_Some, find, list_all, list_any, option_map, Block, extent_end, extent_start, is_apart, reach, reserved_size, Heap, IsHeap, StandWithin, is_live_at, reach_at, recycled, live_blocks, placement, size_at, passed}
+use Rattle.block_book.proofs.Terms.{Bool, List, None, Some, [], ap, arith, cond, eqb, false, filter, inl, inr, nat_le, not, refl, slice_get, sym, true, ℕ, ◌&&◌, ◌*◌, ◌+◌, ◌||◌, ◌∙◌, ◌∷◌, ◌≡◌, ◌≤◌, and_parts, cases_Bool, eqb-true, le-leb, leb-true, or_cases, or_left, or_right, same_Some, find, list_all, list_any, option_map, Block, extent_end, extent_start, is_apart, reach, reserved_size, Heap, IsHeap, StandWithin, is_live_at, reach_at, recycled, placement, live_blocks, size_at, passed}
 use Rattle.block_book.proofs.Rising.{extent-rises, stand-ordered}
 use Rattle.block_book.proofs.Searches.{any-none, any-some, find-no_block, find-some}
 use Rattle.block_book.proofs.Live.{placed-at}

@@ -1,5 +1,5 @@
 -- A block that is to be added has room among the others.
-use Rattle.block_book.proofs.Terms.{Bool, List, None, [], ap, arith, cond, eqb, false, filter, if◌then◌else◌, inl, inr, length, map, nat_le, nat_lt, not, refl, subst, sym, true, ℕ, ◌%◌, ◌&&◌, ◌*◌, ◌+◌, ◌-◌, ◌<◌, ◌||◌, ◌∙◌, ◌∷◌, ◌≡◌, ◌≤◌, and_from, and_parts, eqb-true, le-leb, le-ltb, leb-true, lt-ltb, or_cases, or_left, or_right, All-filter, AllPass-from_list_all, list_all-from_AllPass, list_all, option_map, Block, extent_end, extent_start, is_apart, lies_in, live_block, reserved_size, touched, Heap, IsHeap, StandWithin, insert_block, is_bare, most_blocks, fit, placement, is_clear, live_blocks, HasRoom}
+use Rattle.block_book.proofs.Terms.{Bool, List, None, [], ap, arith, cond, eqb, false, filter, if◌then◌else◌, inl, inr, length, map, nat_le, nat_lt, not, refl, subst, sym, true, ℕ, ◌%◌, ◌&&◌, ◌*◌, ◌+◌, ◌-◌, ◌<◌, ◌||◌, ◌∙◌, ◌∷◌, ◌≡◌, ◌≤◌, and_from, and_parts, eqb-true, le-leb, le-ltb, leb-true, lt-ltb, or_cases, or_left, or_right, All-filter, AllPass-from_list_all, list_all-from_AllPass, list_all, option_map, Block, Site, extent_end, extent_start, is_apart, lies_in, live_block, reserved_size, touched, Heap, IsHeap, StandWithin, insert_block, is_bare, most_blocks, fit, placement, is_clear, live_blocks, HasRoom}
 use Rattle.block_book.proofs.Sizes.{reserved-within}
 use Rattle.block_book.proofs.Fitting.{FitsAt}
 
@@ -50,8 +50,8 @@ same-apart blocks at count at' count' a c h =
     subst (λ n. list_all (λ other. is_apart at' n (extent_start other) (extent_end other)) blocks ≡ true) c
     (subst (λ n. list_all (λ other. is_apart n count (extent_start other) (extent_end other)) blocks ≡ true) a h)
 
-pub put-room : (heap : Heap) (at size : ℕ) → IsHeap heap → is_bare heap ≡ true → length heap.blocks < most_blocks → is_clear heap.start heap.end (live_blocks heap.blocks) at size ≡ true → HasRoom heap (live_block at size 0)
-put-room heap at size sound bare few clear =
+pub put-room : (heap : Heap) (at size : ℕ) (made : Site) → IsHeap heap → is_bare heap ≡ true → length heap.blocks < most_blocks → is_clear heap.start heap.end (live_blocks heap.blocks) at size ≡ true → HasRoom heap (live_block at size 0 made)
+put-room heap at size made sound bare few clear =
     let p = and_parts ((eqb (at % 16) 0) && lies_in at (touched size) heap.start heap.end) (list_all (clear_of at size) heap.blocks) (sym (clear-is heap.start heap.end heap.blocks at size) ∙ clear) in
     let q = and_parts (eqb (at % 16) 0) (lies_in at (touched size) heap.start heap.end) p.0 in
     let r = and_parts (nat_le heap.start at) (nat_le (at + touched size) heap.end) q.1 in
@@ -67,8 +67,8 @@ put-room heap at size sound bare few clear =
       apart = same-apart heap.blocks at (reserved_size size) (at - 0) (at + reserved_size size + 0 - (at - 0)) (omega arith) (omega arith) apart;
     }
 
-pub place-room : (heap : Heap) (size side from extent : ℕ) → length heap.blocks < most_blocks → side % 16 ≡ 0 → side ≤ 256 → FitsAt heap (reserved_size size + 2 * side) from extent → HasRoom heap (live_block (extent + side) size side)
-place-room heap size side from extent few even small h =
+pub place-room : (heap : Heap) (size side from extent : ℕ) (made : Site) → length heap.blocks < most_blocks → side % 16 ≡ 0 → side ≤ 256 → FitsAt heap (reserved_size size + 2 * side) from extent → HasRoom heap (live_block (extent + side) size side made)
+place-room heap size side from extent made few even small h =
     let multiple = h.multiple in
     let starts = h.starts in
     let ends = h.ends in
@@ -92,13 +92,13 @@ placement-fit heap size side from few =
     ap (λ b. if b then option_map (λ extent. extent + side) (fit heap (reserved_size size + 2 * side) from) else None) (lt-ltb (length heap.blocks) most_blocks few)
 
 -- no block is padded or delayed
-pub bare-insert : (at size : ℕ) (blocks : List Block) → list_all (λ block. (eqb block.side 0) && not block.delayed) blocks ≡ true → list_all (λ block. (eqb block.side 0) && not block.delayed) (insert_block (live_block at size 0) blocks) ≡ true
-bare-insert at size [] h = refl
-bare-insert at size (block ∷ blocks) h =
+pub bare-insert : (at size : ℕ) (made : Site) (blocks : List Block) → list_all (λ block. (eqb block.side 0) && not block.delayed) blocks ≡ true → list_all (λ block. (eqb block.side 0) && not block.delayed) (insert_block (live_block at size 0 made) blocks) ≡ true
+bare-insert at size made [] h = refl
+bare-insert at size made (block ∷ blocks) h =
     let p = and_parts ((eqb block.side 0) && not block.delayed) (list_all (λ block. (eqb block.side 0) && not block.delayed) blocks) h in
-    elim (nat_lt at block.at) as (λ b. list_all (λ block. (eqb block.side 0) && not block.delayed) (if b then live_block at size 0 ∷ (block ∷ blocks) else block ∷ insert_block (live_block at size 0) blocks) ≡ true) [
+    elim (nat_lt at block.at) as (λ b. list_all (λ block. (eqb block.side 0) && not block.delayed) (if b then live_block at size 0 made ∷ (block ∷ blocks) else block ∷ insert_block (live_block at size 0 made) blocks) ≡ true) [
       | true ↦ h
-      | false ↦ and_from ((eqb block.side 0) && not block.delayed) (list_all (λ block. (eqb block.side 0) && not block.delayed) (insert_block (live_block at size 0) blocks)) p.0 (bare-insert at size blocks p.1)
+      | false ↦ and_from ((eqb block.side 0) && not block.delayed) (list_all (λ block. (eqb block.side 0) && not block.delayed) (insert_block (live_block at size 0 made) blocks)) p.0 (bare-insert at size made blocks p.1)
     ]
 
 pub bare-filter : (test : Block → Bool) (blocks : List Block) → list_all (λ block. (eqb block.side 0) && not block.delayed) blocks ≡ true → list_all (λ block. (eqb block.side 0) && not block.delayed) (filter test blocks) ≡ true

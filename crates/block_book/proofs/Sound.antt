@@ -1,11 +1,11 @@
 -- Every change of a heap's blocks leaves a heap.
-use Rattle.block_book.proofs.Terms.{Bool, List, Some, [], ap, arith, eqb, filter, length, map, not, refl, set, slice_get, subst, suc, sym, true, ℕ, ◌∙◌, ◌∷◌, ◌≡◌, count_by-le-length, length-filter, same_Some, insert, remove, Block, Heap, IsHeap, delayed_at, insert_block, with_block, with_delayed, FindsLive, HasRoom, passed}
+use Rattle.block_book.proofs.Terms.{Bool, List, Some, [], ap, arith, eqb, filter, length, map, not, refl, set, slice_get, subst, suc, sym, true, ℕ, ◌∙◌, ◌∷◌, ◌≡◌, count_by-le-length, length-filter, same_Some, insert, remove, Block, Freed, Site, Heap, IsHeap, delayed_at, insert_block, with_block, with_delayed, FindsLive, HasRoom, passed}
 use Rattle.block_book.proofs.Rising.{stand-filter, stand-delayed, stand-insert, length-insert_block}
 use Rattle.block_book.proofs.Searches.{insert-passed, remove-found, set-found}
 
 -- some of the blocks
-pub sound-filter : (test : Block → Bool) (heap : Heap) → IsHeap heap → IsHeap (record heap { blocks = filter test heap.blocks })
-sound-filter test heap sound = record {
+pub sound-filter : (test : Block → Bool) (heap : Heap) (freed : List Freed) → IsHeap heap → IsHeap (record heap { blocks = filter test heap.blocks; freed = freed })
+sound-filter test heap freed sound = record {
   start_multiple = sound.start_multiple;
   end_multiple = sound.end_multiple;
   above_null = sound.above_null;
@@ -14,8 +14,8 @@ sound-filter test heap sound = record {
   few = let few = sound.few in omega (arith, length-filter test heap.blocks, count_by-le-length test heap.blocks);
 }
 
-pub sound-delayed : (heap : Heap) (at : ℕ) → IsHeap heap → IsHeap (with_delayed heap at)
-sound-delayed heap at sound = record {
+pub sound-delayed : (heap : Heap) (at : ℕ) (freed : List Freed) → IsHeap heap → IsHeap (record heap { blocks = map (delayed_at at) heap.blocks; freed = freed })
+sound-delayed heap at freed sound = record {
   start_multiple = sound.start_multiple;
   end_multiple = sound.end_multiple;
   above_null = sound.above_null;

@@ -1,6 +1,7 @@
 -- A block of a heap, and the bytes that it keeps for itself.
 use Rattle.std.specs.Prelude.{◌≡◌, ℕ, ◌+◌, ◌-◌, ◌*◌, ◌/◌, ◌%◌, ◌≤◌, Bool, ◌||◌, ◌&&◌, false, max, nat_le}
 use Rattle.block_book.specs.declared.block.Block.{Block}
+use Rattle.block_book.specs.declared.site.Site.{Site}
 
 -- the bytes that a block of a size reserves: the size rounded up to a multiple of 16, and 16 where it is 0
 unfoldable pub reserved_size : ℕ → ℕ
@@ -37,6 +38,6 @@ pub record IsAligned (block : Block) : Type 0 where
   pub side_small : block.side ≤ 256
   pub side_within : block.side ≤ block.at
 
--- a live block
-abbrev pub live_block : ℕ → ℕ → ℕ → Block
-live_block at size side = record { at = at; size = size; side = side; delayed = false }
+-- a live block, which was asked for at a site
+abbrev pub live_block : ℕ → ℕ → ℕ → Site → Block
+live_block at size side made = record { at = at; size = size; side = side; delayed = false; made = made }

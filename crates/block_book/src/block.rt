@@ -3,6 +3,7 @@ ghost use Rattle.std.specs.Prelude.{◌≡◌, ◌+◌, ◌-◌, ◌^◌, ◌≤
 ghost use Rattle.block_book.specs.Block.{reach, reserved_size, touched, extent_start, extent_end, is_apart, lies_in};
 ghost use Rattle.block_book.specs.Heap.{standing_of};
 
+use crate::site::Site;
 use crate::standing::Standing;
 
 /// A block that stands in a heap.
@@ -16,6 +17,8 @@ pub struct Block {
     pub side: u32,
     /// Whether the block was freed and is kept from use.
     pub delayed: bool,
+    /// Where it was asked for.
+    pub made: Site,
 }
 
 /// The bytes that a block of a size reserves: a multiple of 16, and at least 16.

@@ -2,13 +2,15 @@
 ghost use Rattle.std.specs.Prelude.{◌≡◌, ◌+◌, ◌*◌, ◌%◌, ◌<◌, ◌≤◌, ◌^◌, ◌&&◌, ◌||◌, true, false, ◌==◌, nat_lt, length, slice_get, Some, IfOk, IfSome, MatchBool, MatchOption};
 ghost use Rattle.std.specs.List.{list_all};
 ghost use Rattle.block_book.specs.Block.{reserved_size, touched, is_apart, lies_in, live_block};
-ghost use Rattle.block_book.specs.Heap.{IsHeap, empty_heap, most_blocks, with_block, without_block, with_delayed, recycled, standing_at, is_live_at, reach_at, is_held, is_reserved, is_bare, SameEnds};
+ghost use Rattle.block_book.specs.Heap.{IsHeap, empty_heap, most_blocks, with_block, without_block, with_delayed, recycled, standing_at, starting_at, is_live_at, reach_at, freed_at, remembering, is_held, is_reserved, is_bare, SameEnds};
 ghost use Rattle.block_book.specs.Placement.{fit, placement};
 ghost use Rattle.block_book.specs.Answer.{live_blocks, is_clear, kept_count, size_at};
 ghost use Rattle.block_book.specs.Search.{passed, FindsLive, HasRoom};
 
 use crate::block::{Block, reserved_size};
+use crate::site::{Freed, Site};
 use crate::standing::Standing;
+use circular_buffer::HeapCircularBuffer;
 use std::alloc::{AllocError, Global};
 use std::cell::Cell;
 use std::marker::Model;
@@ -16,26 +18,31 @@ use std::marker::Model;
 // At most so many blocks stand.
 const MOST_BLOCKS: usize = 4096;
 
+// So many of the blocks that were freed are remembered.
+const MOST_FREED: usize = 256;
+
 /// The blocks that stand in one heap, live and delayed ones, in order of address.
 #[derive(Debug, Drop)]
 pub struct Book {
     start: u32,
     end: u32,
     blocks: Vec<Block>,
+    // The blocks that were freed last, the latest at the front.
+    freed: HeapCircularBuffer<Freed>,
     // The place of the block that was searched for last. It may be that of another block now, or of none.
     last: Cell<usize>,
 }
 
 impl Model for Book {
-    ghost use Rattle.std.specs.Prelude.{◌<◌, ◌≤◌, ◌^◌};
+    ghost use Rattle.std.specs.Prelude.{◌≡◌, ◌<◌, ◌≤◌, ◌^◌};
     ghost use Rattle.std.specs.Vec.{vec_capacity};
-    ghost use Rattle.block_book.specs.Heap.{Heap, IsHeap, most_blocks, heap_of};
+    ghost use Rattle.block_book.specs.Heap.{Heap, IsHeap, most_blocks, most_freed, heap_of};
 
     ghost Value = { Heap };
 
-    ghost view = { λ b. heap_of b.start b.end b.blocks.items };
+    ghost view = { λ b. heap_of b.start b.end b.blocks.items b.freed.items };
 
-    ghost invariant = { λ b. IsHeap (heap_of b.start b.end b.blocks.items) × (most_blocks ≤ vec_capacity b.blocks) × (b.end < 2 ^ 32) };
+    ghost invariant = { λ b. IsHeap (heap_of b.start b.end b.blocks.items b.freed.items) × (most_blocks ≤ vec_capacity b.blocks) × (b.end < 2 ^ 32) × (b.freed.capacity ≡ most_freed) };
 }
 
 impl Book {
@@ -49,10 +56,12 @@ impl Book {
         ensures { IfOk result (λ book. book ≡ empty_heap start end) }
     {
         let blocks = Vec::with_capacity(alloc, MOST_BLOCKS)?;
+        let freed = HeapCircularBuffer::with_capacity(alloc, MOST_FREED)?;
         Ok(Book {
             start,
             end,
             blocks,
+            freed,
             last: Cell::new(0),
         })
     }
@@ -83,13 +92,13 @@ impl Book {
     }
 
     /// Adds a live block of a size at the lowest address of all at which it fits, with so many bytes of padding on each side and an
-    /// extent that begins at `from` or above. Answers its address, or None, and nothing changed, where it fits nowhere or 4096
-    /// blocks stand.
-    pub fn place(&mut self, size: u32, side: u32, from: u32) -> Option<u32>
+    /// extent that begins at `from` or above, which was asked for at a site. Answers its address, or None, and nothing changed, where
+    /// it fits nowhere or 4096 blocks stand.
+    pub fn place(&mut self, size: u32, side: u32, from: u32, made: Site) -> Option<u32>
         requires multiple { side % 16 ≡ 0 }
         requires small { side ≤ 256 }
         ensures answer { result ≡ placement self.old size side from }
-        ensures placed { MatchOption result (self.new ≡ self.old) (λ at. self.new ≡ with_block self.old (live_block at size side)) }
+        ensures placed { MatchOption result (self.new ≡ self.old) (λ at. self.new ≡ with_block self.old (live_block at size side made)) }
         ensures ends { SameEnds self.old self.new }
     {
         if self.blocks.len() >= MOST_BLOCKS {
@@ -102,16 +111,17 @@ impl Book {
             size,
             side,
             delayed: false,
+            made,
         });
         Some(at)
     }
 
-    /// Adds a live block of a size at an address, without padding. false, and nothing changed, where 4096 blocks stand or its bytes
-    /// aren't clear of the live blocks.
-    pub fn put(&mut self, at: u32, size: u32) -> bool
+    /// Adds a live block of a size at an address, without padding, which was asked for at a site. false, and nothing changed, where
+    /// 4096 blocks stand or its bytes aren't clear of the live blocks.
+    pub fn put(&mut self, at: u32, size: u32, made: Site) -> bool
         requires { is_bare self.old ≡ true }
         ensures answer { result ≡ (nat_lt (length self.old.blocks) most_blocks && is_clear self.old.start self.old.end (live_blocks self.old.blocks) at size) }
-        ensures added { MatchBool result (self.new ≡ with_block self.old (live_block at size 0)) (self.new ≡ self.old) }
+        ensures added { MatchBool result (self.new ≡ with_block self.old (live_block at size 0 made)) (self.new ≡ self.old) }
         ensures bare { is_bare self.new ≡ true }
         ensures ends { SameEnds self.old self.new }
     {
@@ -126,35 +136,40 @@ impl Book {
             size,
             side: 0,
             delayed: false,
+            made,
         });
         true
     }
 
-    /// Takes the live block at an address away. false, and nothing changed, where none stands there.
-    pub fn release(&mut self, at: u32) -> bool
+    /// Takes the live block at an address away, and remembers that it was freed at a site. false, and nothing changed, where none
+    /// stands there.
+    pub fn release(&mut self, at: u32, by: Site) -> bool
         ensures found { result ≡ is_live_at self.old at }
-        ensures gone { MatchBool result (self.new ≡ without_block self.old at) (self.new ≡ self.old) }
+        ensures gone { MatchBool result (self.new ≡ without_block self.old at by) (self.new ≡ self.old) }
         ensures bare { is_bare self.old ≡ true → is_bare self.new ≡ true }
         ensures ends { SameEnds self.old self.new }
     {
         let Some(place) = self.live_place(at) else {
             return false;
         };
-        let _block = self.blocks.remove(place);
+        let block = self.blocks.remove(place);
+        self.remember(block, by);
         true
     }
 
-    /// Delays the live block at an address: it is freed, and keeps its place and its extent. false, and nothing changed, where none
-    /// stands there.
-    pub fn delay(&mut self, at: u32) -> bool
+    /// Delays the live block at an address: it is freed, keeps its place and its extent, and is remembered as freed at a site. false, and
+    /// nothing changed, where none stands there.
+    pub fn delay(&mut self, at: u32, by: Site) -> bool
         ensures found { result ≡ is_live_at self.old at }
-        ensures delayed { MatchBool result (self.new ≡ with_delayed self.old at) (self.new ≡ self.old) }
+        ensures delayed { MatchBool result (self.new ≡ with_delayed self.old at by) (self.new ≡ self.old) }
         ensures ends { SameEnds self.old self.new }
     {
         let Some(place) = self.live_place(at) else {
             return false;
         };
+        let block = self.blocks[place];
         self.blocks[place].delayed = true;
+        self.remember(block, by);
         true
     }
 
@@ -170,10 +185,30 @@ impl Book {
     pub fn find(&self, at: u32) -> Standing
         ensures { result ≡ standing_at self.now at }
     {
-        match self.reached(at) {
-            Some(block) if block.at == at => block.standing(),
-            _ => Standing::Nothing,
+        match self.starting_at(at) {
+            Some(block) => block.standing(),
+            None => Standing::Nothing,
         }
+    }
+
+    /// The block that begins at an address, live or delayed, if one does.
+    pub fn starting_at(&self, at: u32) -> Option<Block>
+        ensures { result ≡ starting_at self.now at }
+    {
+        match self.reached(at) {
+            Some(block) if block.at == at => Some(block),
+            _ => None,
+        }
+    }
+
+    /// Of the blocks that are remembered as freed and had an address in their extent, the one that was freed last.
+    pub fn freed_at(&self, at: u32) -> Option<Freed>
+        ensures { result ≡ freed_at self.now at }
+    {
+        self.freed
+            .iter()
+            .find(|freed| freed.block.holds(at, 1))
+            .copied()
     }
 
     /// The size of the live block at an address, if one stands there.
@@ -263,6 +298,7 @@ impl Book {
         self.blocks.clear();
         // There is room for all blocks, so this takes no memory.
         let _ = self.blocks.extend_from_slice(&other.blocks);
+        copy_freed(&mut self.freed, &other.freed);
     }
 
     // The lowest address at which so many bytes fit.
@@ -354,6 +390,13 @@ impl Book {
         }
     }
 
+    // Remembers that a block was freed at a site.
+    fn remember(&mut self, block: Block, by: Site)
+        ensures { self.new ≡ record self.old { freed = remembering (Some block) by self.old.freed } }
+    {
+        self.freed.push_front(Freed { block, by });
+    }
+
     // Adds a block in its place by address.
     fn add(&mut self, block: Block)
         requires { HasRoom self.old block }
@@ -370,4 +413,16 @@ fn all_clear_of(blocks: &[Block], at: u32, size: u32) -> bool
     ensures { result ≡ list_all (λ block. block.delayed || is_apart at (touched size) block.at (block.at + touched block.size)) blocks.now }
 {
     blocks.iter().all(|block| block.is_clear_of(at, size))
+}
+
+// Makes of one queue what another one of the same capacity has.
+fn copy_freed(freed: &mut HeapCircularBuffer<Freed>, other: &HeapCircularBuffer<Freed>)
+    requires { freed.old.capacity ≡ other.now.capacity }
+    ensures { freed.new ≡ other.now }
+{
+    let _held = other.len();
+    freed.clear();
+    let (front, back) = other.as_slices();
+    freed.extend_from_slice(front);
+    freed.extend_from_slice(back);
 }

@@ -7,6 +7,8 @@
 //! What a run calls its heap are the live blocks alone: the law `live_blocks_follow` ties each change to them.
 //! A book remembers the place of the block that was searched for last, in a cell. No clause says what a cell holds, and none needs to:
 //! the block that stands there now is looked at, and taken only where it is the one that a search would find.
+//! Each block remembers where it was asked for, and the book the last 256 blocks that were freed, with where: for who looks at a failure. No answer
+//! to a program depends on it.
 //! Only `Book::make` takes memory. No clause says that.
 #![tactic(auto)]
 
@@ -14,9 +16,11 @@ mod block;
 mod book;
 mod choice;
 pub mod laws;
+mod site;
 mod standing;
 
-pub use block::reserved_size;
+pub use block::{Block, reserved_size};
 pub use book::Book;
 pub use choice::{Ask, Choice, Choices};
+pub use site::{Freed, Site};
 pub use standing::Standing;

@@ -1,5 +1,5 @@
 -- An ask that is answered as recorded.
-use Rattle.guest_cpu.proofs.Terms.{Bool, List, ap, arith, eqb, false, refl, subst, sym, true, ℕ, ◌&&◌, ◌+◌, ◌||◌, ◌∙◌, ◌≡◌, ◌≢◌, Ask, Choice, live-insert_block, bytes_asked, insert_live, is_allowed, live_blocks, live_with, replaced, without_replaced, live_block, Heap, IsHeap, SameEnds, with_block, Area, put_bytes, allocated, set_bytes, Core, answering, machine_of, standing, chosen_standing, heap_with, released_over}
+use Rattle.guest_cpu.proofs.Terms.{Bool, List, ap, arith, eqb, false, refl, subst, sym, true, ℕ, ◌&&◌, ◌+◌, ◌||◌, ◌∙◌, ◌≡◌, ◌≢◌, Ask, Choice, Site, live-insert_block, bytes_asked, insert_live, is_allowed, live_blocks, live_with, replaced, without_replaced, live_block, Heap, IsHeap, SameEnds, with_block, Area, put_bytes, allocated, set_bytes, Core, answering, core_site, machine_of, standing, chosen_standing, heap_with, released_over}
 use Rattle.guest_cpu.proofs.PlaceLemmas.{allowed_asked}
 use Rattle.guest_cpu.proofs.RecordTurns.{released_over_live}
 
@@ -17,19 +17,19 @@ pub room_answer : (at : ℕ) (room answer : Bool) → at ≢ 0 → answer ≡ ro
 room_answer at room answer some h = let test : eqb at 0 ≡ false = grind arith in rw test h
 
 -- the live blocks with one in place of another
-pub placed_live : (heap put new : Heap) (choice : Choice) (size : ℕ) → IsHeap heap → choice.at ≢ 0 → size ≡ bytes_asked choice.ask → put ≡ with_block heap (live_block choice.at size 0)
-    → new ≡ released_over (replaced choice.ask) put → live_blocks new.blocks ≡ live_with choice (live_blocks heap.blocks)
-placed_live heap put new choice size sound some asked puts gone =
+pub placed_live : (heap put new : Heap) (site : Site) (choice : Choice) (size : ℕ) → IsHeap heap → choice.at ≢ 0 → size ≡ bytes_asked choice.ask → put ≡ with_block heap (live_block choice.at size 0 site)
+    → new ≡ released_over (replaced choice.ask) site put → live_blocks new.blocks ≡ live_with choice (live_blocks heap.blocks)
+placed_live heap put new site choice size sound some asked puts gone =
     let test : eqb choice.at 0 ≡ false = grind arith in
     rw test
     (ap (λ (h : Heap). live_blocks h.blocks) gone
-    ∙ released_over_live (replaced choice.ask) put
+    ∙ released_over_live (replaced choice.ask) site put
     ∙ ap (λ (h : Heap). without_replaced (replaced choice.ask) (live_blocks h.blocks)) puts
-    ∙ ap (without_replaced (replaced choice.ask)) (live-insert_block choice.at size 0 heap.start heap.blocks heap.end sound.standing)
+    ∙ ap (without_replaced (replaced choice.ask)) (live-insert_block choice.at size 0 heap.start site heap.blocks heap.end sound.standing)
     ∙ ap (λ n. without_replaced (replaced choice.ask) (insert_live (choice.at, n) (live_blocks heap.blocks))) asked)
 
 -- an ask was answered
-pub chose : (core answered : Core) (heap : Heap) (choice : Choice) (memory new_memory : List Area) → heap ≡ heap_with choice core.book
+pub chose : (core answered : Core) (heap : Heap) (choice : Choice) (memory new_memory : List Area) → heap ≡ heap_with choice (core_site core) core.book
     → live_blocks heap.blocks ≡ live_with choice (live_blocks core.book.blocks) → SameEnds core.book heap
     → new_memory ≡ put_bytes memory choice.at (set_bytes (machine_of core memory) choice) → answered ≡ answering choice.at (record core { book = heap })
     → standing (record answered { marks = record answered.marks { choices = answered.marks.choices + 1 } }) new_memory ≡ chosen_standing choice (standing core memory)

@@ -1,6 +1,6 @@
 -- The first bytes of a new block, and what is carried behind them.
-use Rattle.block_book.specs.Block.{is_apart, lies_in, touched}
-use Rattle.guest_cpu.proofs.Terms.{Bool, Contains, List, None, Option, Some, [], ap, arith, cond, eqb, false, inl, inr, length, max, nat_le, not, refl, replicate, subst, sym, true, ℕ, ◌&&◌, ◌*◌, ◌++◌, ◌+◌, ◌-◌, ◌<◌, ◌^◌, ◌||◌, ◌∙◌, ◌∷◌, ◌≡◌, ◌≢◌, ◌≤◌, ◌⊎◌, and_parts, cases_Bool, cases_lt, eqb-true, or_cases, nat_tests, length-replicate, All-contains, nat_lt, unwrap_or, Ask, Choice, apart-of_clear, same-is, size-within, bytes_asked, is_allowed, is_block, is_calloc, is_clear, kept_count, live_blocks, may_carry, moved_count, replaced, same_ask, size_at, Heap, IsHeap, PAGE, bytes_at, permitted, put_bytes, read, length-set_bytes, length-bytes_at, moved_bytes, set_bytes, set_count, Machine, buffer, is_permitted, puts_more, Puts, GuestPages, IsLawfulSpace, LiesIn, blank_span, flat, set_range, Wrote}
+use Rattle.block_book.specs.Block.{touched}
+use Rattle.guest_cpu.proofs.Terms.{Bool, Contains, List, None, Option, Some, [], ap, arith, cond, eqb, false, inl, inr, length, max, nat_le, not, refl, replicate, subst, sym, true, ℕ, ◌&&◌, ◌*◌, ◌++◌, ◌+◌, ◌-◌, ◌<◌, ◌^◌, ◌||◌, ◌∙◌, ◌∷◌, ◌≡◌, ◌≢◌, ◌≤◌, ◌⊎◌, and_parts, cases_Bool, cases_lt, eqb-true, or_cases, nat_tests, length-replicate, All-contains, nat_lt, unwrap_or, Ask, Choice, apart-of_clear, same-is, size-within, bytes_asked, is_allowed, is_block, is_calloc, is_clear, kept_count, live_blocks, may_carry, moved_count, replaced, same_ask, size_at, is_apart, lies_in, Heap, IsHeap, PAGE, bytes_at, permitted, put_bytes, read, length-set_bytes, length-bytes_at, moved_bytes, set_bytes, set_count, Machine, buffer, is_permitted, puts_more, Puts, GuestPages, IsLawfulSpace, LiesIn, blank_span, flat, set_range, Wrote}
 use Rattle.guest_cpu.specs.Placing.{IsAnswered}
 use Rattle.guest_cpu.proofs.HeapLemmas.{heap_permits}
 

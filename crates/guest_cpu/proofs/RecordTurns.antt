@@ -1,7 +1,7 @@
 -- What a guest does next as recorded.
 use Rattle.std.specs.List.{list_any}
 use Rattle.block_book.specs.declared.block.Block.{Block}
-use Rattle.guest_cpu.proofs.Terms.{Bool, List, None, Option, Some, [], ap, arith, cond, eqb, false, inl, inr, leb, not, refl, sym, true, ℕ, ◌&&◌, ◌<◌, ◌||◌, ◌∙◌, ◌∷◌, ◌≡◌, ◌≤◌, cases_Bool, none-some, same_Some, MatchBool, Ask, live-front, live-front_delayed, live-without, is_defined, live_blocks, without_live, without_replaced, Heap, is_live_at, without_block, Instr, Ecall, Area, BadFree, frees, allocates, allocation, free, freed, Chooses, Effect, Fails, register, does, Allocate, Free, Nothing, Request, is_refused, request_of, Range, instruction_at, touched, GuestPages, limits_of, Met, Question, Core, Standing, Turn, going_on, machine_of, standing, turn_to, IsSend, Turned, Wrote, meeting, meeting_by, meeting_of, asking, heap_after, recorded, recorded_of, recorded_turn, released, released_over}
+use Rattle.guest_cpu.proofs.Terms.{Bool, List, None, Option, Some, [], ap, arith, cond, eqb, false, inl, inr, leb, not, refl, sym, true, ℕ, ◌&&◌, ◌<◌, ◌||◌, ◌∙◌, ◌∷◌, ◌≡◌, ◌≤◌, cases_Bool, none-some, same_Some, MatchBool, Ask, Site, live-front, live-front_delayed, live-without, is_defined, live_blocks, without_live, without_replaced, Heap, is_live_at, without_block, Instr, Ecall, Area, BadFree, frees, allocates, allocation, free, freed, Chooses, Effect, Fails, register, does, Allocate, Free, Nothing, Request, is_refused, request_of, site_of, Range, instruction_at, touched, GuestPages, limits_of, Met, Question, Core, Standing, Turn, core_site, going_on, machine_of, standing, turn_to, IsSend, Turned, Wrote, meeting, meeting_by, meeting_of, asking, heap_after, recorded, recorded_of, recorded_turn, released, released_over}
 use Rattle.guest_cpu.specs.declared.event.Question.TheVariants as question
 use Rattle.guest_cpu.specs.declared.event.Met.TheVariants as met
 use Rattle.guest_cpu.proofs.TurnLemmas.{asks_at}
@@ -38,7 +38,7 @@ as_recorded s None t = turn_to None t.standing t.written
 as_recorded s (Some met.Asks) t = turn_to (Some question.Asks) t.standing t.written
 as_recorded s (Some (met.Emits conn bytes)) t = turn_to (Some (question.Emits conn bytes)) t.standing t.written
 as_recorded s (Some (met.Allocates ask)) t = turn_to (Some (asking s.guest.machine.blocks ask)) s None
-as_recorded s (Some (met.Frees at)) t = recorded_of (Some Ecall) (released s.guest.heap at) s (free s.guest.machine)
+as_recorded s (Some (met.Frees at)) t = recorded_of (Some Ecall) (released s.guest.heap (site_of s.guest.machine) at) s (free s.guest.machine)
 as_recorded s (Some (met.Exits code)) t = turn_to (Some (question.Exits code)) t.standing t.written
 as_recorded s (Some (met.Failed cause)) t = turn_to (Some (question.Failed cause)) t.standing t.written
 
@@ -53,12 +53,12 @@ recorded_unasked s found _ t h = is_recorded s h
 
 by_request : (s : Standing) (t : Turn Met) (request : Request) → request_of (instruction_at s.guest.machine) s.guest.machine ≡ request
     → meeting_by (instruction_at s.guest.machine) request s (does None None s.guest.machine) ≡ Some t
-    → recorded_of (instruction_at s.guest.machine) (heap_after request s.guest.heap) s (does None None s.guest.machine) ≡ as_recorded s t.event t
+    → recorded_of (instruction_at s.guest.machine) (heap_after request (site_of s.guest.machine) s.guest.heap) s (does None None s.guest.machine) ≡ as_recorded s t.event t
 by_request s t (Allocate ask) is h =
     ap (recorded_of (instruction_at s.guest.machine) s.guest.heap s) (allocates s.guest.machine ask is None None) ∙ recorded_asking (instruction_at s.guest.machine) s ask ∙ is_recorded s h
 by_request s t (Free at) is h =
-    ap (λ (found : Option Instr). recorded_of found (released s.guest.heap at) s (does None None s.guest.machine)) (asks_at (instruction_at s.guest.machine) s.guest.machine (Free at) is (λ (e : Nothing ≡ Free at). cc))
-    ∙ ap (recorded_of (Some Ecall) (released s.guest.heap at) s) (frees s.guest.machine at is None None) ∙ is_recorded s h
+    ap (λ (found : Option Instr). recorded_of found (released s.guest.heap (site_of s.guest.machine) at) s (does None None s.guest.machine)) (asks_at (instruction_at s.guest.machine) s.guest.machine (Free at) is (λ (e : Nothing ≡ Free at). cc))
+    ∙ ap (recorded_of (Some Ecall) (released s.guest.heap (site_of s.guest.machine) at) s) (frees s.guest.machine at is None None) ∙ is_recorded s h
 by_request s t Nothing is h = recorded_unasked s (instruction_at s.guest.machine) (does None None s.guest.machine) t h
 
 recorded_meets : (s : Standing) (t : Turn Met) → meeting mapped s ≡ Some t → recorded_turn s ≡ as_recorded s t.event t
@@ -109,35 +109,35 @@ not_live at (block ∷ blocks) h = of_delayed (not_live at blocks) block.delayed
         both false other e = (refl, e)
 
 -- the live blocks after a free by the model
-pub released_live : (heap : Heap) (at : ℕ) → live_blocks (released heap at).blocks ≡ without_live at (live_blocks heap.blocks)
-released_live heap at =
+pub released_live : (heap : Heap) (site : Site) (at : ℕ) → live_blocks (released heap site at).blocks ≡ without_live at (live_blocks heap.blocks)
+released_live heap site at =
     elim (cases_Bool (is_live_at heap at)) [
       | inl live ↦ rw live (live-without at heap.blocks)
       | inr not_it ↦ rw not_it (sym (not_live at heap.blocks not_it))
     ]
 
-released_ends : (heap : Heap) (at : ℕ) → ((released heap at).start ≡ heap.start) × ((released heap at).end ≡ heap.end)
-released_ends heap at =
+released_ends : (heap : Heap) (site : Site) (at : ℕ) → ((released heap site at).start ≡ heap.start) × ((released heap site at).end ≡ heap.end)
+released_ends heap site at =
     elim (cases_Bool (is_live_at heap at)) [
       | inl live ↦ rw live (refl, refl)
       | inr not_it ↦ rw not_it (refl, refl)
     ]
 
 -- the same of the block that an ask replaces
-pub released_over_live : (over : Option ℕ) (heap : Heap) → live_blocks (released_over over heap).blocks ≡ without_replaced over (live_blocks heap.blocks)
-released_over_live None heap = refl
-released_over_live (Some old) heap = released_live heap old
+pub released_over_live : (over : Option ℕ) (site : Site) (heap : Heap) → live_blocks (released_over over site heap).blocks ≡ without_replaced over (live_blocks heap.blocks)
+released_over_live None site heap = refl
+released_over_live (Some old) site heap = released_live heap site old
 
 -- what a release answers tells which it was
-pub released_is : (heap new : Heap) (at : ℕ) (live : Bool) → live ≡ is_live_at heap at → MatchBool live (new ≡ without_block heap at) (new ≡ heap) → new ≡ released heap at
-released_is heap new at true is h = rw (← is) h
-released_is heap new at false is h = rw (← is) h
+pub released_is : (heap new : Heap) (site : Site) (at : ℕ) (live : Bool) → live ≡ is_live_at heap at → MatchBool live (new ≡ without_block heap at site) (new ≡ heap) → new ≡ released heap site at
+released_is heap new site at true is h = rw (← is) h
+released_is heap new site at false is h = rw (← is) h
 
 -- a block was freed by the model
-pub freed_recorded : (core new : Core) (heap : Heap) (at : ℕ) (memory : List Area) → heap ≡ released core.book at → new ≡ going_on (record core { book = heap }) → at ≡ register (machine_of core memory) 10
-    → recorded_of (Some Ecall) (released core.book at) (standing core memory) (free (machine_of core memory)) ≡ turn_to None (standing new memory) None
+pub freed_recorded : (core new : Core) (heap : Heap) (at : ℕ) (memory : List Area) → heap ≡ released core.book (core_site core) at → new ≡ going_on (record core { book = heap }) → at ≡ register (machine_of core memory) 10
+    → recorded_of (Some Ecall) (released core.book (core_site core) at) (standing core memory) (free (machine_of core memory)) ≡ turn_to None (standing new memory) None
 unfolding freed
 freed_recorded core new heap at memory heap_is is asked =
-    let live = released_live core.book at in
-    let ends = released_ends core.book at in
+    let live = released_live core.book (core_site core) at in
+    let ends = released_ends core.book (core_site core) at in
     rw (is, heap_is, live, ends.0, ends.1, asked) refl

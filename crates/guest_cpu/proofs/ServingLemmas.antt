@@ -1,5 +1,5 @@
 -- The turns of a guest are a served run.
-use Rattle.guest_cpu.proofs.Terms.{Bool, List, None, Option, Some, [], ap, append-nil, cond, false, leb, length, length-append, refl, subst, sym, true, ℕ, ◌++◌, ◌+◌, ◌∙◌, ◌∷◌, ◌≡◌, same_Some, option_map, Ask, Choice, is_allowed, is_defined, Heap, Env, Instr, BadFree, frees, allocates, allocated, allocation, chooses, Chooses, Effect, Emits, Ends, Fails, Goes, Machine, Wants, after, does, Allocate, Free, Grant, Guest, Limits, Nothing, Path, Request, does_with, grant, granted, guest_of, is_refused, listed, longer, request_of, served_next, serves, instruction_at, touched, Event, Turn, moved, turn, turn_of, turn_to, written_with, Follows, TurnsServe, standing_of}
+use Rattle.guest_cpu.proofs.Terms.{Bool, List, None, Option, Some, [], ap, append-nil, cond, false, leb, length, length-append, refl, subst, sym, true, ℕ, ◌++◌, ◌+◌, ◌∙◌, ◌∷◌, ◌≡◌, same_Some, option_map, Ask, Choice, is_allowed, is_defined, Heap, Env, Instr, BadFree, frees, allocates, allocated, allocation, chooses, Chooses, Effect, Emits, Ends, Fails, Goes, Machine, Wants, after, does, Allocate, Free, Grant, Guest, Limits, Nothing, Path, Request, does_with, grant, granted, guest_of, is_refused, listed, longer, request_of, served_next, serves, site_of, instruction_at, touched, Event, Turn, moved, turn, turn_of, turn_to, written_with, Follows, TurnsServe, standing_of}
 use Rattle.guest_cpu.specs.declared.event.Event.TheVariants as event
 
 -- one more instruction, by what the allocator answers and what it does
@@ -48,7 +48,7 @@ never_asked m ask choice e other h = by (is_defined m.blocks ask) h
     by false acts = other.no_failure BadFree acts
 
 -- so nothing was asked of the allocator
-idle : (env : Env) (guest : Guest) (given : Grant) (e : Effect) (request : Request) → IsOther e → request_of (instruction_at guest.machine) guest.machine ≡ request → granted env guest.heap request ≡ Some given
+idle : (env : Env) (guest : Guest) (given : Grant) (e : Effect) (request : Request) → IsOther e → request_of (instruction_at guest.machine) guest.machine ≡ request → granted env guest.heap (site_of guest.machine) request ≡ Some given
     → does None given.chosen guest.machine ≡ e → given ≡ record { chosen = None; heap = guest.heap }
 idle env guest given e (Allocate ask) other asks gives acts =
     absurd (never_asked guest.machine ask given.chosen e other (sym (allocates guest.machine ask asks None given.chosen) ∙ acts))

@@ -1,11 +1,11 @@
 -- A run that stands at its request for an item takes it.
 use Rattle.run_history.proofs.Wanting.{never_allocates, wants_takes}
-use Rattle.guest_cpu.proofs.Terms.{List, None, Option, Some, [], ap, append-nil, arith, false, leb, refl, sym, ℕ, ◌*◌, ◌+◌, ◌∙◌, ◌≡◌, ◌≤◌, same_Some, option_map, slice_get, Item, Env, frees, received_keeps, allocates, freed, received, Effect, Goes, Wants, register, after, does, Allocate, Free, Grant, Guest, Limits, Nothing, Path, Request, env_at, grant, granted, guest_of, is_refused, longer, request_of, served_next, serves, Range, instruction_at, touched, with_range, IsBounded, AsksWants, TakesServe, TakesWrite}
+use Rattle.guest_cpu.proofs.Terms.{List, None, Option, Some, [], ap, append-nil, arith, false, leb, refl, sym, ℕ, ◌*◌, ◌+◌, ◌∙◌, ◌≡◌, ◌≤◌, same_Some, option_map, slice_get, Item, Env, frees, received_keeps, allocates, freed, received, Effect, Goes, Wants, register, after, does, Allocate, Free, Grant, Guest, Limits, Nothing, Path, Request, env_at, grant, granted, guest_of, is_refused, longer, request_of, served_next, serves, site_of, Range, instruction_at, touched, with_range, IsBounded, AsksWants, TakesServe, TakesWrite}
 use Rattle.guest_cpu.proofs.TurnEvents.{served_does}
 use Rattle.guest_cpu.proofs.WritingLemmas.{writes_none, writes_then, writes_taken}
 
 -- and asks nothing of the allocator
-idle_of : (env : Env) (guest : Guest) (given : Grant) (request : Request) → request_of (instruction_at guest.machine) guest.machine ≡ request → granted env guest.heap request ≡ Some given
+idle_of : (env : Env) (guest : Guest) (given : Grant) (request : Request) → request_of (instruction_at guest.machine) guest.machine ≡ request → granted env guest.heap (site_of guest.machine) request ≡ Some given
     → does None given.chosen guest.machine ≡ Wants → given ≡ record { chosen = None; heap = guest.heap }
 idle_of env guest given (Allocate ask) asks gives wants =
     absurd (never_allocates ask guest.machine given.chosen (sym (allocates guest.machine ask asks None given.chosen) ∙ wants))

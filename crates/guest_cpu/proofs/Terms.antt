@@ -18,10 +18,10 @@ pub use Rattle.run_history.proofs.Serves.{allocates, map_some, served_next_more,
 pub use Rattle.run_history.proofs.Shapes.{Alone, MaySend, Picks, Same, Shape, Takes, does_shape, length-bytes_at}
 pub use Rattle.guest_space.proofs.SavedLemmas.{windows_released}
 pub use Rattle.guest_space.proofs.SpaceLemmas.{is_permitted, length-little_bytes, puts_more}
-pub use Rattle.guest_cpu.specs.Terms.{AllocError, Allocate, AreSound, AreWindows, Area, Ask, AsksFor, AssertFailed, BadAccess, BadFree, BadInstruction, Cause, Checkpoint, Choice, Chooses, Ecall, Effect, Emits, Ends, Env, Event, Fails, Free, Goes, Grant, Guest, GuestPages, Hang, Heap, Image, Instr, IsHeap, IsLaidOut, IsLawful, IsLawfulSpace, IsLine, IsMade, IsStart, IsStep, Item, Leaves, LiesIn, Limits, Line, MAX_SLOTS, Machine, Marks, Met, Nothing, Override, PAGE, Pages, Path, Puts, Question, Range, Regs, Releases, Request, SameEnds, Saves, SavesOver, Served, Slots, Space, Span, State, StepsTo, Store, Wants, after, allocation, blank_span, buffer, bytes_asked, bytes_at, call, call_buffer, checkpoints_in, chooses, count_true, does_with, each_covered, empty_heap, env_at, execute, fetched, flat, free, granted, guest_of, has_replaced, heap_end, heap_start, in_place_of, insert_live, is_calloc, is_defined, is_live_at, is_refused, kept_count, limits_of, line_of, listed, live_block, live_blocks, live_with, longer, most_blocks, moved_bytes, moved_count, oldest_of, or_bad, planned_next, put_bytes, read, register, repeated, replaced, request_of, restored, same_ask, segment_span, served_over, set_count, size_at, slot_at, slots_of, stack_top, store_size, touched_by, under, used_of, used_pages, with_block, with_newest, with_reached, with_register, without_block, without_live, without_newer, without_oldest, without_replaced, word_at, write, written_pages}
+pub use Rattle.guest_cpu.specs.Terms.{AllocError, Allocate, AreSound, AreWindows, Area, Ask, AsksFor, AssertFailed, BadAccess, BadFree, BadInstruction, Cause, Checkpoint, Choice, Chooses, Ecall, Effect, Emits, Ends, Env, Event, Fails, Free, Goes, Grant, Guest, GuestPages, Hang, Heap, Image, Instr, IsHeap, IsLaidOut, IsLawful, IsLawfulSpace, IsLine, IsMade, IsStart, IsStep, Item, Leaves, LiesIn, Limits, Line, MAX_SLOTS, Machine, Marks, Met, Nothing, Override, PAGE, Pages, Path, Puts, Question, Range, Regs, Releases, Request, SameEnds, Saves, SavesOver, Served, Site, Slots, Space, Span, State, StepsTo, Store, Wants, after, allocation, blank_span, buffer, bytes_asked, bytes_at, call, call_buffer, checkpoints_in, chooses, count_true, does_with, each_covered, empty_heap, env_at, execute, fetched, flat, free, granted, guest_of, has_replaced, heap_end, heap_start, in_place_of, insert_live, is_apart, is_calloc, is_defined, is_live_at, is_refused, kept_count, lies_in, limits_of, line_of, listed, live_block, live_blocks, live_with, longer, most_blocks, moved_bytes, moved_count, oldest_of, or_bad, planned_next, put_bytes, read, register, repeated, replaced, request_of, restored, same_ask, segment_span, served_over, set_count, site_of, size_at, slot_at, slots_of, stack_top, store_size, touched_by, under, used_of, used_pages, with_block, with_newest, with_reached, with_register, without_block, without_live, without_newer, without_oldest, without_replaced, word_at, write, written_pages}
 unfoldable pub use Rattle.guest_cpu.specs.Terms.{Ran, allocated, base_op, branch_op, branch_row, displaced, does, freed, grant, imm_op, imm_row, instruction, instruction_at, is_allowed, is_block, is_clear, may_carry, op_row, permitted, received, reg_op, row, served_ask, served_block, served_free, served_next, serves, set_bytes, start, start_machine, system_row, touched, word_sum}
 pub use Rattle.guest_cpu.specs.declared.guest_core.Core.{Core}
-pub use Rattle.guest_cpu.specs.Standing.{AreCounted, Live, Standing, Turn, answering, counting, going_on, live_after, machine_of, marks_of, moved, quietly, set_range, standing, stored_by, turn_of, turn_to, unless_event, with_range, written_with}
+pub use Rattle.guest_cpu.specs.Standing.{AreCounted, Live, Standing, Turn, answering, core_site, counting, going_on, live_after, machine_of, marks_of, moved, quietly, set_range, standing, stored_by, turn_of, turn_to, unless_event, with_range, written_with}
 unfoldable pub use Rattle.guest_cpu.specs.Standing.{quiet_next, turn}
 pub use Rattle.guest_cpu.specs.Turns.{IsSend, Keeps, Lasts, MetStays, RecordedLasts, Turned, TurnsBy, Wrote}
 pub use Rattle.guest_cpu.specs.Meeting.{meeting_by, meeting_of, sends}

@@ -1,5 +1,5 @@
 -- What a guest does next in an environment, by what its instruction comes to.
-use Rattle.guest_cpu.proofs.Terms.{Bool, None, Option, Some, ap, arith, cond, false, leb, refl, subst, sym, true, ◌<◌, ◌∙◌, ◌≡◌, ◌≤◌, none-some, same_Some, Choice, Heap, Env, Instr, Ecall, Cause, BadAccess, Hang, frees, allocates, allocation, free, Chooses, Effect, Fails, Machine, does, Allocate, Free, Grant, Limits, Nothing, Request, does_with, grant, granted, is_refused, request_of, serves, Range, instruction_at, touched, GuestPages, AreWindows, limits_of, Event, Met, Standing, Turn, turn, turn_of, turn_to, IsSend, Turned, Wrote, meeting, meeting_by, meeting_of, allocating, answered_with, freeing}
+use Rattle.guest_cpu.proofs.Terms.{Bool, None, Option, Some, ap, arith, cond, false, leb, refl, subst, sym, true, ◌<◌, ◌∙◌, ◌≡◌, ◌≤◌, none-some, same_Some, Choice, Heap, Env, Instr, Ecall, Cause, BadAccess, Hang, frees, allocates, allocation, free, Chooses, Effect, Fails, Machine, does, Allocate, Free, Grant, Limits, Nothing, Request, does_with, grant, granted, is_refused, request_of, serves, site_of, Range, instruction_at, touched, GuestPages, AreWindows, limits_of, Event, Met, Standing, Turn, turn, turn_of, turn_to, IsSend, Turned, Wrote, meeting, meeting_by, meeting_of, allocating, answered_with, freeing}
 use Rattle.guest_cpu.specs.declared.event.Event.TheVariants as event
 use Rattle.guest_space.specs.declared.window.Windows.{Windows}
 use Rattle.guest_cpu.specs.declared.event.Met.TheVariants as met
@@ -47,18 +47,18 @@ with_answer s (Some given) acts does_so = ap (turn_of (Some Ecall) s (Some given
 
 asked_turn : (env : Env) (s : Standing) (request : Request) (acts : Option Choice → Effect) → request_of (instruction_at s.guest.machine) s.guest.machine ≡ request → (Nothing ≡ request → ⊥)
     → ((choice : Option Choice) → does None choice s.guest.machine ≡ acts choice)
-    → turn_of (instruction_at s.guest.machine) s (granted env s.guest.heap request) (does_with (granted env s.guest.heap request) None s.guest.machine) ≡ answered_with (granted env s.guest.heap request) acts s
+    → turn_of (instruction_at s.guest.machine) s (granted env s.guest.heap (site_of s.guest.machine) request) (does_with (granted env s.guest.heap (site_of s.guest.machine) request) None s.guest.machine) ≡ answered_with (granted env s.guest.heap (site_of s.guest.machine) request) acts s
 asked_turn env s request acts is never does_so =
-    rw (asks_at (instruction_at s.guest.machine) s.guest.machine request is never) (with_answer s (granted env s.guest.heap request) acts does_so)
+    rw (asks_at (instruction_at s.guest.machine) s.guest.machine request is never) (with_answer s (granted env s.guest.heap (site_of s.guest.machine) request) acts does_so)
 
 -- an instruction that asks nothing
-unasked_turn : (env : Env) (s : Standing) (found : Option Instr) (e : Effect) (t : Turn Met) → meeting_of found s e ≡ Some t → turn_of found s (granted env s.guest.heap Nothing) e ≡ in_env env s t.event t
+unasked_turn : (env : Env) (s : Standing) (found : Option Instr) (e : Effect) (t : Turn Met) → meeting_of found s e ≡ Some t → turn_of found s (granted env s.guest.heap (site_of s.guest.machine) Nothing) e ≡ in_env env s t.event t
 unasked_turn env s found (Chooses ask) t h = absurd (none-some t h)
 unasked_turn env s found _ t h = is_in_env env s h
 
 by_request : (env : Env) (s : Standing) (t : Turn Met) (request : Request) → request_of (instruction_at s.guest.machine) s.guest.machine ≡ request
     → meeting_by (instruction_at s.guest.machine) request s (does None None s.guest.machine) ≡ Some t
-    → turn_of (instruction_at s.guest.machine) s (granted env s.guest.heap request) (does_with (granted env s.guest.heap request) None s.guest.machine) ≡ in_env env s t.event t
+    → turn_of (instruction_at s.guest.machine) s (granted env s.guest.heap (site_of s.guest.machine) request) (does_with (granted env s.guest.heap (site_of s.guest.machine) request) None s.guest.machine) ≡ in_env env s t.event t
 by_request env s t (Allocate ask) is h =
     asked_turn env s (Allocate ask) (λ choice. allocation ask choice s.guest.machine) is (λ (e : Nothing ≡ Allocate ask). cc) (allocates s.guest.machine ask is None) ∙ is_in_env env s h
 by_request env s t (Free at) is h =

@@ -1,7 +1,7 @@
 -- What a run writes is fixed by where it comes from and where it leads to: the environments on the way add nothing, since the answers of the allocator that it used
 -- stand in it.
 use Rattle.alloc_env.specs.Serving.{Served as Answered}
-use Rattle.guest_cpu.proofs.Terms.{Bool, List, None, Option, Some, [], ap, append-nil, append_assoc, arith, false, leb, refl, subst, sym, ℕ, ◌++◌, ◌∙◌, ◌∷◌, ◌≡◌, ◌≤◌, lt-leb, append_cancel_left, same_Some, slice_get, Item, Choice, Heap, Env, served_ask, map_some, serves_to, Chooses, Effect, Emits, Ends, Fails, Goes, Machine, State, Wants, after, does, Allocate, Free, Grant, Guest, Limits, Nothing, Path, Request, grant, granted, guest_of, is_refused, listed, request_of, served_next, serves, Range, instruction_at, touched, with_range, written_with, WritesIn, writes, written_by, WritesOnce}
+use Rattle.guest_cpu.proofs.Terms.{Bool, List, None, Option, Some, [], ap, append-nil, append_assoc, arith, false, leb, refl, subst, sym, ℕ, ◌++◌, ◌∙◌, ◌∷◌, ◌≡◌, ◌≤◌, lt-leb, append_cancel_left, same_Some, slice_get, Item, Choice, Site, Heap, Env, served_ask, map_some, serves_to, Chooses, Effect, Emits, Ends, Fails, Goes, Machine, State, Wants, after, does, Allocate, Free, Grant, Guest, Limits, Nothing, Path, Request, grant, granted, guest_of, is_refused, listed, request_of, served_next, serves, site_of, Range, instruction_at, touched, with_range, written_with, WritesIn, writes, written_by, WritesOnce}
 
 -- a run that goes on used more answers of the allocator behind its own, and has no fewer instructions
 record Adds (first second : Path) : Type 0 where
@@ -26,28 +26,28 @@ same_choice : (one other : Choice) (rest more : List Choice) → one ∷ rest �
 same_choice one other rest more same = cc
 
 -- In each environment an ask is answered by a choice, and nothing else is. So where a list of answers goes on by both, they are the same.
-granted_once : (env under : Env) (heap apart : Heap) (request : Request) (given found : Grant) (rest more : List Choice) → granted env heap request ≡ Some given → granted under apart request ≡ Some found
+granted_once : (env under : Env) (heap apart : Heap) (site : Site) (request : Request) (given found : Grant) (rest more : List Choice) → granted env heap site request ≡ Some given → granted under apart site request ≡ Some found
     → listed given.chosen ++ rest ≡ listed found.chosen ++ more → given.chosen ≡ found.chosen
-granted_once env under heap apart (Allocate ask) given found rest more one other same =
-    let p = map_some (λ (served : Answered). record { chosen = Some served.choice; heap = served.heap }) (served_ask env heap ask) given one in
-    let q = map_some (λ (served : Answered). record { chosen = Some served.choice; heap = served.heap }) (served_ask under apart ask) found other in
+granted_once env under heap apart site (Allocate ask) given found rest more one other same =
+    let p = map_some (λ (served : Answered). record { chosen = Some served.choice; heap = served.heap }) (served_ask env heap site ask) given one in
+    let q = map_some (λ (served : Answered). record { chosen = Some served.choice; heap = served.heap }) (served_ask under apart site ask) found other in
     let is : Some p.0.choice ≡ given.chosen = ap (λ (g : Grant). g.chosen) p.2 in
     let was : Some q.0.choice ≡ found.chosen = ap (λ (g : Grant). g.chosen) q.2 in
     let both : listed (Some p.0.choice) ++ rest ≡ listed (Some q.0.choice) ++ more = ap (λ (c : Option Choice). listed c ++ rest) is ∙ same ∙ ap (λ (c : Option Choice). listed c ++ more) (sym was) in
     sym is ∙ ap Some (same_choice p.0.choice q.0.choice rest more both) ∙ was
-granted_once env under heap apart (Free place) given found rest more one other same =
+granted_once env under heap apart site (Free place) given found rest more one other same =
     let p = map_some _ _ given one in
     let q = map_some _ _ found other in
     sym (ap (λ (g : Grant). g.chosen) p.2) ∙ ap (λ (g : Grant). g.chosen) q.2
-granted_once env under heap apart Nothing given found rest more one other same =
+granted_once env under heap apart site Nothing given found rest more one other same =
     sym (ap (λ (g : Grant). g.chosen) (same_Some _ given one)) ∙ ap (λ (g : Grant). g.chosen) (same_Some _ found other)
 
 grants_once : (env under : Env) (guest apart : Guest) (given found : Grant) (rest more : List Choice) → guest.machine ≡ apart.machine → grant env guest ≡ Some given → grant under apart ≡ Some found
     → listed given.chosen ++ rest ≡ listed found.chosen ++ more → given.chosen ≡ found.chosen
 unfolding grant
 grants_once env under guest apart given found rest more same one other both =
-    granted_once env under guest.heap apart.heap (request_of (instruction_at apart.machine) apart.machine) given found rest more
-    (subst (λ (m : Machine). granted env guest.heap (request_of (instruction_at m) m) ≡ Some given) same one) other both
+    granted_once env under guest.heap apart.heap (site_of apart.machine) (request_of (instruction_at apart.machine) apart.machine) given found rest more
+    (subst (λ (m : Machine). granted env guest.heap (site_of m) (request_of (instruction_at m) m) ≡ Some given) same one) other both
 
 -- how the heap is laid out behind an instruction doesn't matter to what it writes
 written_given : (e : Effect) (item : Option Item) (given found : Grant) (m : Machine) → given.chosen ≡ found.chosen → written_by e item (Some given) m ≡ written_by e item (Some found) m

@@ -1,6 +1,6 @@
 -- The first bytes of a new block.
 use Rattle.std.specs.Prelude.{◌≡◌, ℕ, ◌^◌, ◌<◌, true, Contains}
-use Rattle.guest_cpu.specs.Terms.{Ask, Choice, bytes_asked, is_allowed, live_blocks, replaced, Heap, IsHeap, kept_count, GuestPages, blank_span}
+use Rattle.guest_cpu.specs.Terms.{Ask, Choice, bytes_asked, is_allowed, kept_count, live_blocks, replaced, Heap, IsHeap, GuestPages, blank_span}
 
 -- C allows this answer to an ask, by the blocks of a heap of this memory, and the new block gets so many bytes of the one that it replaces
 pub record IsAnswered (space : GuestPages) (choice : Choice) (kept : ℕ) : Type 0 where

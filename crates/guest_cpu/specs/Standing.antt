@@ -1,6 +1,6 @@
 -- A guest with the counts of its run, and what it does next.
-use Rattle.std.specs.Prelude.{ℕ, ◌+◌, ◌-◌, ◌%◌, ◌^◌, ◌<◌, ◌≤◌, Bool, List, Option, Some, None, option_map, option_and_then}
-use Rattle.guest_cpu.specs.Terms.{Choice, live_blocks, Heap, Env, with_reached, Instr, Store, displaced, store_size, Area, set_count, Effect, Emits, Ends, Fails, Goes, Machine, Wants, register, with_register, Grant, Guest, Limits, grant, serves, Range, buffer, instruction_at, Event, Marks}
+use Rattle.std.specs.Prelude.{ℕ, ◌+◌, ◌-◌, ◌%◌, ◌^◌, ◌<◌, ◌≤◌, Bool, List, Option, Some, None, option_map, option_and_then, slice_index}
+use Rattle.guest_cpu.specs.Terms.{Choice, Site, live_blocks, Heap, Env, with_reached, Instr, Store, displaced, store_size, Area, set_count, Effect, Emits, Ends, Fails, Goes, Machine, Wants, register, with_register, Grant, Guest, Limits, grant, serves, Range, buffer, instruction_at, Event, Marks}
 use Rattle.guest_cpu.specs.declared.guest_core.Core.{Core}
 use Rattle.guest_cpu.specs.declared.event.Event.TheVariants as event
 
@@ -25,6 +25,10 @@ machine_of core memory = record {
   connections = core.connections;
   since = core.marks.since;
 }
+
+-- where a guest stands that asks of the allocator
+abbrev pub core_site : Core → Site
+core_site core = record { pc = core.regs.pc; caller = slice_index core.regs.x 1; taken = core.marks.taken }
 
 -- where a guest stands that has this beside its memory
 abbrev pub standing : Core → List Area → Standing

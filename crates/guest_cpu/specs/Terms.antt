@@ -3,9 +3,10 @@ pub use Rattle.std.specs.declared.alloc.AllocError.{AllocError}
 pub use Rattle.rx_base.specs.declared.item.Item.{Item}
 pub use Rattle.block_book.specs.declared.choice.Ask.{Ask}
 pub use Rattle.block_book.specs.declared.choice.Choice.{Choice}
+pub use Rattle.block_book.specs.declared.site.Site.{Site}
 pub use Rattle.block_book.specs.Answer.{bytes_asked, has_replaced, insert_live, is_calloc, is_defined, kept_count, live_blocks, live_with, moved_count, replaced, same_ask, size_at, without_live, without_replaced}
 unfoldable pub use Rattle.block_book.specs.Answer.{is_allowed, is_block, is_clear, may_carry}
-pub use Rattle.block_book.specs.Block.{live_block}
+pub use Rattle.block_book.specs.Block.{is_apart, lies_in, live_block}
 pub use Rattle.block_book.specs.Heap.{Heap, IsHeap, SameEnds, empty_heap, is_live_at, most_blocks, with_block, without_block}
 pub use Rattle.alloc_env.specs.declared.env.Env.{Env}
 pub use Rattle.alloc_env.specs.Serving.{Served, in_place_of, served_over}
@@ -34,7 +35,7 @@ unfoldable pub use Rattle.run_history.specs.Machine.{start, start_machine}
 pub use Rattle.run_history.specs.Repeating.{repeated}
 pub use Rattle.run_history.specs.Run.{after, word_at}
 unfoldable pub use Rattle.run_history.specs.Run.{does, instruction}
-pub use Rattle.run_history.specs.Served.{Allocate, AsksFor, FailsBy, Free, Grant, Guest, IsLaidOut, Limits, Nothing, Override, Path, Request, does_with, env_at, granted, guest_of, is_refused, listed, longer, origin, planned_next, request_of}
+pub use Rattle.run_history.specs.Served.{Allocate, AsksFor, FailsBy, Free, Grant, Guest, IsLaidOut, Limits, Nothing, Override, Path, Request, does_with, env_at, granted, guest_of, is_refused, listed, longer, origin, planned_next, request_of, site_of}
 unfoldable pub use Rattle.run_history.specs.Served.{grant, served_next, serves}
 pub use Rattle.run_history.specs.Touching.{Range, buffer, call_buffer, touched_by}
 unfoldable pub use Rattle.run_history.specs.Touching.{instruction_at, touched}

@@ -137,7 +137,8 @@ pub fn allocate<L: Ledger>(
 {
     core.book.sound();
     let kept = kept_count(ask, &core.book);
-    match serve_ask(env, &mut core.book, ask) {
+    let site = core.site();
+    match serve_ask(env, &mut core.book, site, ask) {
         Ok(choice) => {
             set_block(space, choice, kept);
             core.answer(choice.at);
@@ -160,7 +161,8 @@ pub fn free<L: Ledger>(core: &mut Core, env: Env, at: u32, steps: &mut Steps<L>)
     ensures lasts { Lasts (Ok result) core.old.ended core.new.ended }
     ensures counted { steps.new + core.old.marks.steps ≡ steps.old + core.new.marks.steps }
 {
-    match serve_free(env, &mut core.book, at) {
+    let site = core.site();
+    match serve_free(env, &mut core.book, site, at) {
         Ok(()) => {
             core.go_on();
             steps.tick();

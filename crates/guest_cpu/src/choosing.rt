@@ -9,7 +9,7 @@ ghost use Rattle.guest_cpu.specs.Recording.{is_usable, released_over, heap_with,
 
 use crate::guest_core::Core;
 use crate::placing::set_block;
-use block_book::{Ask, Book, Choice};
+use block_book::{Ask, Book, Choice, Site};
 use guest_space::GuestSpace;
 use run_history::{kept_count, legal_choice};
 
@@ -30,7 +30,8 @@ pub fn choose(core: &mut Core, space: &mut GuestSpace, wanted: Ask, choice: Choi
     }
     core.book.sound();
     let kept = kept_count(choice.ask, &core.book);
-    if !place(&mut core.book, choice) {
+    let site = core.site();
+    if !place(&mut core.book, site, choice) {
         return false;
     }
     set_block(space, choice, kept);
@@ -39,13 +40,13 @@ pub fn choose(core: &mut Core, space: &mut GuestSpace, wanted: Ask, choice: Choi
     true
 }
 
-// Puts the block of an answer that C allows in place of the one that it replaces, unless it is null. False, and nothing
+// Puts the block of an answer that C allows, which was asked for at a site, in place of the one that it replaces, unless it is null. False, and nothing
 // changes, where as many stand as may.
-fn place(book: &mut Book, choice: Choice) -> bool
+fn place(book: &mut Book, site: Site, choice: Choice) -> bool
     requires bare { is_bare book.old ≡ true }
     requires allowed { is_allowed book.old.start book.old.end (live_blocks book.old.blocks) choice.ask choice ≡ true }
     ensures answer { result ≡ ((choice.at == 0) || nat_lt (length book.old.blocks) most_blocks) }
-    ensures heap { MatchBool result (book.new ≡ heap_with choice book.old) (book.new ≡ book.old) }
+    ensures heap { MatchBool result (book.new ≡ heap_with choice site book.old) (book.new ≡ book.old) }
     ensures live { result ≡ true → live_blocks book.new.blocks ≡ live_with choice (live_blocks book.old.blocks) }
     ensures bare { is_bare book.new ≡ true }
     ensures ends { SameEnds book.old book.new }
@@ -57,17 +58,17 @@ fn place(book: &mut Book, choice: Choice) -> bool
     let Some(size) = choice.ask.bytes() else {
         unreachable!()
     };
-    if !book.put(choice.at, size) {
+    if !book.put(choice.at, size, site) {
         return false;
     }
-    release_over(book, choice.ask);
+    release_over(book, site, choice.ask);
     true
 }
 
 // Frees the live block that an ask replaces, if there is one.
-fn release_over(book: &mut Book, ask: Ask)
+fn release_over(book: &mut Book, site: Site, ask: Ask)
     requires bare { is_bare book.old ≡ true }
-    ensures heap { book.new ≡ released_over (replaced ask) book.old }
+    ensures heap { book.new ≡ released_over (replaced ask) site book.old }
     ensures bare { is_bare book.new ≡ true }
     ensures ends { SameEnds book.old book.new }
 {
@@ -77,5 +78,5 @@ fn release_over(book: &mut Book, ask: Ask)
     if old == 0 {
         return;
     }
-    let _was_live = book.release(old);
+    let _was_live = book.release(old, site);
 }

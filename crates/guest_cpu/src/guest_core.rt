@@ -1,9 +1,9 @@
 // What a guest has beside its memory.
 ghost use Rattle.std.specs.Prelude.{◌≡◌, ◌-◌, ◌^◌, ◌<◌};
-ghost use Rattle.guest_cpu.specs.Standing.{counting, going_on, answering};
+ghost use Rattle.guest_cpu.specs.Standing.{counting, core_site, going_on, answering};
 
 use crate::Marks;
-use block_book::Book;
+use block_book::{Book, Site};
 use call_gate::ConnSet;
 use run_history::Regs;
 
@@ -19,6 +19,17 @@ pub struct Core {
 }
 
 impl Core {
+    /// Where the guest stands, for an ask of the allocator.
+    pub fn site(&self) -> Site
+        ensures { result ≡ core_site self.now }
+    {
+        Site {
+            pc: self.regs.pc,
+            caller: self.regs.x[1],
+            taken: self.marks.taken,
+        }
+    }
+
     /// One more instruction is done: a call answers, and the guest goes on behind it.
     pub fn answer(&mut self, value: u32)
         requires since { self.old.marks.since < 2 ^ 64 - 1 }

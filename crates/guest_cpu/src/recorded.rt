@@ -5,7 +5,7 @@ ghost use Rattle.guest_image.specs.Memory.{Area};
 ghost use Rattle.guest_space.specs.Space.{flat};
 ghost use Rattle.rv_isa.specs.declared.instr.Instr.TheVariants.{Ecall};
 ghost use Rattle.run_history.specs.Call.{free};
-ghost use Rattle.guest_cpu.specs.Standing.{standing, machine_of, turn_to, AreCounted};
+ghost use Rattle.guest_cpu.specs.Standing.{core_site, standing, machine_of, turn_to, AreCounted};
 ghost use Rattle.guest_cpu.specs.Turns.{TurnsBy, Keeps, Rises, RecordedLasts};
 ghost use Rattle.guest_cpu.specs.Recording.{released, asking, recorded_of, recorded};
 
@@ -68,14 +68,15 @@ fn release<L: Ledger>(core: &mut Core, at: u32, steps: &mut Steps<L>) -> Option<
     requires asked { at ≡ slice_index core.old.regs.x 10 }
     requires counts { AreCounted core.old.marks }
     requires room { core.old.marks.steps < 2 ^ 64 - 1 }
-    ensures turned { (memory : List Area) → recorded_of (Some Ecall) (released core.old.book at) (standing core.old memory) (free (machine_of core.old memory)) ≡ turn_to result (standing core.new memory) None }
+    ensures turned { (memory : List Area) → recorded_of (Some Ecall) (released core.old.book (core_site core.old) at) (standing core.old memory) (free (machine_of core.old memory)) ≡ turn_to result (standing core.new memory) None }
     ensures keeps { Keeps core.old core.new }
     ensures rises { Rises core.old (Ok result) core.new }
     ensures lasts { RecordedLasts (Ok result) core.old.ended core.new.ended }
     ensures counted { steps.new + core.old.marks.steps ≡ steps.old + core.new.marks.steps }
 {
     core.book.sound();
-    core.book.release(at);
+    let site = core.site();
+    core.book.release(at, site);
     core.go_on();
     steps.tick();
     None

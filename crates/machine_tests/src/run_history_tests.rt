@@ -2,10 +2,17 @@
 ghost use Rattle.std.specs.Prelude.{◌≡◌, true};
 ghost use Rattle.block_book.specs.Heap.{is_bare};
 
-use block_book::{Ask, Book, Choice};
+use block_book::{Ask, Book, Choice, Site};
 use run_history::{kept_count, laws, legal_choice, may_ask};
 use std::process::Abort;
 use std::test::Fail;
+
+// Where each block is asked for.
+const SITE: Site = Site {
+    pc: 0,
+    caller: 0,
+    taken: 0,
+};
 
 // An ask, the one that a choice answers, its address, whether it is zeroed, how many bytes are carried, and whether that is allowed.
 type Row = (Ask, Ask, u32, bool, u32, bool);
@@ -90,7 +97,7 @@ fn try_rows(rt: &impl Abort, book: &Book, rows: &[Row])
 #[test]
 fn choices_are_judged(rt: HostRuntime) -> Result<(), Fail> {
     let mut book = Book::make(rt.alloc(), 4096, 4160)?;
-    assert_eq!(rt; book.place(17, 0, 0), Some(4096));
+    assert_eq!(rt; book.place(17, 0, 0, SITE), Some(4096));
     try_rows(&rt, &book, &CHOSEN);
     for (old, size, good, kept) in KEPT {
         let ask = Ask::Realloc { old, size };
@@ -99,7 +106,7 @@ fn choices_are_judged(rt: HostRuntime) -> Result<(), Fail> {
             "{old}, {size}"
         );
     }
-    assert!(rt; book.put(4144, 1));
+    assert!(rt; book.put(4144, 1, SITE));
     try_rows(&rt, &book, &CARRIED);
     Ok(())
 }

@@ -1,11 +1,18 @@
 // Answers of malloc, calloc, realloc and free by the table of environments, on a heap of 65536 bytes and on one of 4096, with addresses worked out by hand.
 use alloc_env::{BadFree, Env, serve_ask, serve_free};
-use block_book::{Ask, Book, Choice};
+use block_book::{Ask, Book, Choice, Site};
 use std::process::Abort;
 use std::test::Fail;
 
 // Where the heap begins. Its middle is 32768 bytes above.
 const H: u32 = 0x12000;
+
+// Where each call stands.
+const SITE: Site = Site {
+    pc: 0x10a2c,
+    caller: 0x10b00,
+    taken: 61,
+};
 
 #[derive(Clone, Copy)]
 enum Call {
@@ -223,9 +230,9 @@ fn is_answered(book: &mut Book, call: Call) -> bool {
             (env, Ask::Realloc { old, size }, at, zeroed, carried)
         }
         Call::BadRealloc(env, old) => {
-            return serve_ask(env, book, Ask::Realloc { old, size: 16 }).is_err();
+            return serve_ask(env, book, SITE, Ask::Realloc { old, size: 16 }).is_err();
         }
-        Call::Free(env, at, want) => return serve_free(env, book, at).is_ok() == want,
+        Call::Free(env, at, want) => return serve_free(env, book, SITE, at).is_ok() == want,
     };
     let wanted = Choice {
         ask,
@@ -233,7 +240,7 @@ fn is_answered(book: &mut Book, call: Call) -> bool {
         zeroed,
         carried,
     };
-    chooses(serve_ask(env, book, ask), wanted)
+    chooses(serve_ask(env, book, SITE, ask), wanted)
 }
 
 fn try_calls(rt: &impl Abort, book: &mut Book, calls: &[Call]) {

@@ -2,9 +2,23 @@
 ghost use Rattle.std.specs.Prelude.{◌≡◌, true};
 ghost use Rattle.block_book.specs.Heap.{SameEnds, is_bare};
 
-use block_book::{Ask, Book, Choice, Choices, Standing};
+use block_book::{Ask, Block, Book, Choice, Choices, Freed, Site, Standing};
 use std::process::Abort;
 use std::test::Fail;
+
+// Where each block is asked for.
+const MADE: Site = Site {
+    pc: 0x10a2c,
+    caller: 0x10b00,
+    taken: 61,
+};
+
+// Where each is freed.
+const BY: Site = Site {
+    pc: 0x10b14,
+    caller: 0x10c00,
+    taken: 70,
+};
 
 // A call of a book, and its answer behind what it is given.
 #[derive(Clone, Copy)]
@@ -24,6 +38,8 @@ enum Call {
     LiveReach(u32, Option<u64>),
     // Address and size, and how many of its bytes are kept.
     Kept(u32, u32, u32),
+    // The block that was freed last of those that had the address, by its own.
+    Gone(u32, Option<u32>),
 }
 
 // On a heap from 4096 to 4160.
@@ -120,17 +136,44 @@ static COPY: [Call; 9] = [
     Call::Kept(4128, 5, 0),
 ];
 
+// On a heap from 4096 to 4160: what is freed is remembered, also where another block stands in its place, and behind a recycling.
+#[rattlefmt::skip]
+static GONE: [Call; 14] = [
+    Call::Place(17, 0, 0, Some(4096)),
+    Call::Place(1, 0, 0, Some(4128)),
+    Call::Gone(4096, None),
+    Call::Release(4096, true),
+    Call::Release(4096, false),
+    Call::Gone(4096, Some(4096)),
+    Call::Gone(4127, Some(4096)),
+    Call::Gone(4128, None),
+    Call::Place(16, 0, 0, Some(4096)),
+    Call::Gone(4100, Some(4096)),
+    Call::Delay(4128, true),
+    Call::Gone(4128, Some(4128)),
+    Call::Recycle,
+    Call::Gone(4128, Some(4128)),
+];
+
 // Whether a place is answered; padding that no call may ask for is none.
 fn places(book: &mut Book, size: u32, side: u32, from: u32, want: Option<u32>) -> bool {
-    side % 16 == 0 && side <= 256 && book.place(size, side, from) == want
+    side % 16 == 0 && side <= 256 && book.place(size, side, from, MADE) == want
+}
+
+// The address of the block that was freed last of those that had an address.
+fn gone_at(book: &Book, at: u32) -> Option<u32> {
+    match book.freed_at(at) {
+        Some(freed) => Some(freed.block.at),
+        None => None,
+    }
 }
 
 // Whether a call has its answer. A run of bytes has at least one.
 fn is_answered(book: &mut Book, call: Call) -> bool {
     match call {
         Call::Place(size, side, from, want) => places(book, size, side, from, want),
-        Call::Release(at, want) => book.release(at) == want,
-        Call::Delay(at, want) => book.delay(at) == want,
+        Call::Release(at, want) => book.release(at, BY) == want,
+        Call::Delay(at, want) => book.delay(at, BY) == want,
         Call::Recycle => {
             book.recycle();
             true
@@ -142,6 +185,7 @@ fn is_answered(book: &mut Book, call: Call) -> bool {
         Call::LiveSize(at, want) => book.live_size(at) == want,
         Call::LiveReach(at, want) => book.live_reach(at) == want,
         Call::Kept(at, size, want) => book.kept(at, size) == want,
+        Call::Gone(at, want) => gone_at(book, at) == want,
     }
 }
 
@@ -154,7 +198,7 @@ fn try_calls(rt: &impl Abort, book: &mut Book, calls: &[Call]) {
 // Places as many blocks as there may be.
 fn fill(rt: &impl Abort, book: &mut Book) {
     for _ in 0..4096 {
-        assert!(rt; book.place(1, 0, 0).is_some());
+        assert!(rt; book.place(1, 0, 0, MADE).is_some());
     }
 }
 
@@ -173,11 +217,11 @@ fn put_blocks(book: &mut Book) -> [bool; 5]
     requires { is_bare book.old ≡ true }
     ensures { SameEnds book.old book.new }
 {
-    let first = book.put(4112, 17);
-    let on_it = book.put(4128, 0);
-    let uneven = book.put(4152, 1);
-    let past = book.put(4144, 17);
-    let last = book.put(4144, 0);
+    let first = book.put(4112, 17, MADE);
+    let on_it = book.put(4128, 0, MADE);
+    let uneven = book.put(4152, 1, MADE);
+    let past = book.put(4144, 17, MADE);
+    let last = book.put(4144, 0, MADE);
     [first, on_it, uneven, past, last]
 }
 
@@ -189,6 +233,21 @@ fn books_take_blocks_and_copies(rt: HostRuntime) -> Result<(), Fail> {
     copy.copy_from(&book);
     assert_eq!(rt; (copy.start(), copy.end()), (4096, 4160));
     try_calls(&rt, &mut copy, &COPY);
+    Ok(())
+}
+
+#[test]
+fn books_remember_sites(rt: HostRuntime) -> Result<(), Fail> {
+    let mut book = Book::make(rt.alloc(), 4096, 4160)?;
+    try_calls(&rt, &mut book, &GONE);
+    let block = Block {
+        at: 4128,
+        size: 1,
+        side: 0,
+        delayed: false,
+        made: MADE,
+    };
+    assert!(rt; book.freed_at(4128) == Some(Freed { block, by: BY }));
     Ok(())
 }
 

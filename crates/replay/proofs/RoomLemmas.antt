@@ -6,7 +6,7 @@ use Rattle.alloc_env.proofs.Mallocs.{Places, block-places}
 use Rattle.guest_image.specs.Image.{heap_start, heap_end}
 use Rattle.run_history.proofs.Layouts.{laid_out_next}
 use Rattle.guest_cpu.proofs.StartLemmas.{heap_above_null, heap_ordered}
-use Rattle.replay.proofs.Terms.{Bool, List, None, Option, Some, [], ap, arith, cond, false, filter, length, not, refl, subst, suc, sym, true, zero, ℕ, ◌++◌, ◌+◌, ◌-◌, ◌<◌, ◌∙◌, ◌∷◌, ◌≡◌, ◌≢◌, ◌≤◌, ne_eqb, length-map, none-some, option_and_then_some, same_Some, nat_lt, slice_get, ◌==◌, Item, Block, Ask, Choice, bytes_asked, insert_live, live_blocks, replaced, Heap, IsHeap, empty_heap, is_live_at, most_blocks, Image, repeated_add, element_behind, run_chosen, slice_get_longer, ServesTo, map_some, served_follows, serves_to, serves_used, Chooses, State, start, start_machine, repeated, Run, after, does, run, Allocate, Free, Grant, IsLaidOut, Limits, Nothing, Override, Path, Request, env_at, grant, granted, guest_of, listed, origin, planned_next, request_of, serve, instruction_at, IsAccount, Session, journal_of, items_in, Rules, Recorded, HasRoom, HasSession, IsRecordOf}
+use Rattle.replay.proofs.Terms.{Bool, List, None, Option, Some, [], ap, arith, cond, false, filter, length, not, refl, subst, suc, sym, true, zero, ℕ, ◌++◌, ◌+◌, ◌-◌, ◌<◌, ◌∙◌, ◌∷◌, ◌≡◌, ◌≢◌, ◌≤◌, ne_eqb, length-map, none-some, option_and_then_some, same_Some, nat_lt, slice_get, ◌==◌, Item, Block, Ask, Choice, Site, bytes_asked, insert_live, live_blocks, replaced, Heap, IsHeap, empty_heap, is_live_at, most_blocks, Image, repeated_add, element_behind, run_chosen, slice_get_longer, ServesTo, map_some, served_follows, serves_to, serves_used, Chooses, State, start, start_machine, repeated, Run, after, does, run, Allocate, Free, Grant, IsLaidOut, Limits, Nothing, Override, Path, Request, env_at, grant, granted, guest_of, listed, origin, planned_next, request_of, serve, site_of, instruction_at, IsAccount, Session, journal_of, items_in, Rules, Recorded, HasRoom, HasSession, IsRecordOf}
 use Rattle.replay.proofs.LineLemmas.{as_many, of_own}
 use Rattle.replay.proofs.ReplayLemmas.{wants_chooses}
 
@@ -54,9 +54,9 @@ length-insert_live new (block ∷ blocks) = of (nat_lt new.0 block.0) (length-in
     of false more = omega (arith, more)
 
 -- an environment that answers with a block had room for one more live block
-block_room : (env : Env) (heap : Heap) (ask : Ask) (served : Served) → IsHeap heap → served_block env heap ask ≡ served → served.choice.at ≢ 0 → length (live_blocks heap.blocks) < most_blocks
-block_room env heap ask served sound is some =
-    let places = subst (Places env heap ask) is (block-places env heap ask sound) in
+block_room : (env : Env) (heap : Heap) (site : Site) (ask : Ask) (served : Served) → IsHeap heap → served_block env heap site ask ≡ served → served.choice.at ≢ 0 → length (live_blocks heap.blocks) < most_blocks
+block_room env heap site ask served sound is some =
+    let places = subst (Places env heap ask) is (block-places env heap site ask sound) in
     let live = live_blocks heap.blocks in
     let new : ℕ × ℕ = (served.choice.at, bytes_asked served.choice.ask) in
     let more : length (live_blocks served.heap.blocks) ≡ length live + 1 =
@@ -70,26 +70,26 @@ in_place_at : (b : Bool) (served : Served) (carried : ℕ) (heap : Heap) → (co
 in_place_at true served carried heap = refl
 in_place_at false served carried heap = refl
 
-served_room : (env : Env) (heap : Heap) (ask : Ask) (served : Served) → IsHeap heap → served_ask env heap ask ≡ Some served → served.choice.at ≢ 0 → length (live_blocks heap.blocks) < most_blocks
+served_room : (env : Env) (heap : Heap) (site : Site) (ask : Ask) (served : Served) → IsHeap heap → served_ask env heap site ask ≡ Some served → served.choice.at ≢ 0 → length (live_blocks heap.blocks) < most_blocks
 unfolding served_ask
-served_room env heap ask served sound is some = of_replaced (replaced ask) is
+served_room env heap site ask served sound is some = of_replaced (replaced ask) is
   where
     block : Served
-    block = served_block env heap ask
+    block = served_block env heap site ask
 
-    of_choice : (other : Served) → other ≡ served → other.choice.at ≡ (served_block env heap ask).choice.at → length (live_blocks heap.blocks) < most_blocks
+    of_choice : (other : Served) → other ≡ served → other.choice.at ≡ (served_block env heap site ask).choice.at → length (live_blocks heap.blocks) < most_blocks
     of_choice other same chosen =
-        block_room env heap ask (served_block env heap ask) sound refl
+        block_room env heap site ask (served_block env heap site ask) sound refl
         (λ null. some (sym (ap (λ (s : Served). s.choice.at) same) ∙ chosen ∙ null))
 
-    over : (old : ℕ) (b : Bool) → cond b (Some (in_place_of env heap old (bytes_asked ask) (served_block env heap ask))) None ≡ Some served → length (live_blocks heap.blocks) < most_blocks
+    over : (old : ℕ) (b : Bool) → cond b (Some (in_place_of env heap site old (bytes_asked ask) (served_block env heap site ask))) None ≡ Some served → length (live_blocks heap.blocks) < most_blocks
     over old true h =
-        of_choice (in_place_of env heap old (bytes_asked ask) (served_block env heap ask)) (same_Some _ served h)
-        (in_place_at ((served_block env heap ask).choice.at == 0) (served_block env heap ask) (carried_over env heap old (bytes_asked ask)) (freed env (served_block env heap ask).heap old))
+        of_choice (in_place_of env heap site old (bytes_asked ask) (served_block env heap site ask)) (same_Some _ served h)
+        (in_place_at ((served_block env heap site ask).choice.at == 0) (served_block env heap site ask) (carried_over env heap old (bytes_asked ask)) (freed env (served_block env heap site ask).heap site old))
     over old false h = absurd (none-some served h)
 
-    of_replaced : (old : Option ℕ) → served_over env heap ask old ≡ Some served → length (live_blocks heap.blocks) < most_blocks
-    of_replaced None h = of_choice (served_block env heap ask) (same_Some _ served h) refl
+    of_replaced : (old : Option ℕ) → served_over env heap site ask old ≡ Some served → length (live_blocks heap.blocks) < most_blocks
+    of_replaced None h = of_choice (served_block env heap site ask) (same_Some _ served h) refl
     of_replaced (Some old) h = over old (is_live_at heap old) h
 
 -- the answer with which an instruction of a served run goes on that wants one
@@ -108,7 +108,7 @@ wants_served limits items env path to {ask = ask} out parts wants = of_request (
         ap (λ (c : Option Choice). after path.state (does (slice_get items path.state.machine.taken) c path.state.machine)) (sym none) ∙ parts.goes in
         none-some to.state (ap (after path.state) (sym (wants_chooses path.state.machine wants (slice_get items path.state.machine.taken) None)) ∙ goes)
 
-    of_request : (request : Request) → granted env path.heap request ≡ Some parts.given → IsServed path to ask
+    of_request : (request : Request) → granted env path.heap (site_of path.state.machine) request ≡ Some parts.given → IsServed path to ask
     of_request Nothing given = absurd (unchosen_not (sym (ap (λ (g : Grant). g.chosen) (same_Some _ parts.given given))))
     of_request (Free at) given =
         let found = map_some _ _ parts.given given in
@@ -120,7 +120,7 @@ wants_served limits items env path to {ask = ask} out parts wants = of_request (
         record {
           choice = served.choice;
           chose = parts.choices ∙ ap (λ (c : Option Choice). path.choices ++ listed c) chosen;
-          room = λ some. let room = served_room env path.heap asked served out.sound found.1 some in let live = ap length out.live in omega (arith, room, live);
+          room = λ some. let room = served_room env path.heap (site_of path.state.machine) asked served out.sound found.1 some in let live = ap length out.live in omega (arith, room, live);
         }
 
 -- of so many steps there is the first, and the others

@@ -15,7 +15,7 @@ pub use Rattle.run_history.proofs.Serves.{ServesTo, map_some, served_follows, se
 pub use Rattle.run_history.proofs.Shapes.{Alone, Keeps, MaySend, Picks, Same, Shape, Takes, does_shape}
 pub use Rattle.link_gate.proofs.ItemLemmas.{item_fits, item_is, received_is}
 pub use Rattle.link_gate.proofs.Ordering.{in_order_shown}
-pub use Rattle.replay.specs.Terms.{Allocate, Answer, Ask, Block, Bounds, Cause, Choice, Chooses, Closed, Coming, Counts, CpuState, Difference, Effect, Emits, Ends, Entry, Fails, Fits, Framing, Free, Gives, Goes, Grant, Guest, HasEnded, Heap, Heard, Image, IsAccount, IsFresh, IsHeap, IsInOrder, IsItemOf, IsLaidOut, IsLastRefused, Item, ItemRefusal, Limits, Line, LinkEvent, LinkFault, Live, Log, MAX_ITEMS, Machine, Marks, MayBegin, Memory, NextShows, Nothing, Open, Override, Path, Phases, Piece, Prefix, Question, ReadFault, Recorded, Refused, Request, Rules, Run, RunsBy, Seen, Send, Session, Standing, State, StaysTold, StillComes, Tells, Told, Turn, Unheeded, Wants, WriteFault, after, bare_item, brought, bytes_asked, chooses, chosen_standing, connections_after, cut_entries, effect, empty_heap, env_at, events_in, events_of, first_items, granted, guest_of, heap_after, hear, hear_parts, heeded, insert_live, is_bare, is_live_at, is_usable, items_by, items_in, items_of, journal_of, last_taken, line_of, listed, live_after, live_blocks, live_of, logged, message_item, most_blocks, origin, phase_after, phases_after, pieces_in, planned_next, quietly, received, recorded_of, recorded_turn, refusal, released, repeated, replaced, request_of, run, same_ask, serve, start_standing, taken_standing, takes, turn_to, unless_event, without_block}
+pub use Rattle.replay.specs.Terms.{Allocate, Answer, Ask, Block, Bounds, Cause, Choice, Chooses, Closed, Coming, Counts, CpuState, Difference, Effect, Emits, Ends, Entry, Fails, Fits, Framing, Free, Gives, Goes, Grant, Guest, HasEnded, Heap, Heard, Image, IsAccount, IsFresh, IsHeap, IsInOrder, IsItemOf, IsLaidOut, IsLastRefused, Item, ItemRefusal, Limits, Line, LinkEvent, LinkFault, Live, Log, MAX_ITEMS, Machine, Marks, MayBegin, Memory, NextShows, Nothing, Open, Override, Path, Phases, Piece, Prefix, Question, ReadFault, Recorded, Refused, Request, Rules, Run, RunsBy, Seen, Send, Session, Site, Standing, State, StaysTold, StillComes, Tells, Told, Turn, Unheeded, Wants, WriteFault, after, bare_item, brought, bytes_asked, chooses, chosen_standing, connections_after, cut_entries, effect, empty_heap, env_at, events_in, events_of, first_items, granted, guest_of, heap_after, hear, hear_parts, heeded, insert_live, is_bare, is_live_at, is_usable, items_by, items_in, items_of, journal_of, last_taken, line_of, listed, live_after, live_blocks, live_of, logged, message_item, most_blocks, origin, phase_after, phases_after, pieces_in, planned_next, quietly, received, recorded_of, recorded_turn, refusal, released, repeated, replaced, request_of, run, same_ask, serve, site_of, start_standing, taken_standing, takes, turn_to, unless_event, without_block}
 unfoldable pub use Rattle.replay.specs.Terms.{allocated, does, grant, heeded_behind, instruction_at, is_allowed, is_block, items_from, next, no_connections, quiet_next, recorded, start, start_machine}
 pub use Rattle.replay.specs.declared.player.Player.{Player}
 pub use Rattle.replay.specs.Giving.{AreGiven, AreGivenInPart, BreaksOff, IsLastSend, found_gone, piece_of}

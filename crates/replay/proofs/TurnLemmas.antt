@@ -3,7 +3,7 @@ use Rattle.rv_isa.specs.declared.instr.Instr.{Instr}
 use Rattle.block_book.proofs.Rooms.{bare-filter}
 use Rattle.run_history.specs.Machine.{Ends}
 use Rattle.guest_cpu.specs.declared.event.Question.TheVariants as question
-use Rattle.replay.proofs.Terms.{Bool, List, None, Option, Some, [], cond, eqb, false, leb, not, refl, subst, true, ℕ, ◌++◌, ◌+◌, ◌<◌, ◌∷◌, ◌≡◌, ◌≤◌, cond_both, leb-false, leb-true, same_Some, Send, Block, Heap, is_bare, is_live_at, without_block, alone_is, next_after, Alone, Keeps, MaySend, Chooses, Effect, Emits, Fails, Goes, Wants, does, next, Allocate, Free, Nothing, Request, request_of, instruction_at, Question, heap_after, recorded, recorded_of, recorded_turn, released, Standing, Turn, turn_to, state_of}
+use Rattle.replay.proofs.Terms.{Bool, List, None, Option, Some, [], cond, eqb, false, leb, not, refl, subst, true, ℕ, ◌++◌, ◌+◌, ◌<◌, ◌∷◌, ◌≡◌, ◌≤◌, cond_both, leb-false, leb-true, same_Some, Send, Block, Site, Heap, is_bare, is_live_at, without_block, alone_is, next_after, Alone, Keeps, MaySend, Chooses, Effect, Emits, Fails, Goes, Wants, does, next, Allocate, Free, Nothing, Request, request_of, site_of, instruction_at, Question, heap_after, recorded, recorded_of, recorded_turn, released, Standing, Turn, turn_to, state_of}
 
 -- one more instruction of a run, which takes no item and no answer of the allocator
 pub record IsStep (old new : Standing) : Type 0 where
@@ -29,16 +29,16 @@ Means old (Some (question.Exits code)) new =
 Means old (Some (question.Failed cause)) new = (new ≡ old) × (does None None old.guest.machine ≡ Fails cause)
 
 -- a free keeps a heap bare
-released_bare : (heap : Heap) (place : ℕ) → is_bare heap ≡ true → is_bare (released heap place) ≡ true
-released_bare heap place bare =
-    cond_both (is_live_at heap place) (without_block heap place) heap (λ h. is_bare h ≡ true)
+released_bare : (heap : Heap) (site : Site) (place : ℕ) → is_bare heap ≡ true → is_bare (released heap site place) ≡ true
+released_bare heap site place bare =
+    cond_both (is_live_at heap place) (without_block heap place site) heap (λ h. is_bare h ≡ true)
     (λ _. bare-filter (λ (block : Block). not (eqb block.at place)) heap.blocks bare)
     (λ _. bare)
 
-after_bare : (request : Request) (heap : Heap) → is_bare heap ≡ true → is_bare (heap_after request heap) ≡ true
-after_bare (Allocate ask) heap bare = bare
-after_bare (Free place) heap bare = released_bare heap place bare
-after_bare Nothing heap bare = bare
+after_bare : (request : Request) (site : Site) (heap : Heap) → is_bare heap ≡ true → is_bare (heap_after request site heap) ≡ true
+after_bare (Allocate ask) site heap bare = bare
+after_bare (Free place) site heap bare = released_bare heap site place bare
+after_bare Nothing site heap bare = bare
 
 -- what a turn says, by the effect of the instruction
 turn_by : (old : Standing) (found : Option Instr) (heap : Heap) (e : Effect) → old.ended ≡ None → (is_bare old.guest.heap ≡ true → is_bare heap ≡ true) → does None None old.guest.machine ≡ e
@@ -81,7 +81,7 @@ turn_means until old {t = t} lives turns = of_test (leb until old.steps) refl tu
         subst (λ (u : Turn Question). Means old u.event u.standing × IsWithin until old.steps u.event) (same_Some (turn_to (Some question.Reached) old None) t h) (refl, leb-true until old.steps is)
     of_test false is h =
         subst (λ (u : Turn Question). Means old u.event u.standing × IsWithin until old.steps u.event) (same_Some (recorded_turn old) t h) (
-          turn_by old (instruction_at old.guest.machine) (heap_after (request_of (instruction_at old.guest.machine) old.guest.machine) old.guest.heap) (does None None old.guest.machine) lives
-              (after_bare (request_of (instruction_at old.guest.machine) old.guest.machine) old.guest.heap) refl,
-          within_by (instruction_at old.guest.machine) (heap_after (request_of (instruction_at old.guest.machine) old.guest.machine) old.guest.heap) old (does None None old.guest.machine) (leb-false until old.steps is),
+          turn_by old (instruction_at old.guest.machine) (heap_after (request_of (instruction_at old.guest.machine) old.guest.machine) (site_of old.guest.machine) old.guest.heap) (does None None old.guest.machine) lives
+              (after_bare (request_of (instruction_at old.guest.machine) old.guest.machine) (site_of old.guest.machine) old.guest.heap) refl,
+          within_by (instruction_at old.guest.machine) (heap_after (request_of (instruction_at old.guest.machine) old.guest.machine) (site_of old.guest.machine) old.guest.heap) old (does None None old.guest.machine) (leb-false until old.steps is),
         )

@@ -13,6 +13,7 @@ pub use Rattle.links.specs.Seen.{NextShows, Seen}
 pub use Rattle.block_book.specs.declared.block.Block.{Block}
 pub use Rattle.block_book.specs.declared.choice.Ask.{Ask}
 pub use Rattle.block_book.specs.declared.choice.Choice.{Choice}
+pub use Rattle.block_book.specs.declared.site.Site.{Site}
 pub use Rattle.block_book.specs.Answer.{bytes_asked, insert_live, live_blocks, replaced, same_ask}
 unfoldable pub use Rattle.block_book.specs.Answer.{is_allowed, is_block}
 pub use Rattle.block_book.specs.Heap.{Heap, IsHeap, empty_heap, is_bare, is_live_at, most_blocks, without_block}
@@ -31,7 +32,7 @@ unfoldable pub use Rattle.run_history.specs.Machine.{no_connections, start, star
 pub use Rattle.run_history.specs.Repeating.{repeated}
 pub use Rattle.run_history.specs.Run.{Run, after, effect, run}
 unfoldable pub use Rattle.run_history.specs.Run.{does, next}
-pub use Rattle.run_history.specs.Served.{Allocate, Free, Grant, Guest, IsLaidOut, Limits, Nothing, Override, Path, Request, env_at, granted, guest_of, listed, origin, planned_next, request_of, serve}
+pub use Rattle.run_history.specs.Served.{Allocate, Free, Grant, Guest, IsLaidOut, Limits, Nothing, Override, Path, Request, env_at, granted, guest_of, listed, origin, planned_next, request_of, serve, site_of}
 unfoldable pub use Rattle.run_history.specs.Served.{grant}
 unfoldable pub use Rattle.run_history.specs.Touching.{instruction_at}
 pub use Rattle.guest_cpu.specs.declared.event.Question.{Question}

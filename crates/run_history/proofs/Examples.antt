@@ -6,7 +6,7 @@ use Rattle.rv_isa.specs.declared.instr.StoreOp.TheVariants.{Sb, Sh, Sw}
 use Rattle.rv_isa.specs.declared.instr.ImmOp.TheVariants.{Addi, Srai}
 use Rattle.rv_isa.specs.declared.instr.RegOp.TheVariants.{Add, Div}
 use Rattle.guest_image.proofs.Examples.{echo_bytes, echo_image}
-use Rattle.run_history.proofs.Terms.{Bool, List, None, Option, Some, [], false, map, refl, replicate, true, ℕ, ◌++◌, ◌∷◌, ◌≡◌, flat_map, negsuc, option_and_then, pos, Item, sent_to, Calloc, Malloc, Realloc, Choice, is_allowed, is_block, is_clear, may_carry, Branch, Ecall, Jal, Load, Lui, Op, OpImm, Store, displaced, extended, indirect_target, is_less_signed, quotient_signed, shifted_right_signed, word_sum, base_op, branch_op, branch_row, imm_op, imm_row, load_op, load_row, op_row, reg_op, row, store_op, store_row, system_row, funct3, funct7, imm_b, imm_i, imm_j, imm_s, imm_u, little_bytes, little_number, opcode, rd, rs1, rs2, base, heap_end, heap_start, zeros, Area, permitted, read, AssertFailed, BadAccess, BadCall, BadFree, BadJump, Hang, Chooses, Emits, Ends, Fails, Goes, Machine, State, register, start_machine, with_register, auipc, branch, ebreak, fence, jal, jalr, load, op, op_imm, store, allocated, answered, call, freed, received, send, set_bytes, does, instruction, next, run, Guest, Limits, Override, env_at, serves}
+use Rattle.run_history.proofs.Terms.{Bool, List, None, Option, Some, [], false, map, refl, replicate, true, ℕ, ◌++◌, ◌∷◌, ◌≡◌, flat_map, negsuc, option_and_then, pos, Item, sent_to, Calloc, Malloc, Realloc, Choice, is_allowed, is_block, is_clear, may_carry, empty_heap, Branch, Ecall, Jal, Load, Lui, Op, OpImm, Store, displaced, extended, indirect_target, is_less_signed, quotient_signed, shifted_right_signed, word_sum, base_op, branch_op, branch_row, imm_op, imm_row, load_op, load_row, op_row, reg_op, row, store_op, store_row, system_row, funct3, funct7, imm_b, imm_i, imm_j, imm_s, imm_u, little_bytes, little_number, opcode, rd, rs1, rs2, base, heap_end, heap_start, zeros, Area, permitted, read, AssertFailed, BadAccess, BadCall, BadFree, BadJump, Hang, Chooses, Emits, Ends, Fails, Goes, Machine, State, register, start_machine, with_register, auipc, branch, ebreak, fence, jal, jalr, load, op, op_imm, store, allocated, answered, call, freed, received, send, set_bytes, does, instruction, next, run, Guest, Limits, Override, env_at, serves}
 
 -- A program that sends back each message. Its words, as an assembler gives them:
 abbrev pub echo : List ℕ
@@ -519,7 +519,7 @@ abbrev pub forbidding : ℕ → Limits
 forbidding budget = record { budget = budget; permits = λ heap at count. false; keep = 4; base = Plain }
 
 abbrev pub guest : ℕ → Guest
-guest pc = record { machine = record waiting { pc = pc }; heap = record { start = 0x1000; end = 0x2000; blocks = [] } }
+guest pc = record { machine = record waiting { pc = pc }; heap = empty_heap 0x1000 0x2000 }
 
 pub hang_first : serves (forbidding 0) Plain None (guest 5000) ≡ Fails Hang
 unfolding serves

@@ -1,7 +1,7 @@
 -- Along a served run the live blocks of the machine are those of the layout of its heap, so each ask is answered.
 use Rattle.alloc_env.proofs.Mallocs.{ask-serves}
 use Rattle.alloc_env.proofs.Frees.{free-follows}
-use Rattle.run_history.proofs.Terms.{Bool, List, Some, ap, cond, false, refl, subst, sym, true, ℕ, ◌∙◌, ◌≡◌, none-some, same_Some, slice_get, Item, Ask, Choice, live_blocks, live_with, without_live, Heap, IsHeap, Env, Served, Chooses, Effect, Emits, Ends, Fails, Goes, Machine, State, Wants, register, allocated, allocation, free, freed, after, does, instruction_at, Allocate, Free, Grant, IsLaidOut, Limits, Nothing, Path, Request, grant, granted, guest_of, request_of}
+use Rattle.run_history.proofs.Terms.{Bool, List, Some, ap, cond, false, refl, subst, sym, true, ℕ, ◌∙◌, ◌≡◌, none-some, same_Some, slice_get, Item, Ask, Choice, live_blocks, live_with, without_live, Heap, IsHeap, Env, Served, Chooses, Effect, Emits, Ends, Fails, Goes, Machine, State, Wants, register, allocated, allocation, free, freed, after, does, instruction_at, Allocate, Free, Grant, IsLaidOut, Limits, Nothing, Path, Request, grant, granted, guest_of, request_of, site_of}
 use Rattle.run_history.proofs.Serves.{ServesTo, allocates, chosen_after, map_some}
 use Rattle.run_history.proofs.Blocks.{SameHeap, LeavesHeap, does_leaves, frees, requested_address}
 
@@ -46,7 +46,7 @@ laid_out_next limits items env path to out parts = of_request (request_of (instr
     with_heap : (heap : Heap) → parts.given.heap ≡ heap → IsLaidOut (record { machine = to.state.machine; heap = heap }) → IsLaidOut (guest_of to)
     with_heap heap is out = subst (λ h. IsLaidOut (record { machine = to.state.machine; heap = h })) (sym (parts.heap ∙ is)) out
 
-    of_request : (request : Request) → request_of (instruction_at path.state.machine) path.state.machine ≡ request → granted env path.heap request ≡ Some parts.given → IsLaidOut (guest_of to)
+    of_request : (request : Request) → request_of (instruction_at path.state.machine) path.state.machine ≡ request → granted env path.heap (site_of path.state.machine) request ≡ Some parts.given → IsLaidOut (guest_of to)
     of_request Nothing asked given =
         let same = same_Some _ parts.given given in
         let kept = left_after path.state to.state _ (does_leaves path.state.machine (slice_get items path.state.machine.taken) parts.given.chosen asked) parts.goes in
@@ -55,7 +55,7 @@ laid_out_next limits items env path to out parts = of_request (request_of (instr
     of_request (Allocate ask) asked given =
         let found = map_some _ _ parts.given given in
         let served : Served = found.0 in
-        let law = ask-serves env path.heap ask served out.sound found.1 in
+        let law = ask-serves env path.heap (site_of path.state.machine) ask served out.sound found.1 in
         let chosen : parts.given.chosen ≡ Some served.choice = sym (ap (λ (g : Grant). g.chosen) found.2) in
         let goes : after path.state (allocation ask (Some served.choice) path.state.machine) ≡ Some to.state =
         ap (after path.state) (sym (allocates path.state.machine ask asked (slice_get items path.state.machine.taken) (Some served.choice)))
@@ -67,7 +67,7 @@ laid_out_next limits items env path to out parts = of_request (request_of (instr
         (kept.0 ∙ ap (live_with served.choice) out.live) law.live)
     of_request (Free at) asked given =
         let found = map_some _ _ parts.given given in
-        let law = free-follows env path.heap found.0 at out.sound found.1 in
+        let law = free-follows env path.heap found.0 (site_of path.state.machine) at out.sound found.1 in
         let goes : after path.state (free path.state.machine) ≡ Some to.state =
         ap (after path.state) (sym (frees path.state.machine at asked (slice_get items path.state.machine.taken) parts.given.chosen)) ∙ parts.goes in
         let kept = freed_after path.state to.state goes in

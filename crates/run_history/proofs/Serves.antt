@@ -1,5 +1,5 @@
 -- A served run is a run: its asks took the choices of the environments, each in its turn.
-use Rattle.run_history.proofs.Terms.{Bool, List, None, Option, Some, [], add-zero, ap, append-nil, append_assoc, arith, cond, eqb, false, inl, inr, leb, length, length-append, refl, subst, suc, sym, true, zero, ℕ, ◌++◌, ◌+◌, ◌<◌, ◌∙◌, ◌∷◌, ◌≡◌, cases_Bool, eqb-true, leb-false, none-some, option_and_then_some, same_Some, is_some, option_and_then, option_map, slice_get, Item, Ask, Calloc, Malloc, Realloc, Choice, is_allowed, is_defined, Env, Instr, Ecall, row, Image, execute, permitted, BadAccess, BadFree, Hang, Chooses, Effect, Emits, Ends, Fails, Goes, Machine, State, Wants, register, start, start_machine, allocated, allocation, call, chooses, takes, Run, after, does, executed, instruction, next, run, word_at, instruction_at, touched, Allocate, Free, Grant, Guest, Limits, Nothing, Override, Path, Request, call_request, does_with, env_at, grant, granted, guest_of, is_refused, listed, longer, origin, planned_next, request_of, serve, served_next, serves}
+use Rattle.run_history.proofs.Terms.{Bool, List, None, Option, Some, [], add-zero, ap, append-nil, append_assoc, arith, cond, eqb, false, inl, inr, leb, length, length-append, refl, subst, suc, sym, true, zero, ℕ, ◌++◌, ◌+◌, ◌<◌, ◌∙◌, ◌∷◌, ◌≡◌, cases_Bool, eqb-true, leb-false, none-some, option_and_then_some, same_Some, is_some, option_and_then, option_map, slice_get, Item, Ask, Calloc, Malloc, Realloc, Choice, is_allowed, is_defined, Env, Instr, Ecall, row, Image, execute, permitted, BadAccess, BadFree, Hang, Chooses, Effect, Emits, Ends, Fails, Goes, Machine, State, Wants, register, start, start_machine, allocated, allocation, call, chooses, takes, Run, after, does, executed, instruction, next, run, word_at, instruction_at, touched, Allocate, Free, Grant, Guest, Limits, Nothing, Override, Path, Request, call_request, does_with, env_at, grant, granted, guest_of, is_refused, listed, longer, origin, planned_next, request_of, serve, served_next, serves, site_of}
 use Rattle.run_history.proofs.Repeats.{repeated_as}
 use Rattle.run_history.proofs.Shapes.{Shape, Same, Takes, Picks, does_shape, Alone}
 use Rattle.run_history.proofs.Runs.{IsSettled, Extends, extends_longer, settled_after, does_more, extends_same, next_after, run_chosen, element_behind, element_none, allocated_keeps, received_keeps}
@@ -14,7 +14,7 @@ pub data Asked (env : Env) (guest : Guest) (given : Grant) : Type 0 where
   Chosen : (ask : Ask) (choice : Choice) → request_of (instruction_at guest.machine) guest.machine ≡ Allocate ask → given.chosen ≡ Some choice → Asked env guest given
   Unchosen : given.chosen ≡ None → Asked env guest given
 
-asked_of : (env : Env) (guest : Guest) (given : Grant) (request : Request) → request_of (instruction_at guest.machine) guest.machine ≡ request → granted env guest.heap request ≡ Some given → Asked env guest given
+asked_of : (env : Env) (guest : Guest) (given : Grant) (request : Request) → request_of (instruction_at guest.machine) guest.machine ≡ request → granted env guest.heap (site_of guest.machine) request ≡ Some given → Asked env guest given
 asked_of env guest given (Allocate ask) is h =
     let p = map_some _ _ given h in Chosen ask _ is (ap (λ (g : Grant). g.chosen) (sym p.2))
 asked_of env guest given (Free at) is h =

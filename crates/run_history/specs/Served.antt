@@ -1,6 +1,7 @@
 -- A served run: malloc, calloc, realloc and free are answered by the environment in force, an access rule is asked for each byte that is
 -- touched, and a budget bounds the instructions between two items.
 use Rattle.std.specs.Prelude.{◌≡◌, ℕ, ◌+◌, Bool, false, not, List, [], ◌∷◌, ◌++◌, Option, Some, None, is_some, option_map, slice_get, nat_le, nat_lt, if◌then◌else◌, ◌==◌}
+use Rattle.block_book.specs.declared.site.Site.{Site}
 use Rattle.run_history.specs.Terms.{Item, Ask, Calloc, Malloc, Realloc, Choice, live_blocks, Heap, IsHeap, empty_heap, Env, served_ask, served_free, Instr, Ecall, Image, heap_end, heap_start, Cause, BadAccess, BadFree, Hang}
 use Rattle.run_history.specs.Machine.{Machine, State, register, start, Effect, Wants, Fails}
 use Rattle.run_history.specs.Run.{does, after}
@@ -46,20 +47,25 @@ abbrev pub request_of : Option Instr → Machine → Request
 request_of (Some Ecall) m = call_request (register m 17) m
 request_of _ m = Nothing
 
+-- where a machine stands that asks: its instruction, what it has in x1 (RISC-V ELF psABI, "Integer Register Convention": the address that a function
+-- returns to), and how many items it has taken
+abbrev pub site_of : Machine → Site
+site_of m = record { pc = m.pc; caller = register m 1; taken = m.taken }
+
 -- what the allocator answers: a choice where a block was asked for, and the layout after it
 pub record Grant : Type 0 where
   pub chosen : Option Choice
   pub heap : Heap
 
--- the answer of an environment; none to a free that it refuses, nor to a realloc of what is no live block
-abbrev pub granted : Env → Heap → Request → Option Grant
-granted env heap (Allocate ask) = option_map (λ served. record { chosen = Some served.choice; heap = served.heap }) (served_ask env heap ask)
-granted env heap (Free at) = option_map (λ after. record { chosen = None; heap = after }) (served_free env heap at)
-granted env heap Nothing = Some (record { chosen = None; heap = heap })
+-- the answer of an environment to a request from a site; none to a free that it refuses, nor to a realloc of what is no live block
+abbrev pub granted : Env → Heap → Site → Request → Option Grant
+granted env heap site (Allocate ask) = option_map (λ served. record { chosen = Some served.choice; heap = served.heap }) (served_ask env heap site ask)
+granted env heap site (Free at) = option_map (λ after. record { chosen = None; heap = after }) (served_free env heap site at)
+granted env heap site Nothing = Some (record { chosen = None; heap = heap })
 
 -- what an environment answers to the instruction at which a guest stands
 unfoldable pub grant : Env → Guest → Option Grant
-grant env guest = granted env guest.heap (request_of (instruction_at guest.machine) guest.machine)
+grant env guest = granted env guest.heap (site_of guest.machine) (request_of (instruction_at guest.machine) guest.machine)
 
 -- the rule refuses a range
 abbrev pub is_refused : Limits → Heap → Option Range → Bool

@@ -4,7 +4,9 @@ use Rattle.std.specs.Coded.{Coded, code_by, coded_bool, coded_list, coded_option
 use Rattle.links.specs.contracts.journal.LinkEvent as link_event
 use Rattle.block_book.specs.contracts.block.Block as block
 use Rattle.block_book.specs.contracts.choice.Choice as choice
+use Rattle.block_book.specs.contracts.site.Freed as freed
 use Rattle.block_book.specs.declared.block.Block.{Block}
+use Rattle.block_book.specs.declared.site.Freed.{Freed}
 use Rattle.alloc_env.specs.contracts.env.Env as env
 use Rattle.guest_image.specs.Memory.{Area}
 use Rattle.session_state.specs.Terms.{Send, LinkEvent, Choice, Heap, Env, Machine, State, Override, Path, Before}
@@ -29,7 +31,7 @@ abbrev pub state_code : Coded State
 state_code = code_by (Machine × (List Send × Option ℕ)) (coded× machine_code (coded× (coded_list send_code) (coded_option coded_ℕ))) (λ s. (s.machine, (s.sends, s.ended))) (λ p. record { machine = p.0; sends = p.1.0; ended = p.1.1 }) (λ _. refl)
 
 abbrev pub heap_code : Coded Heap
-heap_code = code_by (ℕ × (ℕ × List Block)) (coded× coded_ℕ (coded× coded_ℕ (coded_list block.the_row.coded))) (λ h. (h.start, (h.end, h.blocks))) (λ p. record { start = p.0; end = p.1.0; blocks = p.1.1 }) (λ _. refl)
+heap_code = code_by (ℕ × (ℕ × (List Block × List Freed))) (coded× coded_ℕ (coded× coded_ℕ (coded× (coded_list block.the_row.coded) (coded_list freed.the_row.coded)))) (λ h. (h.start, (h.end, (h.blocks, h.freed)))) (λ p. record { start = p.0; end = p.1.0; blocks = p.1.1.0; freed = p.1.1.1 }) (λ _. refl)
 
 abbrev pub path_code : Coded Path
 path_code = code_by (State × (Heap × (List Choice × ℕ))) (coded× state_code (coded× heap_code (coded× (coded_list choice.the_row.coded) coded_ℕ))) (λ p. (p.state, (p.heap, (p.choices, p.steps)))) (λ q. record { state = q.0; heap = q.1.0; choices = q.1.1.0; steps = q.1.1.1 }) (λ _. refl)

@@ -1,7 +1,7 @@
 -- A run that stands at its request for an item asks nothing of the allocator there, so that no environment matters.
 use Rattle.run_history.proofs.Blocks.{frees}
 use Rattle.run_history.proofs.Wanting.{never_allocates}
-use Rattle.trials.proofs.Terms.{List, None, Option, Some, ap, cond, leb, refl, sym, ℕ, ◌∙◌, ◌≡◌, is_some, option_map, slice_get, Item, Choice, Env, BadAccess, Hang, allocates, freed, Effect, Fails, Goes, Wants, register, after, does, Allocate, AsksFor, Free, Grant, Guest, Limits, Nothing, Override, Path, Request, does_with, env_at, grant, granted, guest_of, is_refused, longer, planned_next, request_of, served_next, serves, instruction_at, touched, waits_of, AsksUnderAll}
+use Rattle.trials.proofs.Terms.{List, None, Option, Some, ap, cond, leb, refl, sym, ℕ, ◌∙◌, ◌≡◌, is_some, option_map, slice_get, Item, Choice, Env, BadAccess, Hang, allocates, freed, Effect, Fails, Goes, Wants, register, after, does, Allocate, AsksFor, Free, Grant, Guest, Limits, Nothing, Override, Path, Request, does_with, env_at, grant, granted, guest_of, is_refused, longer, planned_next, request_of, served_next, serves, site_of, instruction_at, touched, waits_of, AsksUnderAll}
 
 -- the request of the guest's instruction
 abbrev request_at : Guest → Request
@@ -21,7 +21,7 @@ idle limits env guest asks =
 -- where nothing is asked of it, each environment answers the same
 pub granted_idle : (env : Env) (guest : Guest) → request_at guest ≡ Nothing → grant env guest ≡ Some (record { chosen = None; heap = guest.heap })
 unfolding grant
-granted_idle env guest none = ap (granted env guest.heap) none
+granted_idle env guest none = ap (granted env guest.heap (site_of guest.machine)) none
 
 pub grants_same : (env other : Env) (guest : Guest) → request_at guest ≡ Nothing → grant env guest ≡ grant other guest
 grants_same env other guest none = granted_idle env guest none ∙ sym (granted_idle other guest none)

@@ -31,7 +31,7 @@ standing taken = record {
         sends = [];
         ended = None;
       };
-  heap = record { start = 0; end = 0; blocks = [] };
+  heap = record { start = 0; end = 0; blocks = []; freed = [] };
   choices = [];
   steps = 0;
 }

@@ -12,7 +12,7 @@ pub use Rattle.session_history.proofs.Growing.{ByChoice, ByEnd, ByItem, ByItself
 pub use Rattle.session_history.proofs.Passing.{all_until, none_until, timed_on}
 pub use Rattle.session_history.proofs.Paths.{served_on, served_same, served_with}
 pub use Rattle.session_history.proofs.Sessions.{entries_of-then, piece_due, serving_account, serving_adopts, serving_event, serving_first, serving_on, serving_piece}
-pub use Rattle.trials.specs.Terms.{All, Allocate, AreBetween, AreDue, AreGiven, AreLawful, AsksFor, BadAccess, Bounds, Cause, Chapter, Choice, Covers, Delay, Effect, Entry, Env, Fails, FailsBy, Free, Goes, Grant, Guest, Hang, Image, IsDue, IsDueAt, IsDueEvent, IsDuePiece, IsPrompt, Isolate, Item, Latest, LeavesNothing, Limits, Machine, Nothing, Override, Pad, Path, Place, Plain, Prefix, Request, Rules, Send, Served, Serving, Stands, State, Survivor, Tried, Wants, Zero, after, after_ending, does_with, entries_of, env_at, first_survivor, from_there, gone_on, granted, guest_of, is_refused, items_in, journal_of, latest, longer, moment_at, moment_of, origin, output, passed_in, place_of, planned_next, received, register, request_of, sent_to, serve, survives, takes, until}
+pub use Rattle.trials.specs.Terms.{All, Allocate, AreBetween, AreDue, AreGiven, AreLawful, AsksFor, BadAccess, Bounds, Cause, Chapter, Choice, Covers, Delay, Effect, Entry, Env, Fails, FailsBy, Free, Goes, Grant, Guest, Hang, Image, IsDue, IsDueAt, IsDueEvent, IsDuePiece, IsPrompt, Isolate, Item, Latest, LeavesNothing, Limits, Machine, Nothing, Override, Pad, Path, Place, Plain, Prefix, Request, Rules, Send, Served, Serving, Stands, State, Survivor, Tried, Wants, Zero, after, after_ending, does_with, entries_of, env_at, first_survivor, from_there, gone_on, granted, guest_of, is_refused, items_in, journal_of, latest, longer, moment_at, moment_of, origin, output, passed_in, place_of, planned_next, received, register, request_of, sent_to, serve, site_of, survives, takes, until}
 unfoldable pub use Rattle.trials.specs.Terms.{agree, does, freed, grant, instruction_at, served_next, serves, start, start_machine, touched}
 pub use Rattle.trials.specs.Trials.{ComesTo, IsBehindAt, IsContradicted, IsPast, IsTrial, IsUnharmed, plan_of_trial}
 pub use Rattle.trials.specs.Tables.{Chance, IsRight, Trial, WalksOver, chances_at, environments, survivor_in, table}

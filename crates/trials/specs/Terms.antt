@@ -16,7 +16,7 @@ pub use Rattle.run_history.specs.Machine.{Effect, Fails, Goes, Machine, State, W
 unfoldable pub use Rattle.run_history.specs.Machine.{start, start_machine}
 pub use Rattle.run_history.specs.Run.{after, output}
 unfoldable pub use Rattle.run_history.specs.Run.{does}
-pub use Rattle.run_history.specs.Served.{Allocate, AsksFor, FailsBy, Free, Grant, Guest, Limits, Nothing, Override, Path, Request, Served, does_with, env_at, granted, guest_of, is_refused, longer, origin, planned_next, request_of, serve}
+pub use Rattle.run_history.specs.Served.{Allocate, AsksFor, FailsBy, Free, Grant, Guest, Limits, Nothing, Override, Path, Request, Served, does_with, env_at, granted, guest_of, is_refused, longer, origin, planned_next, request_of, serve, site_of}
 unfoldable pub use Rattle.run_history.specs.Served.{grant, served_next, serves}
 unfoldable pub use Rattle.run_history.specs.Touching.{instruction_at, touched}
 pub use Rattle.session_history.specs.Account.{IsAccount, Session, after_ending, journal_of}

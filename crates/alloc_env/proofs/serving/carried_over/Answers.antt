@@ -1,4 +1,4 @@
-use Rattle.alloc_env.proofs.Terms.{ap, arith, min, sym, ℕ, ◌+◌, ◌-◌, ◌∙◌, ◌≡◌, unwrap_or, reach_at, reserved_size, Treatment, treatment_of}
+use Rattle.alloc_env.proofs.Terms.{ap, arith, min, sym, ℕ, ◌+◌, ◌-◌, ◌∙◌, ◌≡◌, unwrap_or, reserved_size, reach_at, Treatment, treatment_of}
 use Rattle.alloc_env.proofs.Mallocs.{carried-none, carried-some, reach-small}
 use Rattle.alloc_env.proofs.serving.carried_over.Goals as goal
 

@@ -1,4 +1,4 @@
-use Rattle.guest_cpu.proofs.Terms.{None, refl, subst, sym, ◌≡◌, Ask, bytes_asked, live_blocks, replaced, kept_count, flat, machine_of, set_range}
+use Rattle.guest_cpu.proofs.Terms.{None, refl, subst, sym, ◌≡◌, Ask, bytes_asked, kept_count, live_blocks, replaced, flat, machine_of, set_range}
 use Rattle.guest_cpu.proofs.PlaceLemmas.{allowed_asked}
 use Rattle.guest_cpu.proofs.CoreLemmas.{allocated_turn, bad_turn}
 use Rattle.guest_cpu.proofs.calling.allocate.Goals as goal
@@ -22,11 +22,11 @@ returns-in-Ok-clause-turned g c =
     let was_set = c.set_block.ensures (machine_of core (flat c.args.space.now)) refl kept in
     record {
       written = set_range (live_blocks core.book.blocks) c.in-Ok.choice;
-      turns = allocated_turn c.args.env core c.answer.new.self c.serve_ask.new.book c.in-Ok.choice c.args.ask (flat c.args.space.now) (flat c.set_block.new.space)
-          c.in-Ok.ensures.answer c.in-Ok.ensures.allowed c.in-Ok.ensures.live c.in-Ok.ensures.ends was_set.0 c.answer.ensures;
+      turns = allocated_turn c.args.env core c.answer.new.self c.serve_ask.new.book c.site-site.result c.in-Ok.choice c.args.ask (flat c.args.space.now) (flat c.set_block.new.space)
+          c.site-site.ensures c.in-Ok.ensures.answer c.in-Ok.ensures.allowed c.in-Ok.ensures.live c.in-Ok.ensures.ends was_set.0 c.answer.ensures;
       wrote = was_set.1;
     }
 
 pub returns-in-Err-clause-turned : goal.returns-in-Err-clause-turned
 returns-in-Err-clause-turned g c =
-    record { written = None; turns = bad_turn c.args.env c.args.core.now c.serve_ask.new.book c.args.ask (flat c.args.space.now) c.in-Err.ensures.answer; wrote = refl }
+    record { written = None; turns = bad_turn c.args.env c.args.core.now c.serve_ask.new.book c.site-site.result c.args.ask (flat c.args.space.now) c.site-site.ensures c.in-Err.ensures.answer; wrote = refl }

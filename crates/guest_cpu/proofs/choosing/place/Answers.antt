@@ -22,5 +22,5 @@ returns-then-not-put-clause-answer c =
 
 pub returns-clause-live : goal.returns-clause-live
 returns-clause-live c = λ done.
-    placed_live c.args.book.now c.put.new.self c.release_over.new.book c.args.choice c.in-Some.size c.sound.ensures.heap c.if-choice-eq0.false c.in-Some.ensures.0
+    placed_live c.args.book.now c.put.new.self c.release_over.new.book c.args.site c.args.choice c.in-Some.size c.sound.ensures.heap c.if-choice-eq0.false c.in-Some.ensures.0
     (rw c.if-not-put.false at c.put.ensures.added) c.release_over.ensures.heap

@@ -27,7 +27,7 @@ add-requires c =
     let heap = c.args.self.now in
     let few : length heap.blocks < most_blocks = subst (λ (h : Heap). length h.blocks < most_blocks) c.self.view_is (omega arith) in
     let count : c.reserved_size.result + 2 * c.from.result ≡ reserved_size c.args.size + 2 * c.args.side = omega (arith, c.reserved_size.ensures.value) in
-    place-room heap c.args.size c.args.side c.args.from c.in_ok-at.field-0 few c.requires.multiple c.requires.small
+    place-room heap c.args.size c.args.side c.args.from c.in_ok-at.field-0 c.args.made few c.requires.multiple c.requires.small
     (fit-fits heap (reserved_size c.args.size + 2 * c.args.side) c.args.from c.in_ok-at.field-0 (sym (c.in_ok-at.ensures.answer ∙ ap (λ n. fit heap n c.args.from) count)))
 
 pub returns-clause-answer : goal.returns-clause-answer
