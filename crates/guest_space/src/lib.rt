@@ -3,7 +3,8 @@
 //! All goes byte by byte, exact at the ends of each span and at any alignment.
 //! `read_bytes`, `write_bytes` and `zero` require that these bytes may be touched, and don't test it.
 //! Who calls them asks `allows` before.
-//! `fetch_by`, `load_by`, `store_by`, `load_from` and `store_from` are quick ways that may find nothing. `fetch`, `load` and `store` decide.
+//! `fetch_by`, `load_by`, `store_by`, `load_from`, `store_from`, `load_within` and `store_within` are quick ways that may find nothing.
+//! `fetch`, `load` and `store` decide.
 //! An `AccessRule` says what else has to hold of an access, by the blocks of the heap. `AllMapped` refuses nothing.
 //! `make` makes a table of the words of the first span that may be executed and not written, and no call changes these.
 //! Only `make` and `read_bytes` take memory.
@@ -13,6 +14,7 @@ mod access_rule;
 mod bad_access;
 mod code;
 mod filling;
+mod number;
 mod saving;
 mod space;
 mod span;

@@ -1,7 +1,7 @@
 // The memory of a guest: spans of a window of pages.
 ghost use Rattle.std.specs.Prelude.{◌≡◌, ◌==◌, ◌+◌, ◌-◌, ◌*◌, ◌/◌, ◌%◌, ◌^◌, ◌<◌, ◌≤◌, length, take, drop, replicate, true, false, Some, None, is_some, IsSome, IfOk, Ok, IfSome, MatchBool, slice_get, slice_set, if◌then◌else◌, ◌⊎◌};
 ghost use Rattle.std.specs.Bool.{OnFalse, OnTrue};
-ghost use Rattle.rv_isa.specs.Words.{little_bytes, little_number};
+ghost use Rattle.rv_isa.specs.Words.{little_bytes};
 ghost use Rattle.guest_image.specs.Memory.{permitted, bytes_at};
 ghost use Rattle.cow_pages.specs.Pages.{slot_at, used_of, held_of};
 ghost use Rattle.cow_pages.specs.Writes.{StandsAt, is_shared};
@@ -13,6 +13,7 @@ ghost use Rattle.guest_space.specs.Windows.{IsWindow, IsOfPage, AreWindows, HasA
 
 use crate::code::code_of;
 use crate::filling::{fill, spans_of};
+use crate::number::number_of;
 use crate::span::{
     EXECUTE, READ, Span, WRITE, are_held, each_has, one_has, stretch_at, stretch_of,
 };
@@ -210,7 +211,7 @@ impl GuestSpace {
 
     /// The number of one, two or four bytes from an address on, the lowest first, found by the window of a register, which is moved
     /// there where it doesn't have the address. None where four bytes from there may not be read, or are in two pages.
-    #[inline(always)]
+    #[inline(never)]
     pub fn load_from(&self, windows: &mut Windows, register: u8, at: u32, size: u32) -> Option<u32>
         requires register { register < 32 }
         requires some { 0 < size }
@@ -220,16 +221,18 @@ impl GuestSpace {
         ensures value { IfSome result (λ value. Reads 4 (flat self.now) at size (Ok value)) }
         ensures few { IfSome result (λ value. value < 2 ^ (8 * size)) }
     {
-        if !self.finds(windows, register, at) {
+        if let Some(value) = self.load_within(windows, register, at, size) {
+            return Some(value);
+        }
+        if !self.finds_elsewhere(windows, register, at) {
             return None;
         }
-        let window = windows.loads.of(register);
-        self.number_from(at, size, (window.place + (at - window.start)) as usize)
+        self.load_within(windows, register, at, size)
     }
 
     /// Puts the low bytes of a number, one, two or four, from an address on, the lowest first, found by the window of a register,
     /// which is moved there where it doesn't have the address. Else nothing changed.
-    #[inline(always)]
+    #[inline(never)]
     pub fn store_from(
         &mut self,
         windows: &mut Windows,
@@ -256,8 +259,52 @@ impl GuestSpace {
         )
     }
 
-    /// So many bytes from an address on. It requires that they may be read, which `allows` tests, and refuses nothing: the
-    /// only error is want of memory.
+    /// As `load_from`, where the window of the register has the address. Else None.
+    #[inline(always)]
+    pub fn load_within(&self, windows: &Windows, register: u8, at: u32, size: u32) -> Option<u32>
+        requires register { register < 32 }
+        requires some { 0 < size }
+        requires small { size ≤ 4 }
+        requires holds { AreWindows self.now windows.now }
+        ensures value { IfSome result (λ value. Reads 4 (flat self.now) at size (Ok value)) }
+        ensures few { IfSome result (λ value. value < 2 ^ (8 * size)) }
+    {
+        let window = windows.loads.of(register);
+        if !window.has(at) {
+            return None;
+        }
+        self.number_from(at, size, (window.place + (at - window.start)) as usize)
+    }
+
+    /// As `store_from`, where the window of the register has the address. Else nothing changed.
+    #[inline(always)]
+    pub fn store_within(
+        &mut self,
+        windows: &Windows,
+        register: u8,
+        at: u32,
+        size: u32,
+        value: u32,
+    ) -> bool
+        requires register { register < 32 }
+        requires small { size ≤ 4 }
+        requires holds { AreWindows self.old windows.now }
+        ensures holds { AreWindows self.new windows.now }
+        ensures stored { MatchBool result ((permitted 2 (flat self.old) at size ≡ true) × Puts self.old at (little_bytes size value) self.new) (self.new ≡ self.old) }
+    {
+        let window = windows.stores.of(register);
+        if !window.has(at) {
+            return false;
+        }
+        self.put_from(
+            at,
+            size,
+            value,
+            (window.place + (at - window.start)) as usize,
+        )
+    }
+
+    /// So many bytes from an address on, which may be read: `allows` tests it. The only error is want of memory.
     pub fn read_bytes(&self, alloc: Global, at: u32, len: u32) -> Result<Vec<u8>, AllocError>
         requires { permitted 4 (flat self.now) at len ≡ true }
         ensures { IfOk result (λ bytes. bytes.items ≡ bytes_at 4 (flat self.now) at len) }
@@ -566,20 +613,6 @@ impl GuestSpace {
         }
     }
 
-    // Whether the window of a register for loads has an address. It is moved there where it doesn't.
-    #[inline(always)]
-    fn finds(&self, windows: &mut Windows, register: u8, at: u32) -> bool
-        requires register { register < 32 }
-        requires holds { AreWindows self.now windows.old }
-        ensures holds { AreWindows self.now windows.new }
-        ensures has { OnTrue result (HasAddress (load_window windows.new register) at) }
-    {
-        if windows.loads.of(register).has(at) {
-            return true;
-        }
-        self.finds_elsewhere(windows, register, at)
-    }
-
     // Moves the window of a register for loads to an address, where one was found of late, and says whether it has it then.
     #[cold]
     #[inline(never)]
@@ -615,7 +648,7 @@ impl GuestSpace {
         window.has(at)
     }
 
-    // The number of one, two or four bytes that stand from a place on.
+    // The number of one, two or four bytes from a place on.
     #[inline(always)]
     fn number_from(&self, at: u32, size: u32, place: usize) -> Option<u32>
         requires some { 0 < size }
@@ -634,8 +667,7 @@ impl GuestSpace {
         }
     }
 
-    // Puts one, two or four bytes of a number where the window of a register doesn't have the address, which is moved there. Else
-    // nothing changed.
+    // Puts one, two or four bytes of a number, to whose address the window of a register is moved. Else nothing changed.
     #[cold]
     #[inline(never)]
     fn store_elsewhere(
@@ -763,22 +795,5 @@ impl GuestSpace {
         }
         self.write_bytes(at, bytes);
         Ok(())
-    }
-}
-
-// The number of at most four bytes, the lowest first.
-#[inline(always)]
-fn number_of(bytes: &[u8]) -> u32
-    requires { length bytes.now ≤ 4 }
-    ensures value { result ≡ little_number bytes.now }
-    ensures few { result < 2 ^ (8 * length bytes.now) }
-{
-    match *bytes {
-        [] => 0,
-        [a] => u32::from(a),
-        [a, b] => u32::from(a) + 256 * u32::from(b),
-        [a, b, c] => u32::from(a) + 256 * (u32::from(b) + 256 * u32::from(c)),
-        [a, b, c, d, ..] => u32::from(a)
-            + 256 * (u32::from(b) + 256 * (u32::from(c) + 256 * u32::from(d))),
     }
 }

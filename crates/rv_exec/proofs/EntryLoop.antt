@@ -1,9 +1,10 @@
 -- The entries of a memory's code, done one after another.
 use Rattle.std.specs.Prelude.{◌-◌}
+use Rattle.code_table.specs.Tables.{Table}
 use Rattle.code_table.specs.declared.entry.EntryOp.TheVariants as op
 use Rattle.guest_space.proofs.EntryLemmas.{word_of, fetches_code, entry_is, entry_stops, entry_linked, code_below, code_count}
-use Rattle.rv_exec.proofs.Terms.{Bool, List, None, Ok, Some, ap, arith, inl, inr, refl, subst, sym, ℕ, ◌%◌, ◌+◌, ◌^◌, ◌∙◌, ◌≡◌, ◌≤◌, cases_lt, get_or-take, length, slice_get, slice_index, ◌<◌, Heap, row, opcode, Entry, IsEntryOf, IsLinked, address, Regs, Reads, word_count, GuestPages, IsLawfulSpace, flat, Next, Behind, Stops, To, IsStep, Ran, regs_of, Entered, EntryDone, IsAmong, IsAt, IsEntryDone, counter, number_of, seen}
-use Rattle.rv_exec.proofs.QuickLemmas.{step_done, ran_more}
+use Rattle.rv_exec.proofs.Terms.{Bool, List, None, Ok, Some, ap, arith, false, inl, inr, refl, subst, sym, true, ℕ, ◌%◌, ◌+◌, ◌^◌, ◌∙◌, ◌≡◌, ◌≤◌, cases_lt, get_or-take, OnTrue, length, slice_get, slice_index, ◌<◌, Heap, row, opcode, Entry, IsEntryOf, IsLinked, address, Regs, Windows, Reads, word_count, GuestPages, IsLawfulSpace, flat, AreWindows, Next, Behind, Stops, To, IsStep, Ran, regs_of, Entered, EntryDone, Goes, GoesTo, IsAmong, IsAt, IsEntryDone, Lands, MayRun, RanOn, Runs, WentOn, counter, number_of, seen, tried}
+use Rattle.rv_exec.proofs.QuickLemmas.{step_done, ran_join, ran_more, ran_none}
 
 -- no word 0 is done
 no_zero : (rule : Heap → ℕ → ℕ → Bool) (heap : Heap) (start number : ℕ) (x : List ℕ) (space : GuestPages) (next : Next) (new_x : List ℕ) (new_space : GuestPages) → IsEntryDone rule heap start number 0 x space next new_x new_space → ⊥
@@ -115,29 +116,7 @@ first_regs pc start other first x r is same all =
 pub first_zero : (x r : List ℕ) → seen x ≡ r → slice_index r 0 ≡ 0 → slice_index x 0 ≡ 0
 first_zero x r all zero_is = sym (get_or-take 32 x 0 0 (omega arith)) ∙ ap (λ (l : List ℕ). slice_index l 0) all ∙ zero_is
 
--- so many were done from here to there, and this is the entry that comes next
-pub record IsRunTo (rule : Heap → ℕ → ℕ → Bool) (heap : Heap) (start count done : ℕ) (regs : Regs) (first : GuestPages) (number : ℕ) (x : List ℕ) (space : GuestPages) : Type 0 where
-  pub ran : Ran rule heap done regs first (regs_of (counter start number) (seen x)) space
-  pub zero : slice_index x 0 ≡ 0
-  pub place : IsAt start count number space
-
 module _ (rule : Heap → ℕ → ℕ → Bool) (heap : Heap) (start count done : ℕ) (regs : Regs) (first : GuestPages) (number : ℕ) (x new_x : List ℕ) (space new_space : GuestPages) where
-  pub ran_behind : (next : Next) → next ≡ Behind → Ran rule heap done regs first (regs_of (counter start number) (seen x)) space → Entered rule heap start count number x space next new_x new_space
-      → IsRunTo rule heap start count (done + 1) regs first (number + 1) new_x new_space
-  ran_behind next is ran one =
-      let here = subst (λ n. Entered rule heap start count number x space n new_x new_space) is one in
-      record { ran = ran_more rule heap done regs _ _ first space new_space ran here.done; zero = here.zero; place = here.place }
-
-  pub ran_to : (next : Next) (other : ℕ) → next ≡ To other → Ran rule heap done regs first (regs_of (counter start number) (seen x)) space → Entered rule heap start count number x space next new_x new_space
-      → IsRunTo rule heap start count (done + 1) regs first other new_x new_space
-  ran_to next other is ran one =
-      let here = subst (λ n. Entered rule heap start count number x space n new_x new_space) is one in
-      record { ran = ran_more rule heap done regs _ _ first space new_space ran here.done; zero = here.zero; place = here.place }
-
-  -- who goes to another entry was at one of a word
-  pub less_before : (next : Next) (other : ℕ) → next ≡ To other → Entered rule heap start count number x space next new_x new_space → number < count
-  less_before next other is one = let here = subst (λ n. Entered rule heap start count number x space n new_x new_space) is one in here.word
-
   -- what stops leaves all as it was
   pub ran_still : (next : Next) → next ≡ Stops → Ran rule heap done regs first (regs_of (counter start number) (seen x)) space → Entered rule heap start count number x space next new_x new_space
       → Ran rule heap done regs first (regs_of (counter start number) (seen new_x)) new_space
@@ -145,6 +124,250 @@ module _ (rule : Heap → ℕ → ℕ → Bool) (heap : Heap) (start count done 
       let here = subst (λ n. Entered rule heap start count number x space n new_x new_space) is one in
       subst (λ s. Ran rule heap done regs first (regs_of (counter start number) (seen new_x)) s) (sym here.done.1)
       (subst (λ r. Ran rule heap done regs first r space) (sym here.done.0) ran)
+
+module _ (rule : Heap → ℕ → ℕ → Bool) (heap : Heap) (start count number : ℕ) (x mid_x new_x : List ℕ) (space mid_space new_space : GuestPages) (next : Next) where
+  -- one entry alone
+  pub went_none : Entered rule heap start count number x space next new_x new_space → WentOn rule heap start count number 0 x space next new_x new_space
+  went_none one =
+      let e : number ≡ number + 0 = omega arith in
+      record {
+        mid_x = x;
+        mid_space = space;
+        ran = subst (λ n. Ran rule heap 0 (regs_of (counter start number) (seen x)) space (regs_of (counter start n) (seen x)) space) e (ran_none rule heap (regs_of (counter start number) (seen x)) space);
+        code = refl;
+        last = subst (λ n. Entered rule heap start count n x space next new_x new_space) e one;
+      }
+
+  -- one behind another one
+  pub went_one : (first : Next) → first ≡ Behind → mid_space.code ≡ space.code → Entered rule heap start count number x space first mid_x mid_space → Entered rule heap start count (number + 1) mid_x mid_space next new_x new_space
+      → WentOn rule heap start count number 1 x space next new_x new_space
+  went_one first is same one other =
+      let here = subst (λ n. Entered rule heap start count number x space n mid_x mid_space) is one in
+      record { mid_x = mid_x; mid_space = mid_space; ran = ran_more rule heap 0 _ _ _ space space mid_space (ran_none rule heap _ space) here.done; code = same; last = other }
+
+-- one more in front
+pub went_next : (rule : Heap → ℕ → ℕ → Bool) (heap : Heap) (start count number behind : ℕ) (x mid_x new_x : List ℕ) (space mid_space new_space : GuestPages) (next first : Next) → first ≡ Behind → mid_space.code ≡ space.code
+    → Entered rule heap start count number x space first mid_x mid_space → WentOn rule heap start count (number + 1) behind mid_x mid_space next new_x new_space → WentOn rule heap start count number (behind + 1) x space next new_x new_space
+went_next rule heap start count number behind x mid_x new_x space mid_space new_space next first is same one went =
+    let here = subst (λ n. Entered rule heap start count number x space n mid_x mid_space) is one in
+    let step = ran_more rule heap 0 _ _ _ space space mid_space (ran_none rule heap _ space) here.done in
+    let all = ran_join rule heap 1 behind _ _ _ space mid_space went.mid_space step went.ran in
+    let e : 1 + behind ≡ behind + 1 = omega arith in
+    let f : number + 1 + behind ≡ number + (behind + 1) = omega arith in
+    record {
+      mid_x = went.mid_x;
+      mid_space = went.mid_space;
+      ran = subst (λ n. Ran rule heap (behind + 1) (regs_of (counter start number) (seen x)) space (regs_of (counter start n) (seen went.mid_x)) went.mid_space) f
+          (subst (λ k. Ran rule heap k (regs_of (counter start number) (seen x)) space (regs_of (counter start (number + 1 + behind)) (seen went.mid_x)) went.mid_space) e all);
+      code = went.code ∙ same;
+      last = subst (λ n. Entered rule heap start count n went.mid_x went.mid_space next new_x new_space) f went.last;
+    }
+
+-- where the last one stands
+pub stands_within : (rule : Heap → ℕ → ℕ → Bool) (heap : Heap) (start count number : ℕ) (x new_x : List ℕ) (space new_space : GuestPages) (next : Next) → Entered rule heap start count number x space next new_x new_space → number ≤ count
+stands_within rule heap start count number x new_x space new_space Behind one = let w = one.word in omega (arith, w)
+stands_within rule heap start count number x new_x space new_space (To other) one = let w = one.word in omega (arith, w)
+stands_within rule heap start count number x new_x space new_space Stops one = one.place.within
+
+-- where the last of these lands
+pub lands_at : {rule : Heap → ℕ → ℕ → Bool} {heap : Heap} {start count number behind : ℕ} {x new_x : List ℕ} {space new_space : GuestPages} {next : Next}
+    → WentOn rule heap start count number behind x space next new_x new_space → Lands count (number + behind) next
+lands_at {rule = rule} {heap = heap} {start = start} {count = count} {number = number} {behind = behind} {new_x = new_x} {new_space = new_space} {next = next} went = record {
+  within = stands_within rule heap start count (number + behind) went.mid_x new_x went.mid_space new_space next went.last;
+  word = went.last.word;
+  there = went.last.place.within;
+}
+
+module _ (rule : Heap → ℕ → ℕ → Bool) (heap : Heap) (start count number behind limit steps mid_steps new_steps new_number new_limit : ℕ) (x new_x : List ℕ) (space new_space : GuestPages) where
+  -- what was done, as the loop counts it
+  ran_on : (next : Next) → count ≤ limit → WentOn rule heap start count number behind x space next new_x new_space → new_space.code ≡ space.code → mid_steps ≡ steps + behind
+      → GoesTo (number + behind) limit next new_number new_limit → new_steps ≡ mid_steps + tried next → RanOn rule heap start count number limit steps x space new_number new_limit new_steps new_x new_space
+  ran_on Behind enough went same before to after =
+      let n = to.number_is in
+      let l = to.limit_is in
+      let w = went.last.word in
+      record {
+        done = behind + 1;
+        ran = subst (λ n. Ran rule heap (behind + 1) (regs_of (counter start number) (seen x)) space (regs_of (counter start n) (seen new_x)) new_space) (sym n)
+            (ran_more rule heap behind (regs_of (counter start number) (seen x)) _ _ space went.mid_space new_space went.ran went.last.done);
+        zero = went.last.zero;
+        place = subst (λ n. IsAt start count n new_space) (sym n) went.last.place;
+        code = same;
+        left = omega (arith, n, l);
+        inside = omega (arith, n, l, w, enough);
+        counted = omega (arith, before, after);
+      }
+  ran_on (To other) enough went same before to after =
+      let n = to.number_is in
+      let l = to.limit_is in
+      let w = went.last.word in
+      record {
+        done = behind + 1;
+        ran = subst (λ n. Ran rule heap (behind + 1) (regs_of (counter start number) (seen x)) space (regs_of (counter start n) (seen new_x)) new_space) (sym n)
+            (ran_more rule heap behind (regs_of (counter start number) (seen x)) _ _ space went.mid_space new_space went.ran went.last.done);
+        zero = went.last.zero;
+        place = subst (λ n. IsAt start count n new_space) (sym n) went.last.place;
+        code = same;
+        left = omega (arith, n, l, w, enough);
+        inside = omega (arith, n, l, w, enough);
+        counted = omega (arith, before, after);
+      }
+  ran_on Stops enough went same before to after =
+      let n = to.number_is in
+      let l = to.limit_is in
+      let w = went.last.place.within in
+      record {
+        done = behind;
+        ran = subst (λ n. Ran rule heap behind (regs_of (counter start number) (seen x)) space (regs_of (counter start n) (seen new_x)) new_space) (sym n)
+            (ran_still rule heap start count behind (regs_of (counter start number) (seen x)) space (number + behind) went.mid_x new_x went.mid_space new_space Stops refl went.ran went.last);
+        zero = went.last.zero;
+        place = subst (λ n. IsAt start count n new_space) (sym n) went.last.place;
+        code = same;
+        left = omega (arith, n, l);
+        inside = omega (arith, n, l, w, enough);
+        counted = omega (arith, before, after);
+      }
+
+-- what goes on from the last of some goes on from the first
+goes_from : (count number behind limit new_number new_limit : ℕ) (b : Bool) → OnTrue b (Goes count (number + behind) limit new_number new_limit) → OnTrue b (Goes count number limit new_number new_limit)
+goes_from count number behind limit new_number new_limit true goes = let f = goes.further in record { enough = goes.enough; further = omega (arith, f) }
+goes_from count number behind limit new_number new_limit false goes = goes
+
+-- what was done, and whether it goes on
+pub runs_on : {rule : Heap → ℕ → ℕ → Bool} {heap : Heap} {start count number behind limit steps mid_steps new_steps new_number new_limit : ℕ} {x new_x : List ℕ} {space new_space : GuestPages} {windows : Windows} {next : Next} (further : Bool) → count ≤ limit
+    → WentOn rule heap start count number behind x space next new_x new_space → new_space.code ≡ space.code → mid_steps ≡ steps + behind → AreWindows new_space windows
+    → GoesTo (number + behind) limit next new_number new_limit → new_steps ≡ mid_steps + tried next → OnTrue further (Goes count (number + behind) limit new_number new_limit)
+    → Runs rule heap start count number limit steps x space further new_number new_limit new_steps new_x new_space windows
+runs_on {rule = rule} {heap = heap} {start = start} {count = count} {number = number} {behind = behind} {limit = limit} {steps = steps} {mid_steps = mid_steps} {new_steps = new_steps} {new_number = new_number} {new_limit = new_limit} {x = x} {new_x = new_x} {space = space} {new_space = new_space} {next = next} further enough went same before holds to after goes = record {
+  ran = ran_on rule heap start count number behind limit steps mid_steps new_steps new_number new_limit x new_x space new_space next enough went same before to after;
+  holds = holds;
+  goes = goes_from count number behind limit new_number new_limit further goes;
+}
+
+-- nothing was done
+pub runs_none : {rule : Heap → ℕ → ℕ → Bool} {heap : Heap} {entries : List Entry} {start count number limit steps : ℕ} {x : List ℕ} {space : GuestPages} {windows : Windows}
+    → MayRun entries start count number limit x space windows → Runs rule heap start count number limit steps x space false number limit steps x space windows
+runs_none {rule = rule} {heap = heap} {start = start} {number = number} {x = x} {space = space} may =
+    let w = may.place.within in
+    let enough = may.enough in
+    record {
+      ran = record {
+        done = 0;
+        ran = ran_none rule heap (regs_of (counter start number) (seen x)) space;
+        zero = may.zero;
+        place = may.place;
+        code = refl;
+        left = omega arith;
+        inside = omega (arith, w, enough);
+        counted = omega arith;
+      };
+      holds = may.holds;
+      goes = tt;
+    }
+
+-- whether it goes on, by another name
+pub runs_as : {rule : Heap → ℕ → ℕ → Bool} {heap : Heap} {start count number new_number limit new_limit steps new_steps : ℕ} {x new_x : List ℕ} {space new_space : GuestPages} {windows : Windows} {b other : Bool} → b ≡ other
+    → Runs rule heap start count number limit steps x space b new_number new_limit new_steps new_x new_space windows → Runs rule heap start count number limit steps x space other new_number new_limit new_steps new_x new_space windows
+runs_as {rule = rule} {heap = heap} {start = start} {count = count} {number = number} {new_number = new_number} {limit = limit} {new_limit = new_limit} {steps = steps} {new_steps = new_steps} {x = x} {new_x = new_x} {space = space} {new_space = new_space} {windows = windows} is runs =
+    subst (λ b. Runs rule heap start count number limit steps x space b new_number new_limit new_steps new_x new_space windows) is runs
+
+-- what goes on has as many left as that needs
+pub enough_on : {rule : Heap → ℕ → ℕ → Bool} {heap : Heap} {start count number new_number limit new_limit steps new_steps : ℕ} {x new_x : List ℕ} {space new_space : GuestPages} {windows : Windows} (further : Bool) → further ≡ true
+    → Runs rule heap start count number limit steps x space further new_number new_limit new_steps new_x new_space windows → count ≤ new_limit
+enough_on {count = count} {number = number} {new_number = new_number} {limit = limit} {new_limit = new_limit} further is runs =
+    let goes = subst (λ b. OnTrue b (Goes count number limit new_number new_limit)) is runs.goes in
+    goes.enough
+
+-- the next entry may be done where all up to the last one may be
+pub may_again : {rule : Heap → ℕ → ℕ → Bool} {heap : Heap} {entries : List Entry} {start count number new_number limit new_limit steps new_steps : ℕ} {x new_x : List ℕ} {space new_space : GuestPages} {windows new_windows : Windows} {further : Bool}
+    → MayRun entries start count number limit x space windows → Runs rule heap start count number limit steps x space further new_number new_limit new_steps new_x new_space new_windows → count ≤ new_limit
+    → MayRun entries start count new_number new_limit new_x new_space new_windows
+may_again may runs enough =
+    let l = runs.ran.left in
+    let room = may.room in
+    record {
+      code = may.code ∙ ap (λ (t : Table). t.entries) (sym runs.ran.code);
+      place = runs.ran.place;
+      zero = runs.ran.zero;
+      holds = runs.holds;
+      enough = enough;
+      room = omega (arith, l, room);
+    }
+
+-- what goes on from what was done goes on from where that began
+goes_join : (count number mid_number new_number limit mid_limit new_limit done : ℕ) (further : Bool) → mid_limit + number + done ≡ limit + mid_number
+    → OnTrue further (Goes count mid_number mid_limit new_number new_limit) → OnTrue further (Goes count number limit new_number new_limit)
+goes_join count number mid_number new_number limit mid_limit new_limit done true left goes = let f = goes.further in record { enough = goes.enough; further = omega (arith, left, f) }
+goes_join count number mid_number new_number limit mid_limit new_limit done false left goes = goes
+
+-- so many, and so many more
+pub runs_join : {rule : Heap → ℕ → ℕ → Bool} {heap : Heap} {start count number mid_number new_number limit mid_limit new_limit steps mid_steps new_steps : ℕ} {x mid_x new_x : List ℕ} {space mid_space new_space : GuestPages} {windows new_windows : Windows} {first : Bool} (further : Bool)
+    → Runs rule heap start count number limit steps x space first mid_number mid_limit mid_steps mid_x mid_space windows → Runs rule heap start count mid_number mid_limit mid_steps mid_x mid_space further new_number new_limit new_steps new_x new_space new_windows
+    → Runs rule heap start count number limit steps x space further new_number new_limit new_steps new_x new_space new_windows
+runs_join {rule = rule} {heap = heap} {count = count} {number = number} {mid_number = mid_number} {new_number = new_number} {limit = limit} {mid_limit = mid_limit} {new_limit = new_limit} {space = space} {mid_space = mid_space} {new_space = new_space} further one other =
+    let l = one.ran.left in
+    let m = other.ran.left in
+    let s = one.ran.counted in
+    let t = other.ran.counted in
+    record {
+      ran = record {
+        done = one.ran.done + other.ran.done;
+        ran = ran_join rule heap one.ran.done other.ran.done _ _ _ space mid_space new_space one.ran.ran other.ran.ran;
+        zero = other.ran.zero;
+        place = other.ran.place;
+        code = other.ran.code ∙ one.ran.code;
+        left = omega (arith, l, m);
+        inside = other.ran.inside;
+        counted = omega (arith, s, t);
+      };
+      holds = other.holds;
+      goes = goes_join count number mid_number new_number limit mid_limit new_limit one.ran.done further l other.goes;
+    }
+
+-- so many instructions were done since a loop began, each counted, and so many fewer are left
+pub record Counted (rule : Heap → ℕ → ℕ → Bool) (heap : Heap) (most : ℕ) (regs : Regs) (first : GuestPages) (first_steps start number limit steps : ℕ) (x : List ℕ) (space : GuestPages) : Type 0 where
+  pub ran : Ran rule heap (most - (limit - number)) regs first (regs_of (counter start number) (seen x)) space
+  pub counts : steps ≡ first_steps + (most - (limit - number))
+  pub within : limit ≤ most + number
+  pub inside : number ≤ limit
+
+-- before the first one
+pub counted_none : {rule : Heap → ℕ → ℕ → Bool} {heap : Heap} {most : ℕ} {regs : Regs} {space : GuestPages} {steps start number : ℕ} {x : List ℕ} → regs ≡ regs_of (counter start number) (seen x)
+    → Counted rule heap most regs space steps start number (most + number) steps x space
+counted_none {rule = rule} {heap = heap} {most = most} {regs = regs} {space = space} {steps = steps} {start = start} {number = number} {x = x} same =
+    let none : 0 ≡ most - (most + number - number) = omega arith in
+    record {
+      ran = subst (λ n. Ran rule heap n regs space (regs_of (counter start number) (seen x)) space) none (subst (λ r. Ran rule heap 0 regs space r space) same (ran_none rule heap regs space));
+      counts = omega (arith, none);
+      within = omega arith;
+      inside = omega arith;
+    }
+
+-- and so many more
+pub counted_on : {rule : Heap → ℕ → ℕ → Bool} {heap : Heap} {most : ℕ} {regs : Regs} {first : GuestPages} {first_steps start count number new_number limit new_limit steps new_steps : ℕ} {x new_x : List ℕ} {space new_space : GuestPages}
+    → Counted rule heap most regs first first_steps start number limit steps x space → RanOn rule heap start count number limit steps x space new_number new_limit new_steps new_x new_space
+    → Counted rule heap most regs first first_steps start new_number new_limit new_steps new_x new_space
+counted_on {rule = rule} {heap = heap} {most = most} {regs = regs} {first = first} {start = start} {number = number} {new_number = new_number} {limit = limit} {new_limit = new_limit} {new_x = new_x} {space = space} {new_space = new_space} counted on =
+    let l = on.left in
+    let i = on.inside in
+    let t = on.counted in
+    let counts = counted.counts in
+    let within = counted.within in
+    let inside = counted.inside in
+    let same : most - (limit - number) + on.done ≡ most - (new_limit - new_number) = omega (arith, l, i, within, inside) in
+    record {
+      ran = subst (λ n. Ran rule heap n regs first (regs_of (counter start new_number) (seen new_x)) new_space) same (ran_join rule heap (most - (limit - number)) on.done regs _ _ first space new_space counted.ran on.ran);
+      counts = omega (arith, t, counts, same);
+      within = omega (arith, l, within);
+      inside = i;
+    }
+
+-- the measure falls
+pub falls_further : (count number new_number limit new_limit : ℕ) (further : Bool) → further ≡ true → OnTrue further (Goes count number limit new_number new_limit) → number ≤ limit → new_number ≤ new_limit → new_limit - new_number < limit - number
+falls_further count number new_number limit new_limit further is goes inside new_inside =
+    let here = subst (λ b. OnTrue b (Goes count number limit new_number new_limit)) is goes in
+    let f = here.further in
+    omega (arith, f, inside, new_inside)
 
 -- the same run, by what else its numbers and registers are known as
 pub ran_as : (rule : Heap → ℕ → ℕ → Bool) (heap : Heap) (done other_done : ℕ) (regs : Regs) (first : GuestPages) (start number other pc : ℕ) (x r : List ℕ) (space : GuestPages)

@@ -1,5 +1,5 @@
 -- Instructions that are decoded and done at once.
-use Rattle.rv_exec.proofs.Terms.{Bool, List, None, Ok, Option, Some, add-one, ap, arith, eqb, false, inl, inr, refl, subst, sym, true, ℕ, ◌%◌, ◌+◌, ◌^◌, ◌∙◌, ◌≡◌, cases_Bool, IfSome, MatchBool, option_map, pos, ℤ, ◌==◌, ◌||◌, Heap, BranchOp, ImmOp, Auipc, Branch, Jal, Jalr, Load, Lui, Op, OpImm, Store, LoadOp, RegOp, StoreOp, branch_result, imm_result, op_result, displaced, imm_value_of, indirect_target, is_taken, load_size, loaded, store_size, to_word, value_of, branch_op, branch_row, imm_op, imm_row, jalr_row, load_op, load_row, op_row, reg_op, row, shift_op, shift_row, store_op, store_row, funct3, funct7, imm_b, imm_i, imm_j, imm_s, imm_u, little_bytes, little_number, opcode, rd, rs1, rs2, Area, bytes_at, permitted, Regs, with_register, instruction, Puts, Reads, GuestPages, flat, IsDone, IsStep, Ran, register_in, regs_of}
+use Rattle.rv_exec.proofs.Terms.{Bool, List, None, Ok, Option, Some, add-one, ap, arith, eqb, false, inl, inr, refl, subst, sym, true, ℕ, ◌%◌, ◌+◌, ◌^◌, ◌∙◌, ◌≡◌, cases_Bool, IfSome, MatchBool, option_map, pos, suc, zero, ℤ, ◌==◌, ◌||◌, Heap, BranchOp, ImmOp, Auipc, Branch, Jal, Jalr, Load, Lui, Op, OpImm, Store, LoadOp, RegOp, StoreOp, branch_result, imm_result, op_result, displaced, imm_value_of, indirect_target, is_taken, load_size, loaded, store_size, to_word, value_of, branch_op, branch_row, imm_op, imm_row, jalr_row, load_op, load_row, op_row, reg_op, row, shift_op, shift_row, store_op, store_row, funct3, funct7, imm_b, imm_i, imm_j, imm_s, imm_u, little_bytes, little_number, opcode, rd, rs1, rs2, Area, bytes_at, permitted, Regs, with_register, instruction, Puts, Reads, GuestPages, flat, IsDone, IsStep, Ran, register_in, regs_of}
 
 -- the program counter behind an instruction
 abbrev behind : ℕ → ℕ
@@ -228,3 +228,13 @@ pub ran_more : (rule : Heap → ℕ → ℕ → Bool) (heap : Heap) (count : ℕ
     → Ran rule heap count regs space mid_regs mid_space → IsStep rule heap mid_regs mid_space new_regs new_space → Ran rule heap (count + 1) regs space new_regs new_space
 unfolding Ran
 ran_more rule heap count regs mid_regs new_regs space mid_space new_space ran one = rw add-one (mid_regs, mid_space, ran, one)
+
+-- so many, and so many more
+pub ran_join : (rule : Heap → ℕ → ℕ → Bool) (heap : Heap) (one other : ℕ) (regs mid_regs new_regs : Regs) (space mid_space new_space : GuestPages)
+    → Ran rule heap one regs space mid_regs mid_space → Ran rule heap other mid_regs mid_space new_regs new_space → Ran rule heap (one + other) regs space new_regs new_space
+unfolding Ran
+ran_join rule heap one zero regs mid_regs new_regs space mid_space new_space first (r, s) =
+    let e : one ≡ one + 0 = omega arith in subst (λ k. Ran rule heap k regs space new_regs new_space) e (rw (r, s) first)
+ran_join rule heap one (suc n) regs mid_regs new_regs space mid_space new_space first (r, s, rest, step) =
+    let e : one + n + 1 ≡ one + suc n = omega arith in
+    subst (λ k. Ran rule heap k regs space new_regs new_space) e (ran_more rule heap (one + n) regs r new_regs space s new_space (ran_join rule heap one n regs mid_regs r space mid_space s first rest) step)

@@ -4,6 +4,7 @@ ghost use Rattle.block_book.specs.Heap.{Heap};
 ghost use Rattle.guest_space.specs.Space.{GuestPages};
 ghost use Rattle.guest_space.specs.Windows.{AreWindows};
 ghost use Rattle.code_table.specs.Entries.{address, of_reg, of_imm, of_branch, of_load, of_store, IsLinked};
+ghost use Rattle.code_table.specs.Kinds.{HasOp};
 ghost use Rattle.code_table.specs.declared.entry.Entry.{Entry};
 ghost use Rattle.guest_space.specs.Code.{word_count};
 ghost use Rattle.rv_exec.specs.Quick.{KeepsAreas, Ran};
@@ -120,7 +121,7 @@ fn enter_branch(x: &[u32; 33], e: &Entry, op: BranchOp) -> Next
     Next::Behind
 }
 
-/// A load of one kind.
+/// A load of one kind, where the window of its base has the address.
 #[inline(always)]
 fn enter_load<R: AccessRule>(
     x: &mut [u32; 33],
@@ -128,13 +129,12 @@ fn enter_load<R: AccessRule>(
     space: &GuestSpace,
     book: &Book,
     rule: &R,
-    windows: &mut Windows,
+    windows: &Windows,
     op: LoadOp,
 ) -> Next
     requires kind { e.now.op ≡ of_load op }
     requires zero { slice_index x.old 0 ≡ 0 }
-    requires holds { AreWindows space.now windows.old }
-    ensures holds { AreWindows space.now windows.new }
+    requires holds { AreWindows space.now windows.now }
     ensures done { (start number : ℕ) → EntryDone (R.rule rule.now) book.now start number e.now x.old space.now result x.new space.now }
     ensures among { (count : ℕ) → IsAmong count result }
 {
@@ -143,14 +143,14 @@ fn enter_load<R: AccessRule>(
     if !rule.permits(book, at, size) {
         return Next::Stops;
     }
-    let Some(value) = space.load_from(windows, e.rs1, at, size) else {
+    let Some(value) = space.load_within(windows, e.rs1, at, size) else {
         return Next::Stops;
     };
     x[e.rd as usize] = extend(op, value);
     Next::Behind
 }
 
-/// A store of one kind. Its entry is one of the memory, so it comes in parts.
+/// A store of one kind, where the window of its base has the address. Its entry is one of the memory, so it comes in parts.
 #[inline(always)]
 fn enter_store<R: AccessRule>(
     x: &[u32; 33],
@@ -160,14 +160,14 @@ fn enter_store<R: AccessRule>(
     space: &mut GuestSpace,
     book: &Book,
     rule: &R,
-    windows: &mut Windows,
+    windows: &Windows,
     op: StoreOp,
 ) -> Next
     requires first { rs1 < 32 }
     requires second { rs2 < 32 }
     requires zero { slice_index x.now 0 ≡ 0 }
-    requires holds { AreWindows space.old windows.old }
-    ensures holds { AreWindows space.new windows.new }
+    requires holds { AreWindows space.old windows.now }
+    ensures holds { AreWindows space.new windows.now }
     ensures stays { KeepsAreas space.old space.new }
     ensures done { (start number : ℕ) (entry : Entry) → IsWritten (of_store op) rs1 rs2 imm entry → EntryDone (R.rule rule.now) book.now start number entry x.now space.old result x.now space.new }
     ensures among { (count : ℕ) → IsAmong count result }
@@ -177,7 +177,7 @@ fn enter_store<R: AccessRule>(
     if !rule.permits(book, at, size) {
         return Next::Stops;
     }
-    if !space.store_from(windows, rs1, at, size, x[rs2 as usize]) {
+    if !space.store_within(windows, rs1, at, size, x[rs2 as usize]) {
         return Next::Stops;
     }
     Next::Behind
@@ -207,18 +207,19 @@ fn enter_op(x: &mut [u32; 33], e: &Entry, op: RegOp) -> Next
     Next::Behind
 }
 
-// The entry of a number.
+/// The entry of a number.
 #[inline(always)]
-fn entry_of(entries: &[Entry], number: usize) -> &Entry
+pub fn entry_of(entries: &[Entry], number: usize) -> &Entry
     requires { number < length entries.now }
     ensures { slice_get entries.now number ≡ Some result.now }
 {
     &entries[number]
 }
 
-/// Does the entry of a number.
-#[inline(always)]
-pub fn enter<R: AccessRule>(
+/// Does the entry of a number, which has this operation. A load or a store stops where the window of its base doesn't have the address.
+#[inline]
+pub fn enter_as<R: AccessRule>(
+    op: EntryOp,
     x: &mut [u32; 33],
     entries: &[Entry],
     start: u32,
@@ -227,19 +228,20 @@ pub fn enter<R: AccessRule>(
     space: &mut GuestSpace,
     book: &Book,
     rule: &R,
-    windows: &mut Windows,
+    windows: &Windows,
 ) -> Next
+    requires kind { HasOp entries.now number op }
     requires entries { entries.now ≡ space.old.code.entries }
     requires place { IsAt start count number space.old }
     requires zero { slice_index x.old 0 ≡ 0 }
-    requires holds { AreWindows space.old windows.old }
+    requires holds { AreWindows space.old windows.now }
     ensures code { space.new.code ≡ space.old.code }
-    ensures holds { AreWindows space.new windows.new }
+    ensures holds { AreWindows space.new windows.now }
     ensures done { Entered (R.rule rule.now) book.now start count number x.old space.old result x.new space.new }
 {
     space.sound();
     let e = entry_of(entries, number);
-    match e.op {
+    match op {
         EntryOp::Stop => Next::Stops,
         EntryOp::Set => enter_set(x, e),
         EntryOp::Jal => enter_jal(x, e, start, number),

@@ -1,17 +1,28 @@
 // Instructions by the entries of a table, whose budget is counted once for a straight run of them.
-ghost use Rattle.std.specs.Prelude.{◌≡◌, ◌+◌, ◌^◌, ◌<◌, ◌≤◌, slice_index};
+ghost use Rattle.std.specs.Prelude.{◌≡◌, ◌+◌, ◌^◌, ◌<◌, ◌≤◌, Some, length, slice_get, slice_index};
 ghost use Rattle.guest_space.specs.Code.{word_count};
 ghost use Rattle.guest_space.specs.Windows.{AreWindows};
 ghost use Rattle.rv_exec.specs.Quick.{Ran};
 ghost use Rattle.rv_exec.specs.Entries.{counter, IsAt};
 
-use crate::entries::{Next, counter_of, enter, with_last, without_last};
+use crate::entries::{counter_of, with_last, without_last};
+use crate::kinds::advance;
 use crate::quick::run_words;
 use block_book::Book;
+use code_table::Kind;
 use guest_space::{AccessRule, GuestSpace, Windows};
 use run_history::Regs;
 use rx_base::Steps;
 use std::sync::ledger::Ledger;
+
+// The kind of a number.
+#[inline(always)]
+fn kind_at(kinds: &[Kind], number: usize) -> Kind
+    requires { number < length kinds.now }
+    ensures { slice_get kinds.now number ≡ Some result }
+{
+    kinds[number]
+}
 
 /// Does instructions that are no calls one after another by their entries, from the one of a number on, and counts a step for
 /// each. The answer is how many were done, at most so many as are given. A straight run goes from an entry to the next jump, so
@@ -47,27 +58,28 @@ fn run_straight<R: AccessRule, L: Ledger>(
         Err(_) => return 0,
     };
     let entries = code.entries();
+    let kinds = code.kinds();
     let mut x = with_last(&regs.x);
     let mut number = first;
     // The number before which as many are done as are given, if no jump comes.
     let mut limit = most + first as u64;
     'run: loop {
-        match enter(
-            &mut x, entries, start, count, number, space, book, rule, windows,
+        let kind = kind_at(kinds, number);
+        if !advance(
+            kind,
+            &mut x,
+            entries,
+            start,
+            count,
+            &mut number,
+            &mut limit,
+            space,
+            book,
+            rule,
+            steps,
+            windows,
         ) {
-            Next::Behind => {
-                steps.tick();
-                number += 1;
-            }
-            Next::To(other) => {
-                steps.tick();
-                limit = limit - number as u64 - 1 + other as u64;
-                number = other;
-                if limit < count as u64 {
-                    break 'run;
-                }
-            }
-            Next::Stops => break 'run,
+            break 'run;
         }
     }
     regs.x = without_last(&x);
