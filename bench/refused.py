@@ -76,7 +76,7 @@ def session(name, guest, lines, words=(), answer="Finished", diagnoses=False, **
     files, sink = MemoryFiles({"p": b""}), MemorySink()
     done = run_session(guests.image(guest), Options(**options), TrunkLink(MemorySource(stream), sink), files, diagnoses=diagnoses)
     assert done.answer[0] == answer.split(" ")[0], done.answer
-    head = ["diagnose", *RUN[1:], "--diagnosis", "d"] if diagnoses else RUN
+    head = ["diagnose", *RUN[1:], "--diagnosis", "d", "--guard", "off"] if diagnoses else RUN
     return Row(name, [*head, *words], {"p": executable(*guests.program(guest))}, stream, sink.content, written(files), end_of(answer, done),
                stream, payloads(sink.content))
 

@@ -20,7 +20,7 @@ sys.path.insert(0, os.path.join(HERE, "..", "compare"))
 
 # pylint: disable=wrong-import-position
 from second.command import run  # noqa: E402
-from second.guard import MODES  # noqa: E402
+from second.guard import EXTENT, MODES  # noqa: E402
 from second.heap import ENVIRONMENTS, PLAIN  # noqa: E402
 from second.items import FRAMINGS  # noqa: E402
 from second.machine import Image, MIB  # noqa: E402
@@ -51,7 +51,7 @@ def words_of(words):
     parser.add_argument("--record", required=True)
     parser.add_argument("--report", required=True)
     parser.add_argument("--diagnosis")
-    parser.add_argument("--guard", choices=MODES, default=defaults.guard)
+    parser.add_argument("--guard", choices=MODES)
     parser.add_argument("--env", choices=[PLAIN, *ENVIRONMENTS], default=defaults.env)
     parser.add_argument("--form", choices=[TEXT, JSON], default=TEXT)
     parser.add_argument("--frame", choices=sorted(FRAMINGS), default=defaults.frame)
@@ -59,6 +59,8 @@ def words_of(words):
     for name in ("hold", "ring", "every", "frames", "budget", "keep"):
         parser.add_argument("--" + name, type=int, default=getattr(defaults, name))
     asked = parser.parse_args(words)
+    if asked.guard is None:
+        asked.guard = EXTENT if asked.command == "diagnose" else defaults.guard
     if (asked.command == "diagnose") != (asked.diagnosis is not None):
         parser.error("diagnose takes --diagnosis, and run doesn't")
     return asked

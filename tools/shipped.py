@@ -391,7 +391,7 @@ def diagnosis_differs(shell, diagnosed):
     """What differs where the run is diagnosed that was run last, and the line."""
     run = diagnosed.run
     line = 'printf %s | "$RX" diagnose %s --record record2 --diagnosis diagnosis --report report2 --tell off %s > output2' % (
-        quoted(run.stream), shell.program(run.guest), run.options)
+        quoted(run.stream), shell.program(run.guest), run.options if "--guard" in run.options else ("--guard off " + run.options).strip())
     came, status, said = shell.run(line + "; status=$?; for file in output record report; do cmp $file ${file}2; done; exit $status")
     found = ["it isn't as without a diagnosis: %r" % came] if came else []
     answer = run.recovers[1] if run.recovers else run.answer

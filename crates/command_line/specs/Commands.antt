@@ -35,7 +35,7 @@ use Rattle.command_line.specs.declared.drill_words.DrillCommand.{DrillCommand}
 use Rattle.command_line.specs.declared.drill_words.TheConstants as drill_table
 use Rattle.command_line.specs.declared.frame_words.TheConstants as frame_table
 use Rattle.command_line.specs.declared.run_words.TheConstants as table
-use Rattle.command_line.specs.Table.{CommandForm, Row, static_row, static_form, record_row, report_row, env_row, form_row, frame_row, guard_row, diagnosis_row, port_row, conns_row, seed_row, count_row}
+use Rattle.command_line.specs.Table.{CommandForm, Row, static_row, static_form, record_row, report_row, env_row, form_row, frame_row, guard_row, diagnose_guard_row, diagnosis_row, port_row, conns_row, seed_row, count_row}
 
 -- what a session of a program is asked for
 pub record RunValue : Type 0 where
@@ -191,9 +191,9 @@ env_of text =
 abbrev pub guard_of : Text → Guard
 guard_of text = if bytes_eq text table.EXTENT.now then guarded.Extent else (if bytes_eq text table.BLOCK.now then guarded.Block else guarded.Off)
 
--- the names and numbers of a session whose command gives it this hold
-abbrev pub session_value : ℕ → Parts → RunValue
-session_value hold p = record {
+-- the names and numbers of a session whose command gives it this hold and this guard
+abbrev pub session_value : ℕ → Guard → Parts → RunValue
+session_value hold guard p = record {
   program = positional 0 p;
   recording = value_of record_row p.options;
   report = value_of report_row p.options;
@@ -207,12 +207,12 @@ session_value hold p = record {
   budget = number_at (static_row table.BUDGET) p.options;
   keep = number_at (static_row table.KEEP) p.options;
   env = env_of (value_of env_row p.options);
-  guard = guard_of (value_of guard_row p.options);
+  guard = guard;
 }
 
 -- the names and numbers of `run`
 unfoldable pub run_value : Parts → RunValue
-run_value p = session_value (number_at (static_row table.HOLD) p.options) p
+run_value p = session_value (number_at (static_row table.HOLD) p.options) (guard_of (value_of guard_row p.options)) p
 
 -- the numbers of `run`, each with its row
 abbrev pub numbers : RunValue → List (Row × ℕ)
@@ -371,7 +371,7 @@ number_there index p = unwrap_or (number_of (positional index p)) 0
 -- the names and numbers of `serve`: its session holds nothing
 unfoldable pub serve_value : Parts → ServeValue
 serve_value p = record {
-  session = session_value 0 p;
+  session = session_value 0 (guard_of (value_of guard_row p.options)) p;
   port = number_there 1 p;
   conns = number_there 2 p;
   patience = number_at (static_row serve_table.PATIENCE) p.options;
@@ -403,7 +403,7 @@ has_fourth p = is_fourth (positional 0 p) (value_of record_row p.options) (value
 
 -- the names and numbers of `diagnose`: those of a `run`, and the name of the diagnosis
 unfoldable pub diagnose_value : Parts → DiagnoseValue
-diagnose_value p = record { session = session_value (number_at (static_row table.HOLD) p.options) p; diagnosis = value_of diagnosis_row p.options }
+diagnose_value p = record { session = session_value (number_at (static_row table.HOLD) p.options) (guard_of (value_of diagnose_guard_row p.options)) p; diagnosis = value_of diagnosis_row p.options }
 
 -- the words are those of `diagnose`: its names are four different texts
 unfoldable pub is_diagnose : Parts → Bool

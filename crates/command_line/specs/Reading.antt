@@ -4,7 +4,7 @@ use Rattle.clap.specs.Words.{first_value, found_of}
 use Rattle.clap.specs.Simple.{App, new_rule, with_rule}
 use Rattle.command_line.specs.Terms.{option_map_or, ArgMatches, new_app, Rule}
 use Rattle.command_line.specs.Texts.{Text}
-use Rattle.command_line.specs.Table.{CommandForm, Row, static_row, record_row, report_row, env_row, form_row, frame_row, guard_row}
+use Rattle.command_line.specs.Table.{CommandForm, Row, static_row, record_row, report_row, env_row, form_row, frame_row}
 use Rattle.command_line.specs.declared.run_words.TheConstants as table
 use Rattle.command_line.specs.Parts.{Parts}
 use Rattle.command_line.specs.Options.{value_of}
@@ -54,7 +54,6 @@ session_rows =
     ∷ static_row table.BUDGET
     ∷ static_row table.KEEP
     ∷ env_row
-    ∷ guard_row
     ∷ []
 
 -- clap has read the program's name and these options

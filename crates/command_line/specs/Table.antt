@@ -96,6 +96,9 @@ tell_row = static_row table.TELL
 unfoldable pub durable_row : Row
 durable_row = static_row table.DURABLE
 
+unfoldable pub diagnose_guard_row : Row
+diagnose_guard_row = static_row diagnose_table.DIAGNOSE_GUARD
+
 unfoldable pub diagnosis_row : Row
 diagnosis_row = static_row diagnose_table.DIAGNOSIS
 

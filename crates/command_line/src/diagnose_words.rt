@@ -13,8 +13,9 @@ use crate::accepted::{have_form, name_at, value};
 use crate::matching::{out_of_memory, parser, value_in};
 use crate::options::{CommandName, CommandOf, CommandRow, OptionRow, RowOf, TakesOf};
 use crate::run_words::{
-    BUDGET, DURABLE, ENV, EVERY, FORM, FRAME, FRAMES, GUARD, HOLD, KEEP, PROGRAM, RECORD, REPORT,
-    RING, RunCommand, TELL, WINDOW, have_names, number_or_zero, recording, report, session_from,
+    BLOCK, BUDGET, DURABLE, ENV, EVERY, EXTENT, FORM, FRAME, FRAMES, HOLD, KEEP, OFF, PROGRAM,
+    RECORD, REPORT, RING, RunCommand, TELL, WINDOW, guard_of, have_names, number_or_zero,
+    recording, report, session_from,
 };
 use clap::{ArgMatches, Error};
 use std::alloc::{AllocError, Global};
@@ -27,10 +28,32 @@ pub const DIAGNOSIS: OptionRow = RowOf {
     says: "Where the diagnosis of the failures is written.",
 };
 
+/// What else is refused of an access, by the blocks of the heap. An access that is refused is the fault itself, so `diagnose` looks at each.
+pub const DIAGNOSE_GUARD: OptionRow = RowOf {
+    name: "guard",
+    takes: TakesOf::OneOf(&[OFF, EXTENT, BLOCK]),
+    default: Some(EXTENT),
+    says: "Which accesses to the heap are refused, by its blocks.",
+};
+
 /// The options of `diagnose`.
 pub const DIAGNOSE_OPTIONS: [OptionRow; 16] = [
-    RECORD, REPORT, DIAGNOSIS, FORM, FRAME, WINDOW, HOLD, RING, EVERY, FRAMES, BUDGET, KEEP, ENV,
-    GUARD, TELL, DURABLE,
+    RECORD,
+    REPORT,
+    DIAGNOSIS,
+    FORM,
+    FRAME,
+    WINDOW,
+    HOLD,
+    RING,
+    EVERY,
+    FRAMES,
+    BUDGET,
+    KEEP,
+    ENV,
+    DIAGNOSE_GUARD,
+    TELL,
+    DURABLE,
 ];
 
 /// Runs a program, and tries everything at each failure.
@@ -120,7 +143,11 @@ fn diagnose_from<'a>(matches: &ArgMatches<'a>) -> DiagnoseCommand<'a>
     ensures { (p : Parts) → HasRead diagnose_form p matches.now → AreInRange (diagnose_value p).session → diagnose_shown result ≡ diagnose_value p }
 {
     DiagnoseCommand {
-        session: session_from(matches, number_or_zero(value_in(matches, HOLD.name))),
+        session: session_from(
+            matches,
+            number_or_zero(value_in(matches, HOLD.name)),
+            guard_of(value_in(matches, DIAGNOSE_GUARD.name)),
+        ),
         diagnosis: value_in(matches, DIAGNOSIS.name),
     }
 }

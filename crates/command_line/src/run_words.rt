@@ -356,9 +356,9 @@ fn read_run<'a>(alloc: Global, words: &'a [String]) -> Result<ArgMatches<'a>, Er
     command.try_get_matches_from(words)
 }
 
-// The names and numbers of a session, once clap has read the words, with the hold that its command gives it.
-pub(crate) fn session_from<'a>(matches: &ArgMatches<'a>, hold: u32) -> RunCommand<'a>
-    ensures { (p : Parts) → HasReadSession p matches.now → AreInRange (session_value hold p) → run_shown result ≡ session_value hold p }
+// The names and numbers of a session, once clap has read the words, with the hold and the guard that its command gives it.
+pub(crate) fn session_from<'a>(matches: &ArgMatches<'a>, hold: u32, guard: Guard) -> RunCommand<'a>
+    ensures { (p : Parts) → HasReadSession p matches.now → AreInRange (session_value hold guard p) → run_shown result ≡ session_value hold guard p }
 {
     RunCommand {
         program: value_in(matches, PROGRAM),
@@ -374,7 +374,7 @@ pub(crate) fn session_from<'a>(matches: &ArgMatches<'a>, hold: u32) -> RunComman
         budget: long_or_zero(value_in(matches, BUDGET.name)),
         keep: number_or_zero(value_in(matches, KEEP.name)),
         env: env_of(value_in(matches, ENV.name)),
-        guard: guard_of(value_in(matches, GUARD.name)),
+        guard,
     }
 }
 
@@ -382,7 +382,9 @@ pub(crate) fn session_from<'a>(matches: &ArgMatches<'a>, hold: u32) -> RunComman
 fn run_from<'a>(matches: &ArgMatches<'a>) -> RunCommand<'a>
     ensures { (p : Parts) → HasRead run_form p matches.now → AreInRange (run_value p) → run_shown result ≡ run_value p }
 {
-    session_from(matches, number_or_zero(value_in(matches, HOLD.name)))
+    let hold = number_or_zero(value_in(matches, HOLD.name));
+    let guard = guard_of(value_in(matches, GUARD.name));
+    session_from(matches, hold, guard)
 }
 
 // The command that the words behind `run` are.

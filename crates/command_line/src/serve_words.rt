@@ -14,7 +14,7 @@ use crate::matching::{out_of_memory, parser, value_in};
 use crate::options::{CommandName, CommandOf, CommandRow, OptionRow, RowOf, TakesOf, takes_value};
 use crate::run_words::{
     BUDGET, DURABLE, ENV, EVERY, FORM, FRAME, FRAMES, GUARD, KEEP, PROGRAM, RECORD, REPORT, RING,
-    RunCommand, TELL, WINDOW, have_names, number_or_zero, session_from,
+    RunCommand, TELL, WINDOW, guard_of, have_names, number_or_zero, session_from,
 };
 use clap::{ArgMatches, Error};
 use std::alloc::{AllocError, Global};
@@ -142,7 +142,7 @@ fn serve_from<'a>(matches: &ArgMatches<'a>) -> ServeCommand<'a>
     ensures { (p : Parts) → HasRead serve_form p matches.now → EachInRange (serve_numbers (serve_value p)) → serve_shown result ≡ serve_value p }
 {
     ServeCommand {
-        session: session_from(matches, 0),
+        session: session_from(matches, 0, guard_of(value_in(matches, GUARD.name))),
         port: number_or_zero(value_in(matches, PORT_NAME)),
         conns: number_or_zero(value_in(matches, CONNS_NAME)),
         patience: number_or_zero(value_in(matches, PATIENCE.name)),

@@ -1,4 +1,4 @@
-use Rattle.command_line.proofs.Terms.{ap, refl, subst, sym, ◌∙◌, ◌≡◌, env_row, form_row, frame_row, guard_row, record_row, report_row, static_row, number_at, run_form, run_value, session_value, AreInRange}
+use Rattle.command_line.proofs.Terms.{ap, refl, subst, sym, ◌∙◌, ◌≡◌, env_row, form_row, frame_row, guard_row, record_row, report_row, static_row, number_at, value_of, guard_of, run_form, run_value, session_value, AreInRange}
 use Rattle.command_line.specs.declared.run_words.TheConstants as table
 use Rattle.command_line.proofs.Numbers.{small_read}
 use Rattle.command_line.proofs.run_words.run_from.Goals as goal
@@ -8,9 +8,11 @@ unfolding run_value run_form env_row form_row frame_row guard_row record_row rep
 returns c =
     λ p read ranges.
     let options = read.options in
-    let hold : c.number_or_zero.result ≡ number_at (static_row table.HOLD) p.options = small_read _ _ _ _ (c.value_in.ensures _ options.1.1.1.1.1.0) c.number_or_zero.ensures ranges.1.0.1 refl in
+    let hold : c.number_or_zero-hold.result ≡ number_at (static_row table.HOLD) p.options = small_read _ _ _ _ (c.value_in.ensures _ options.1.1.1.1.1.0) c.number_or_zero-hold.ensures ranges.1.0.1 refl in
+    let guard : c.guard_of-guard.result ≡ guard_of (value_of guard_row p.options) = c.guard_of-guard.ensures ∙ ap guard_of (c.value_in-2.ensures _ options.1.1.1.1.1.1.1.1.1.1.1.1.0) in
     c.session_from.ensures p (record {
       program = read.names.0;
-      options = (options.0, (options.1.0, (options.1.1.0, (options.1.1.1.0, (options.1.1.1.1.0, (options.1.1.1.1.1.1.0, (options.1.1.1.1.1.1.1.0, (options.1.1.1.1.1.1.1.1.0, (options.1.1.1.1.1.1.1.1.1.0, (options.1.1.1.1.1.1.1.1.1.1.0, (options.1.1.1.1.1.1.1.1.1.1.1.0, (options.1.1.1.1.1.1.1.1.1.1.1.1.0, tt))))))))))));
-    }) (subst (λ n. AreInRange (session_value n p)) (sym hold) ranges)
-    ∙ ap (λ n. session_value n p) hold
+      options = (options.0, (options.1.0, (options.1.1.0, (options.1.1.1.0, (options.1.1.1.1.0, (options.1.1.1.1.1.1.0, (options.1.1.1.1.1.1.1.0, (options.1.1.1.1.1.1.1.1.0, (options.1.1.1.1.1.1.1.1.1.0, (options.1.1.1.1.1.1.1.1.1.1.0, (options.1.1.1.1.1.1.1.1.1.1.1.0, tt)))))))))));
+    }) (subst (λ n. AreInRange (session_value n c.guard_of-guard.result p)) (sym hold) (subst (λ g. AreInRange (session_value (number_at (static_row table.HOLD) p.options) g p)) (sym guard) ranges))
+    ∙ ap (λ n. session_value n c.guard_of-guard.result p) hold
+    ∙ ap (λ g. session_value (number_at (static_row table.HOLD) p.options) g p) guard

@@ -1,9 +1,9 @@
-use Rattle.command_line.proofs.Terms.{ap, refl, ◌∙◌, env_row, form_row, frame_row, guard_row, record_row, report_row, env_of, form_of, frame_of, guard_of}
+use Rattle.command_line.proofs.Terms.{ap, refl, ◌∙◌, env_row, form_row, frame_row, record_row, report_row, env_of, form_of, frame_of}
 use Rattle.command_line.proofs.Numbers.{number_read, small_read}
 use Rattle.command_line.proofs.run_words.session_from.Goals as goal
 
 pub returns : goal.returns
-unfolding env_row form_row frame_row guard_row record_row report_row
+unfolding env_row form_row frame_row record_row report_row
 returns c =
     λ p read ranges i. record {
       program = c.value_in.ensures _ read.program i;
@@ -19,5 +19,5 @@ returns c =
       budget = (c.long_or_zero.ensures ∙ ap number_read (c.value_in-10.ensures _ read.options.1.1.1.1.1.1.1.1.0)) i;
       keep = small_read _ _ _ _ (c.value_in-11.ensures _ read.options.1.1.1.1.1.1.1.1.1.0) c.number_or_zero-5.ensures ranges.1.1.1.1.1.1.0.1 refl i;
       env = (c.env_of.ensures ∙ ap env_of (c.value_in-12.ensures _ read.options.1.1.1.1.1.1.1.1.1.1.0)) i;
-      guard = (c.guard_of.ensures ∙ ap guard_of (c.value_in-13.ensures _ read.options.1.1.1.1.1.1.1.1.1.1.1.0)) i;
+      guard = c.args.guard;
     }
