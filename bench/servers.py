@@ -298,10 +298,12 @@ OPTIONS = [
     ["--env", "all", "--guard", "extent", "--every", "4"],
     ["--env", "all", "--guard", "block"],
 ]
-DIAGNOSED = [[], ["--guard", "extent"], ["--guard", "block"]]
+DIAGNOSED = [["--guard", "off"], [], ["--guard", "block"]]
 
 # What a line of `rx diagnose` on standard error says, by words of it, and what the second engine does.
-SAYINGS = [("past the end", PAST), ("after it was freed", FREED), ("before it was written", UNSET), ("placed otherwise", PLACED), ("nothing helps", NOTHING)]
+SAYINGS = [("past the end", PAST), ("after it was freed", FREED), ("memory that was freed", FREED), ("before it was written", UNSET), ("placed otherwise", PLACED),
+           ("nothing helps", NOTHING)]
+VERDICTS = list(dict.fromkeys(kind for _, kind in SAYINGS))
 SECOND = {"overrun": PAST, "reused": FREED, "unset": UNSET, "placed": PLACED, "nothing": NOTHING}
 
 Outcome = collections.namedtuple("Outcome", "status replies failures tries survivors sayings written record")
@@ -331,8 +333,8 @@ class Bench:
         if self.asked.second:
             done, sink, files = run_second.session(run_second.words_of(words), stream)
             status, written, told = done.status, bytes(sink.content), files.files["t"].decode()
-            episodes, tables = (done.session.notes.episodes, done.session.tables) if command == "diagnose" else ([], [])
-            sayings = [SECOND[it] for _, _, it in readings(episodes, tables)]
+            episodes, faults = (done.session.notes.episodes, done.session.faults) if command == "diagnose" else ([], [])
+            sayings = [SECOND[it] for _, _, it in readings(episodes, faults)]
         else:
             made = subprocess.run([self.asked.rx, *words], input=stream, capture_output=True, timeout=300, check=False)
             status, written = made.returncode, made.stdout
@@ -438,7 +440,7 @@ def print_verdicts(bench):
                     bench.says(f"{name} {number}: {made.failures} failures, and {len(made.sayings)} are told of")
                 counts.update(made.sayings)
             told = f"`{' '.join(options)}`" if options else "the defaults"
-            print_row([f"`{name}`", server.fault, told, sum(counts.values()), *(counts[it] for _, it in SAYINGS)])
+            print_row([f"`{name}`", server.fault, told, sum(counts.values()), *(counts[it] for it in VERDICTS)])
 
 
 TABLES = {"first": print_first, "options": print_options, "verdicts": print_verdicts}

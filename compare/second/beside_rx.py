@@ -17,6 +17,7 @@ import tempfile
 from second import inputs, patient, programs, trunk, wild
 from second.command import run_session
 from second.diagnosis import readings, verdict
+from second.guard import EXTENT
 from second.instructions import BAD_ACCESS, Failure
 from second.machine import Image, MIB, executable
 from second.outside import MemoryFiles, MemorySink, MemorySource
@@ -76,6 +77,8 @@ class Pair:
         self.given = {name: getattr(drawn, name) for name in OPTIONS if rng.random() < 0.85}
         if not rx.guards:
             self.given.pop("guard", None)
+        if diagnoses and rx.guards:
+            self.options.guard = EXTENT
         for name, value in self.given.items():
             setattr(self.options, name, value)
         self.form = rng.choice(["text", "json"])
@@ -133,7 +136,7 @@ class Pair:
             told = answer_of(status, said, self.options.budget)
             if status != done.status or not is_told(done.answer, told):
                 found.append("answer: %s in place of %s" % (told, done.answer))
-            meant = readings(done.session.notes.episodes, done.session.tables) if self.diagnoses else []
+            meant = readings(done.session.notes.episodes, done.session.faults) if self.diagnoses else []
             if readings_of(said) != meant:
                 found.append("readings: %s in place of %s" % (readings_of(said), meant))
             for name in FILES if self.rx.writes_files else ():

@@ -5,7 +5,8 @@ Written from the form of a diagnosis. It is text, whatever form the report has. 
 
 from second import report
 from second.heap import ENVIRONMENTS
-from second.session import SURVIVED
+from second.instructions import BAD_ACCESS, BAD_FREE, CALLS, Failure
+from second.report import SURVIVED
 
 HEAD = b"rx diagnosis 1\n"
 
@@ -34,9 +35,51 @@ def reading(table):
     return "unset" if "zero" in helps else "placed"
 
 
-def readings(episodes, tables):
-    """Of each failure its number, the instruction and what its table says."""
-    return [(number, "%08x" % episode.pc, reading(table)) for number, (episode, table) in enumerate(zip(episodes, tables))]
+class Accessed(Exception):
+    """An instruction comes to an access at this address, of so many bytes."""
+
+
+def accessed(machine):
+    """Where the next instruction of a machine goes, if it is a load or a store, and how many bytes it touches."""
+    def tell(at, length, _):
+        raise Accessed(at, length)
+
+    beside = machine.copy()
+    try:
+        action = beside.fetch()
+        beside.memory.access = tell
+        if action is not CALLS:
+            action(beside, beside.pc)
+    except Accessed as found:
+        return found.args
+    except Failure:
+        pass
+    return None, 0
+
+
+def fault(cause, machine, table):
+    """What is most likely wrong, by where a failed machine's access or pointer goes, and else by the table: as `reading` says it."""
+    heap, by_table = machine.heap, reading(table)
+    if by_table == "unset":  # the address itself was never set
+        return by_table
+    if cause == BAD_FREE:
+        return "reused" if heap.was_freed(machine.x[10]) else by_table
+    at, length = accessed(machine) if cause == BAD_ACCESS else (None, 0)
+    if at is None or not heap.start <= at < heap.end:
+        return by_table
+    below = heap.below(at)
+    behind = below is not None and heap.is_behind(below, at)
+    if heap.was_freed(at):
+        is_next = length == 1 and behind and at == heap.end_of(below)
+        return "overrun" if behind and by_table == "overrun" or is_next and by_table == "nothing" else "reused"
+    if below is not None and not below.live:
+        return "reused"
+    return "overrun" if behind else by_table
+
+
+def readings(episodes, faults):
+    """Of each failure its number, the instruction and what is most likely wrong."""
+    return [(number, "%08x" % episode.pc, fault) for number, (episode, fault) in enumerate(zip(episodes, faults))]
 
 
 def verdict_line(table):

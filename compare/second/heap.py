@@ -13,6 +13,8 @@ ENVIRONMENTS = (PAD, ZERO, ISOLATE, DELAY, ALL)  # in the order in which they ar
 
 PADDING = 256
 MOST_BLOCKS = 4096
+MOST_FREED = 256
+STEPS_DOWN = 256
 MOST_BYTES = (1 << 32) - 1
 
 MALLOC, CALLOC, REALLOC = "malloc", "calloc", "realloc"
@@ -69,11 +71,12 @@ class Heap:
         self.middle = start + (end - start) // 2
         self.starts, self.ends, self.blocks = [], [], []
         self.place_of = {}  # the start of the extent, by the block's address
+        self.freed = []  # the extents of the blocks that were freed last, the latest first
 
     def copy(self):
         other = Heap(self.start, self.end)
         other.starts, other.ends, other.blocks = list(self.starts), list(self.ends), list(self.blocks)
-        other.place_of = dict(self.place_of)
+        other.place_of, other.freed = dict(self.place_of), list(self.freed)
         return other
 
     def fit(self, length, least):
@@ -144,6 +147,23 @@ class Heap:
         block = None if i is None else self.blocks[i]
         return block is not None and block.live and block.at <= at and end <= block.at + reserved(block.size)
 
+    def was_freed(self, at):
+        """Whether the byte was in the extent of one of the blocks that were freed last."""
+        return any(start <= at < end for start, end in self.freed)
+
+    def below(self, at):
+        """The block that begins at the address or next below it, of 256 multiples of 16, or None."""
+        places = range(at // 16, max(-1, at // 16 - STEPS_DOWN), -1)
+        return next((self.find(16 * place) for place in places if 16 * place in self.place_of), None)
+
+    def is_behind(self, block, at):
+        """Whether the address is less than 16 bytes past the extent of a live block."""
+        return block.live and block.at + block.size <= at < self.end_of(block) + 16
+
+    def end_of(self, block):
+        """The address behind the extent of a standing block."""
+        return self.ends[self.index(block.at)]
+
     def live_size(self, at):
         """The size of the live block at an address, or None."""
         block = self.find(at)
@@ -182,6 +202,8 @@ class Heap:
             return
         block = self.find(at)
         if block is not None and block.live:
+            i = self.index(at)
+            self.freed = [(self.starts[i], self.ends[i]), *self.freed[:MOST_FREED - 1]]
             if environment in (DELAY, ALL):
                 self.blocks[self.index(at)] = block._replace(live=False)
             else:

@@ -14,11 +14,11 @@ SENTENCE = re.compile(r"rx: [^\n]+\n")
 READING = re.compile(r"rx: failure (\d+) at ([0-9a-f]{8}): ([^\n]+)\n")
 
 READINGS = {
-    r"went past the end of its block": "overrun",
-    r"used after it was freed": "reused",
+    r"went past the end of its block|went past the end of a block": "overrun",
+    r"used after it was freed|used memory that was freed": "reused",
     r"read before it was written": "unset",
     r"placed otherwise": "placed",
-    r"nothing helps": "nothing",
+    r"nothing helps, so it is no fault": "nothing",
 }
 
 CAUSES = {

@@ -10,6 +10,7 @@ import bisect
 import collections
 import dataclasses
 
+from second.diagnosis import fault
 from second.guard import OFF
 from second.heap import ENVIRONMENTS, PLAIN
 from second.instructions import Failure
@@ -126,6 +127,7 @@ class Session:
         self.journal = []  # ("event", event, refusal or None) and ("gave", connection, bytes, whether it is gone)
         self.steps_of_all = 0  # instructions of the survivors and of all tries
         self.tables = None  # of each failure the tries of the whole table, where this is a list
+        self.faults = []  # and what is most likely wrong there
 
     # -- the loop
 
@@ -260,6 +262,7 @@ class Session:
         self.steps_of_all += failed.steps - self.began
         if self.tables is not None:
             self.tables.append(self.whole_table(failed.taken))
+            self.faults.append(fault(cause, failed, self.tables[-1]))
         for checkpoint, environment in self.table():
             trial, result = self.attempt(checkpoint, environment, failed.taken)
             self.steps_of_all += trial.steps - checkpoint.machine.steps

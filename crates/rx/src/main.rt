@@ -28,7 +28,7 @@ use outputs::{Objection, find_objection};
 use rx_base::Steps;
 use rx_io::{StdSink, StdSource};
 use rx_serve::{End, run_rx};
-use sentences::{tell, tell_diagnosed, tell_memory, tell_not_utf8};
+use sentences::{tell, tell_memory, tell_not_utf8};
 use std::alloc::AllocError;
 use std::env;
 use std::marker::Brand;
@@ -144,6 +144,5 @@ fn main(rt: HostRuntime) -> ExitCode {
     if end.status != 0 {
         tell(&rt, end.answer, end.difference, words.as_slice());
     }
-    tell_diagnosed(&rt, end.answer, words.as_slice());
     ExitCode::from(end.status)
 }

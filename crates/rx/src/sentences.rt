@@ -4,13 +4,11 @@ ghost use Rattle.command_line.specs.Ranges.{HasRanges};
 
 use crate::facts::{add_answer, add_difference, add_limits, add_seen, words_of};
 use crate::message::Message;
-use crate::readings::tell_readings;
 use crate::rows::{head_of, rest_of};
-use crate::seen::{loaded, seen_behind};
+use crate::seen::seen_behind;
 use command_line::{Command, complaint, read_command, usage};
 use replay::Difference;
 use run_history::Answer;
-use rx_serve::MAX_RECORD;
 use std::alloc::AllocError;
 
 // The commands in short.
@@ -59,32 +57,6 @@ fn tell_words(rt: &HostRuntime, words: &[String]) {
             let _ = eprint!(rt; "{COMMANDS}");
         }
         [command, ..] => tell_usage(rt, command.as_str()),
-    }
-}
-
-/// Tells what each verdict of a diagnosis says of its fault, where these words asked for one and the session came to an end.
-pub fn tell_diagnosed(rt: &HostRuntime, answer: Answer, words: &[String]) {
-    let has_ended = matches!(
-        answer,
-        Answer::Finished
-            | Answer::Exited(_)
-            | Answer::GaveUp { .. }
-            | Answer::InputRefused { .. }
-            | Answer::MessageTooLong { .. }
-            | Answer::LimitItems
-            | Answer::LimitEvents
-    );
-    if !has_ended {
-        return;
-    }
-    let Ok(Some(Command::Diagnose(diagnose))) = read_command(rt.alloc(), words) else {
-        return;
-    };
-    let Some(file) = loaded(rt, diagnose.diagnosis, MAX_RECORD) else {
-        return;
-    };
-    if let Ok(text) = str::from_utf8(file.as_slice()) {
-        tell_readings(rt, text);
     }
 }
 

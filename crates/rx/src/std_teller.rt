@@ -1,4 +1,5 @@
-// Standard error: each recovery as it happens, and how a session ended.
+// Standard error: each recovery as it happens, what a diagnosis says of it, and how a session ended.
+use crate::readings::meaning;
 use command_line::{CommandName, Tell, asked_tell, name_of};
 use rx_serve::End;
 use session_notes::Episode;
@@ -6,17 +7,31 @@ use std::alloc::AllocError;
 use std::cell::Cell;
 use std::io::IsTerminal;
 use std::time::{Duration, Instant, SystemTime};
-use telling::{Counts, Sighting, Teller, end_line, is_recovered, recovery_line, sighting_lines};
+use telling::{
+    Counts, Helps, Sighting, Teller, end_line, fault_of, is_recovered, recovery_line,
+    sighting_lines,
+};
 
-/// Tells of recoveries on standard error. What was seen at a failure is kept until it is known what was tried.
+/// Tells of recoveries on standard error, and of what a diagnosis says of each failure. What was seen at a failure is kept until it is known
+/// what was tried.
 #[derive(Drop)]
 pub struct StdTeller<'a> {
     rt: &'a HostRuntime,
-    wants: bool,
+    tells: bool,
+    diagnoses: bool,
     seen: Cell<Option<Sighting>>,
+    helps: Cell<Option<Helps>>,
     began: Cell<Option<Instant>>,
     recovered: Cell<u64>,
     given_up: Cell<u64>,
+}
+
+// Whether words ask for a diagnosis.
+fn is_diagnosis(words: &[String]) -> bool {
+    let [word, ..] = words else {
+        return false;
+    };
+    matches!(name_of(word.as_str()), Some(CommandName::Diagnose))
 }
 
 // Whether words ask that recoveries are told. `auto` is so for `diagnose`, and elsewhere where standard error is a terminal.
@@ -58,8 +73,10 @@ impl<'a> StdTeller<'a> {
     pub fn make(rt: &'a HostRuntime, words: &[String]) -> StdTeller<'a> {
         StdTeller {
             rt,
-            wants: is_asked(rt, words),
+            tells: is_asked(rt, words),
+            diagnoses: is_diagnosis(words),
             seen: Cell::new(None),
+            helps: Cell::new(None),
             began: Cell::new(None),
             recovered: Cell::new(0),
             given_up: Cell::new(0),
@@ -92,9 +109,27 @@ impl<'a> StdTeller<'a> {
         Ok(text)
     }
 
+    // Tells what was tried after a failure.
+    fn tell_recovery(&self, episode: &Episode) {
+        if let Ok(text) = self.lines(episode) {
+            let _ = eprint!(self.rt; "{text}");
+        }
+    }
+
+    // Tells what is most likely wrong at the failure of a number.
+    fn tell_meaning(&self, number: u64, episode: &Episode) {
+        let Some(seen) = self.seen.get() else {
+            return;
+        };
+        let helps = self.helps.get();
+        let meaning = meaning(fault_of(episode.cause, &seen, helps), helps);
+        let pc = episode.pc;
+        let _ = eprintln!(self.rt; "rx: failure {number} at {pc:08x}: {meaning}");
+    }
+
     /// Tells how a session ended, if there was one.
     pub fn tell_end(&self, end: &End) {
-        if !self.wants || end.steps == 0 {
+        if !self.tells || end.steps == 0 {
             return;
         }
         let counts = Counts {
@@ -116,7 +151,7 @@ impl<'a> StdTeller<'a> {
 
 impl Teller for StdTeller<'_> {
     fn wants(&self) -> bool {
-        self.wants
+        self.tells || self.diagnoses
     }
 
     fn failed(&self, seen: &Sighting) {
@@ -124,17 +159,22 @@ impl Teller for StdTeller<'_> {
         self.began.set(Instant::now(self.rt).ok());
     }
 
+    fn tried(&self, helps: Option<Helps>) {
+        self.helps.set(helps);
+    }
+
     fn noted(&self, episode: &Episode) {
-        if !self.wants {
-            return;
-        }
+        let number = self.recovered.get().saturating_add(self.given_up.get());
         if is_recovered(episode) {
             count_one(&self.recovered);
         } else {
             count_one(&self.given_up);
         }
-        if let Ok(text) = self.lines(episode) {
-            let _ = eprint!(self.rt; "{text}");
+        if self.tells {
+            self.tell_recovery(episode);
+        }
+        if self.diagnoses {
+            self.tell_meaning(number, episode);
         }
     }
 }

@@ -3,7 +3,6 @@ ghost use Rattle.std.specs.Prelude.{◌≡◌, ◌⊎◌, ◌+◌, ◌≤◌, Li
 ghost use Rattle.command_line.specs.Commands.{diagnose_shown, run_shown};
 ghost use Rattle.command_line.specs.Ranges.{AreInRange};
 ghost use Rattle.diagnosis.specs.Diagnosis.{rest_text};
-ghost use Rattle.diagnosis.specs.Examined.{ran_of, tables_of};
 ghost use Rattle.file_notes.specs.Beside.{IsThird};
 ghost use Rattle.file_notes.specs.Names.{AreTwo};
 ghost use Rattle.file_notes.specs.Calling.{CallsUpTo, starts_of};
@@ -21,10 +20,11 @@ ghost use Rattle.rx_serve.specs.Settings.{rule_of};
 ghost use Rattle.rx_serve.specs.Status.{status_of};
 
 use crate::ending::{End, status_of_answer};
+use crate::examining::TellingExaminer;
 use crate::noting::{end_notes, is_end, note_answer, serve_kept};
 use crate::serving::begin_session;
 use command_line::{DiagnoseCommand, Guard};
-use diagnosis::{Examiner, head_text, rest_text};
+use diagnosis::{head_text, rest_text};
 use file_notes::{add_to_file, start_file};
 use guest_space::{AccessRule, AllMapped};
 use heap_guard::{GuardMode, HeapGuard};
@@ -35,7 +35,7 @@ use rx_io::{Files, Sink, Source};
 use session_notes::{NoteList, Tries};
 use std::alloc::Global;
 use std::sync::ledger::Ledger;
-use telling::{Teller, TellingWatch};
+use telling::Teller;
 
 // Starts the diagnosis with its first line. Where memory runs out no call is made.
 fn start_diagnosis<F: Files>(
@@ -101,14 +101,6 @@ fn end_diagnosis<F: Files>(
     }
 }
 
-// An examiner that lets a teller know of each failure at which it looks.
-fn telling_examiner<'a, T: Teller>(alloc: Global, teller: &'a T) -> TellingWatch<'a, T, Examiner>
-    ensures tables { tables_of result.watch ≡ [] }
-    ensures ran { ran_of result.watch ≡ 0 }
-{
-    TellingWatch::make(teller, Examiner::make(alloc))
-}
-
 // Loads the program of a command and lets it serve under an access rule, which is that of the command's guard, with a diagnosis.
 fn diagnose_under<R: AccessRule + Drop, F: Files, S: Source, K: Sink, T: Teller, L: Ledger>(
     alloc: Global,
@@ -138,7 +130,7 @@ fn diagnose_under<R: AccessRule + Drop, F: Files, S: Source, K: Sink, T: Teller,
     if let Err(fault) = start_diagnosis(alloc, files, diagnose) {
         return End::without_session(alloc, note_answer(fault));
     }
-    let mut watch = telling_examiner(alloc, teller);
+    let mut watch = TellingExaminer::make(alloc, teller);
     let kept = serve_kept(
         alloc,
         run,
@@ -165,7 +157,7 @@ fn diagnose_under<R: AccessRule + Drop, F: Files, S: Source, K: Sink, T: Teller,
         files,
         diagnose,
         &kept.episodes,
-        watch.inner().tables(),
+        watch.tables(),
         ended,
     );
     End::of_session(answer, session.into_end())

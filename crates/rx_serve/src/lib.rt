@@ -12,6 +12,7 @@ mod converting;
 mod diagnosing;
 mod drilling;
 mod ending;
+mod examining;
 pub mod laws;
 mod loading;
 mod noting;

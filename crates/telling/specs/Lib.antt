@@ -1,2 +1,4 @@
+pub mod Items
 pub mod Places
 pub mod Sightings
+pub mod Faults

@@ -1,9 +1,8 @@
 -- What is seen of a guest that failed.
-use Rattle.std.specs.Prelude.{◌≡◌, ℕ, ◌-◌, true, false, ◌&&◌, List, length, Option, Some, None, option_map, Result, Ok, Err, nat_le, nat_lt, if◌then◌else◌}
-use Rattle.rx_base.specs.declared.item.Item.{Item}
+use Rattle.std.specs.Prelude.{◌≡◌, ℕ, true, false, List, Option, Some, None, Result, Ok, Err, slice_index}
 use Rattle.block_book.specs.Heap.{Heap}
 use Rattle.guest_image.specs.Memory.{Area}
-use Rattle.item_log.specs.Log.{Log, item_at, number_in_connection, received}
+use Rattle.item_log.specs.Log.{Log}
 use Rattle.rv_isa.specs.declared.instr.Instr.{Instr}
 use Rattle.rv_isa.specs.declared.instr.Instr.TheVariants.{Load, Store}
 use Rattle.rv_isa.specs.Meaning.{displaced, load_size, store_size}
@@ -12,19 +11,11 @@ use Rattle.run_history.specs.declared.regs.Regs.{Regs}
 use Rattle.rv_exec.specs.Execution.{fetched}
 use Rattle.rv_exec.specs.Stepping.{value_of}
 use Rattle.guest_cpu.specs.Standing.{Standing}
-use Rattle.telling.specs.Places.{IsPlace}
+use Rattle.telling.specs.Items.{taken_last}
+use Rattle.telling.specs.Places.{IsPlace, gone_at}
 use Rattle.telling.specs.declared.sighting.Access.{Access}
-use Rattle.telling.specs.declared.sighting.SeenItem.{SeenItem}
 use Rattle.telling.specs.declared.sighting.Sighting.{Sighting}
 use Rattle.telling.specs.declared.sighting.Touch.{Touch}
-
--- what is told of an item, which has this number among the messages of its connection
-abbrev pub seen_item : ℕ → Item → SeenItem
-seen_item number item = record { kind = item.kind; conn = item.conn; number = number; len = length item.bytes }
-
--- the item that was taken last, where so many were taken: it was received, and isn't given up
-abbrev pub last_taken : Log → ℕ → Option Item
-last_taken log point = if nat_lt 0 point && (nat_le log.first (point - 1) && nat_lt (point - 1) (received log)) then item_at log (point - 1) else None
 
 -- the access of an instruction, which loads and stores alone have
 abbrev pub wanted_by : Regs → Instr → Option Access
@@ -42,10 +33,10 @@ abbrev pub wanted : Regs → List Area → Option Access
 wanted regs memory = wanted_of regs (fetched regs memory)
 
 -- what is told of an access: the access itself, and what lies where it goes
-abbrev pub IsTouch : List Area → Heap → Option Access → Option Touch → Type 0
-IsTouch memory heap None touch = touch ≡ None
-IsTouch memory heap (Some access) None = ⊥
-IsTouch memory heap (Some access) (Some touch) = (touch.access ≡ access) × IsPlace memory heap access touch.place
+abbrev pub IsTouch : List Area → Heap → Log → Option Access → Option Touch → Type 0
+IsTouch memory heap log None touch = touch ≡ None
+IsTouch memory heap log (Some access) None = ⊥
+IsTouch memory heap log (Some access) (Some touch) = (touch.access ≡ access) × IsPlace memory heap log access touch.place
 
 -- What is seen of a guest that stands here with so many items taken: each field is what the guest and the log of its items have.
 pub record Sees (standing : Standing) (log : Log) (point : ℕ) (seen : Sighting) : Type 0 where
@@ -53,5 +44,6 @@ pub record Sees (standing : Standing) (log : Log) (point : ℕ) (seen : Sighting
   pub steps_is : seen.steps ≡ standing.steps
   pub pc_is : seen.regs.pc ≡ standing.guest.machine.pc
   pub registers_are : seen.regs.x ≡ standing.guest.machine.registers
-  pub item_is : seen.item ≡ option_map (seen_item (number_in_connection log (point - 1))) (last_taken log point)
-  pub touch_is : IsTouch standing.guest.machine.memory standing.guest.heap (wanted seen.regs standing.guest.machine.memory) seen.touch
+  pub item_is : seen.item ≡ taken_last log point
+  pub touch_is : IsTouch standing.guest.machine.memory standing.guest.heap log (wanted seen.regs standing.guest.machine.memory) seen.touch
+  pub pointer_is : seen.pointer ≡ gone_at standing.guest.heap log (slice_index standing.guest.machine.registers 10)

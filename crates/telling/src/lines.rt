@@ -1,6 +1,8 @@
 // The lines that a person is told.
-use crate::place::{Near, Place};
-use crate::sighting::{SeenItem, Sighting, Touch};
+use crate::item::SeenItem;
+use crate::place::{Gone, Place};
+use crate::sighting::{Sighting, Touch};
+use block_book::{Block, Site};
 use run_history::Cause;
 use session_notes::{Episode, Try, cause_text, env_word};
 use std::alloc::{AllocError, Global};
@@ -54,17 +56,24 @@ fn duration(alloc: Global, micros: Option<u64>) -> Result<String, AllocError> {
 }
 
 // What an item is: a message with its number among those of its connection.
-fn item_text(alloc: Global, item: &SeenItem) -> Result<String, AllocError> {
+fn item_name(alloc: Global, item: &SeenItem) -> Result<String, AllocError> {
     let conn = item.conn;
-    if item.kind == MESSAGE {
-        let number = item.number;
-        let bytes = counted(alloc, item.len as u64, "byte")?;
-        return format!(in alloc; "message {number} of connection {conn}, {bytes}");
+    let number = item.number;
+    match item.kind {
+        MESSAGE => format!(in alloc; "message {number} of connection {conn}"),
+        OPENED => format!(in alloc; "the open of connection {conn}"),
+        _ => format!(in alloc; "the close of connection {conn}"),
     }
-    if item.kind == OPENED {
-        return format!(in alloc; "the open of connection {conn}");
+}
+
+// The same, with the bytes of a message.
+fn item_text(alloc: Global, item: &SeenItem) -> Result<String, AllocError> {
+    let name = item_name(alloc, item)?;
+    if item.kind != MESSAGE {
+        return Ok(name);
     }
-    format!(in alloc; "the close of connection {conn}")
+    let bytes = counted(alloc, item.len as u64, "byte")?;
+    format!(in alloc; "{name}, {bytes}")
 }
 
 // Which item was taken last, with a blank before it; nothing where that isn't known.
@@ -134,17 +143,66 @@ pub fn recovery_line(
 }
 
 // Where an address is, as seen from a block at or below it.
-fn near_text(alloc: Global, at: u32, near: &Near) -> Result<String, AllocError> {
-    let kind = if near.freed { "freed block" } else { "block" };
-    let size = counted(alloc, u64::from(near.size), "byte")?;
-    let start = near.at;
+fn near_text(alloc: Global, at: u32, block: &Block) -> Result<String, AllocError> {
+    let kind = if block.delayed {
+        "freed block"
+    } else {
+        "block"
+    };
+    let size = counted(alloc, u64::from(block.size), "byte")?;
+    let start = block.at;
     let within = at.saturating_sub(start);
-    if within < near.size {
+    if within < block.size {
         let within = counted(alloc, u64::from(within), "byte")?;
         return format!(in alloc; "{within} into a {kind} of {size} at {start:08x}");
     }
-    let past = counted(alloc, u64::from(within - near.size), "byte")?;
+    let past = counted(alloc, u64::from(within - block.size), "byte")?;
     format!(in alloc; "{past} past a {kind} of {size} at {start:08x}")
+}
+
+// Where a program asked, and for which item, as far as that is known.
+fn site_text(alloc: Global, site: &Site, item: Option<&SeenItem>) -> Result<String, AllocError> {
+    let pc = site.pc;
+    let caller = site.caller;
+    let cause = match item {
+        Some(item) => {
+            let name = item_name(alloc, item)?;
+            format!(in alloc; "for {name}")?
+        }
+        None => {
+            let items = counted(alloc, site.taken, "item")?;
+            format!(in alloc; "behind {items}")?
+        }
+    };
+    format!(in alloc; "at {pc:08x} (ra {caller:08x}) {cause}")
+}
+
+// The line of a block that was freed.
+fn gone_line(alloc: Global, gone: &Gone) -> Result<String, AllocError> {
+    let block = &gone.freed.block;
+    let size = counted(alloc, u64::from(block.size), "byte")?;
+    let start = block.at;
+    let made = site_text(alloc, &block.made, gone.made_for.as_ref())?;
+    let freed = site_text(alloc, &gone.freed.by, gone.freed_for.as_ref())?;
+    format!(in alloc;
+        "    there was a block of {size} at {start:08x}, allocated {made}, freed {freed}\n"
+    )
+}
+
+// The lines of the blocks at an address: where they were allocated and freed.
+fn block_lines(alloc: Global, place: &Place) -> Result<String, AllocError> {
+    let mut text = String::new(alloc);
+    if let Some(near) = &place.below {
+        let start = near.block.at;
+        let made = site_text(alloc, &near.block.made, near.made_for.as_ref())?;
+        let line = format!(in alloc; "    the block at {start:08x} was allocated {made}\n")?;
+        text.push_str(line.as_str())?;
+    }
+    if let Some(gone) = &place.gone {
+        let line = gone_line(alloc, gone)?;
+        text.push_str(line.as_str())?;
+    }
+    Ok(text)
 }
 
 // What lies at an address.
@@ -156,18 +214,19 @@ fn place_text(alloc: Global, at: u32, place: &Place) -> Result<String, AllocErro
         return String::from_str(alloc, "no segment allows it");
     }
     match &place.below {
-        Some(near) => near_text(alloc, at, near),
+        Some(near) => near_text(alloc, at, &near.block),
         None => String::from_str(alloc, "in the heap, with no block near below"),
     }
 }
 
-// The line of an access.
-fn touch_line(alloc: Global, touch: &Touch) -> Result<String, AllocError> {
+// The lines of an access.
+fn touch_lines(alloc: Global, touch: &Touch) -> Result<String, AllocError> {
     let verb = if touch.access.write { "wrote" } else { "read" };
     let count = counted(alloc, u64::from(touch.access.count), "byte")?;
     let at = touch.access.at;
     let place = place_text(alloc, at, &touch.place)?;
-    format!(in alloc; "  {verb} {count} at {at:08x}: {place}\n")
+    let blocks = block_lines(alloc, &touch.place)?;
+    format!(in alloc; "  {verb} {count} at {at:08x}: {place}\n{blocks}")
 }
 
 // The lines of the registers, eight of them in each.
@@ -182,15 +241,22 @@ fn register_lines(alloc: Global, values: &[u32]) -> Result<String, AllocError> {
     Ok(text)
 }
 
+// The lines of a pointer that can't be freed.
+fn pointer_lines(alloc: Global, seen: &Sighting) -> Result<String, AllocError> {
+    let pointer = seen.regs.x[10];
+    let gone = match &seen.pointer {
+        Some(gone) => gone_line(alloc, gone)?,
+        None => String::new(alloc),
+    };
+    format!(in alloc; "  no block that can be freed begins at {pointer:08x}\n{gone}")
+}
+
 /// Lines about what was seen at a failure of this cause, each with its line feed: the access that failed and what lies there, the
-/// pointer that can't be freed, and the registers.
+/// pointer that can't be freed, where the blocks there were allocated and freed, and the registers.
 pub fn sighting_lines(alloc: Global, cause: Cause, seen: &Sighting) -> Result<String, AllocError> {
     let mut text = match (cause, &seen.touch) {
-        (Cause::BadAccess, Some(touch)) => touch_line(alloc, touch)?,
-        (Cause::BadFree, _) => {
-            let pointer = seen.regs.x[10];
-            format!(in alloc; "  no block that can be freed begins at {pointer:08x}\n")?
-        }
+        (Cause::BadAccess, Some(touch)) => touch_lines(alloc, touch)?,
+        (Cause::BadFree, _) => pointer_lines(alloc, seen)?,
         _ => String::new(alloc),
     };
     let registers = register_lines(alloc, seen.regs.x.as_slice())?;

@@ -1,12 +1,13 @@
 // What is seen of a guest that failed.
-ghost use Rattle.std.specs.Prelude.{◌≡◌, ◌-◌, ◌<◌, ◌&&◌, option_map, length};
-ghost use Rattle.item_log.specs.Log.{Log, number_in_connection};
+ghost use Rattle.std.specs.Prelude.{◌≡◌};
+ghost use Rattle.item_log.specs.Log.{Log};
 ghost use Rattle.rv_isa.specs.Ranges.{IsInRange, IsRegister};
 ghost use Rattle.guest_space.specs.Space.{flat};
 ghost use Rattle.rv_exec.specs.Stepping.{value_of};
-ghost use Rattle.telling.specs.Sightings.{IsTouch, Sees, last_taken, seen_item, wanted, wanted_by};
+ghost use Rattle.telling.specs.Sightings.{IsTouch, Sees, wanted, wanted_by};
 
-use crate::place::{Place, place_of};
+use crate::item::{SeenItem, taken_last};
+use crate::place::{Gone, Place, gone_at, place_of};
 use block_book::Book;
 use guest_cpu::Cpu;
 use guest_space::{AccessRule, GuestSpace};
@@ -14,17 +15,6 @@ use item_log::ItemLog;
 use run_history::Regs;
 use rv_exec::next_instr;
 use rv_isa::{Instr, bytes_loaded, bytes_stored, displace};
-use rx_base::Conn;
-
-/// An item: its kind, its connection, its number among the messages of that connection since it opened, and how many bytes it has. The
-/// first message has number 1, an open 0, and a close that of the last message before it.
-#[derive(Clone, Copy, Debug, PartialEq, Eq)]
-pub struct SeenItem {
-    pub kind: u8,
-    pub conn: Conn,
-    pub number: u64,
-    pub len: usize,
-}
 
 /// An access of an instruction: whether it writes, and how many bytes from which address on.
 #[derive(Clone, Copy, Debug, PartialEq, Eq)]
@@ -42,7 +32,8 @@ pub struct Touch {
 }
 
 /// What is seen of a guest that failed: how many items it had taken and how many instructions done, where it stands with its registers,
-/// the item that it took last, if the log has it still, and the access of its next instruction, where that is a load or a store.
+/// the item that it took last, if the log has it still, the access of its next instruction, where that is a load or a store, and the block
+/// that was freed last of those that had the address in x10, if it is remembered.
 #[derive(Clone, Copy, Debug, PartialEq, Eq)]
 pub struct Sighting {
     pub point: u64,
@@ -50,6 +41,7 @@ pub struct Sighting {
     pub regs: Regs,
     pub item: Option<SeenItem>,
     pub touch: Option<Touch>,
+    pub pointer: Option<Gone>,
 }
 
 // What a register reads as.
@@ -95,39 +87,16 @@ fn wanted(regs: &Regs, space: &GuestSpace) -> Option<Access>
 }
 
 // That access, and what lies where it goes.
-fn touch_of(regs: &Regs, book: &Book, space: &GuestSpace) -> Option<Touch>
-    ensures { IsTouch (flat space.now) book.now (wanted regs.now (flat space.now)) result }
+fn touch_of(regs: &Regs, book: &Book, items: &ItemLog, space: &GuestSpace) -> Option<Touch>
+    ensures { IsTouch (flat space.now) book.now items.now (wanted regs.now (flat space.now)) result }
 {
     match wanted(regs, space) {
         None => None,
         Some(access) => {
-            let place = place_of(book, space, &access);
+            let place = place_of(book, items, space, &access);
             Some(Touch { access, place })
         }
     }
-}
-
-// The item that was taken last, where so many were taken, if the log has it still.
-fn last_item(items: &ItemLog, point: u64) -> Option<SeenItem>
-    ensures { result ≡ option_map (seen_item (number_in_connection items.now (point - 1))) (last_taken items.now point) }
-{
-    if point == 0 {
-        return None;
-    }
-    let number = point - 1;
-    if number < items.first() {
-        return None;
-    }
-    if number >= items.received() {
-        return None;
-    }
-    let item = items.item(number);
-    Some(SeenItem {
-        kind: item.kind,
-        conn: item.conn,
-        number: items.number_in_connection(number),
-        len: item.bytes.as_slice().len(),
-    })
 }
 
 /// What is seen of a guest that failed with so many items taken, and of their log.
@@ -139,7 +108,8 @@ pub fn sight<R: AccessRule>(cpu: &Cpu<R>, items: &ItemLog, point: u64) -> Sighti
         point,
         steps: cpu.marks().steps,
         regs,
-        item: last_item(items, point),
-        touch: touch_of(&regs, cpu.book(), cpu.memory()),
+        item: taken_last(items, point),
+        touch: touch_of(&regs, cpu.book(), items, cpu.memory()),
+        pointer: gone_at(cpu.book(), items, regs.x[10]),
     }
 }

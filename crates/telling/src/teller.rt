@@ -1,6 +1,6 @@
 // Who tells a person of recoveries.
 
-use crate::Sighting;
+use crate::{Helps, Sighting};
 use session_notes::Episode;
 
 /// Somebody who tells a person of failures and of what was tried. What it shows no clause says.
@@ -10,6 +10,9 @@ pub trait Teller {
 
     /// A program failed, and this was seen of it. What is tried comes behind.
     fn failed(&self, seen: &Sighting);
+
+    /// Everything was tried behind a failure, and this helps; None where nothing does.
+    fn tried(&self, helps: Option<Helps>);
 
     /// What was tried after a failure was noted.
     fn noted(&self, episode: &Episode);
@@ -25,6 +28,8 @@ impl Teller for NoTeller {
     }
 
     fn failed(&self, _seen: &Sighting) {}
+
+    fn tried(&self, _helps: Option<Helps>) {}
 
     fn noted(&self, _episode: &Episode) {}
 }

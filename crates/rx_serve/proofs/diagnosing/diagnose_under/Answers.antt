@@ -38,9 +38,9 @@ pub end_notes-ended-requires-clause-taken : goal.end_notes-ended-requires-clause
 end_notes-ended-requires-clause-taken g c =
     let has = c.in-Ok.ensures.begins in
     let value = run_shown c.args.diagnose.now.session in
-    let ran = ran_of c.serve_kept-kept.new.watch.watch in
+    let ran = ran_of c.serve_kept-kept.new.watch.examiner.watch in
     let own : ℕ = c.serve_kept-kept.new.steps - ran in
-    let fits : own + ran ≡ ran_of c.telling_examiner-watch.result.watch + c.serve_kept-kept.new.steps = omega (arith, c.serve_kept-kept.ensures.counted_at_least, c.telling_examiner-watch.ensures.ran) in
+    let fits : own + ran ≡ ran_of c.make-watch.result.examiner.watch + c.serve_kept-kept.new.steps = omega (arith, c.serve_kept-kept.ensures.counted_at_least, c.make-watch.ensures.ran) in
     subst (λ n. n ≤ MAX_ITEMS) (sym c.taken.ensures)
     (counts_fit g.R.AccessRule.rule (options_of value) (options_in_range value c.requires.in_range (options_of value) refl) has.begun (c.serve_kept-kept.ensures.serves.2 has.image own (begun_own has.image (options_of value) c.args.rule c.in-Ok.session has.begun) fits).0.noted).0
 
@@ -48,9 +48,9 @@ pub end_notes-ended-requires-clause-steps : goal.end_notes-ended-requires-clause
 end_notes-ended-requires-clause-steps g c =
     let has = c.in-Ok.ensures.begins in
     let value = run_shown c.args.diagnose.now.session in
-    let ran = ran_of c.serve_kept-kept.new.watch.watch in
+    let ran = ran_of c.serve_kept-kept.new.watch.examiner.watch in
     let own : ℕ = c.serve_kept-kept.new.steps - ran in
-    let fits : own + ran ≡ ran_of c.telling_examiner-watch.result.watch + c.serve_kept-kept.new.steps = omega (arith, c.serve_kept-kept.ensures.counted_at_least, c.telling_examiner-watch.ensures.ran) in
+    let fits : own + ran ≡ ran_of c.make-watch.result.examiner.watch + c.serve_kept-kept.new.steps = omega (arith, c.serve_kept-kept.ensures.counted_at_least, c.make-watch.ensures.ran) in
     subst (λ n. n < 2 ^ 63) (sym c.steps.ensures)
     (counts_fit g.R.AccessRule.rule (options_of value) (options_in_range value c.requires.in_range (options_of value) refl) has.begun (c.serve_kept-kept.ensures.serves.2 has.image own (begun_own has.image (options_of value) c.args.rule c.in-Ok.session has.begun) fits).0.noted).1
 
@@ -58,24 +58,24 @@ pub end_diagnosis-answer-requires : goal.end_diagnosis-answer-requires
 end_diagnosis-answer-requires g c is =
     let has = c.in-Ok.ensures.begins in
     let value = run_shown c.args.diagnose.now.session in
-    let ran = ran_of c.serve_kept-kept.new.watch.watch in
+    let ran = ran_of c.serve_kept-kept.new.watch.examiner.watch in
     let own : ℕ = c.serve_kept-kept.new.steps - ran in
-    let fits : own + ran ≡ ran_of c.telling_examiner-watch.result.watch + c.serve_kept-kept.new.steps = omega (arith, c.serve_kept-kept.ensures.counted_at_least, c.telling_examiner-watch.ensures.ran) in
+    let fits : own + ran ≡ ran_of c.make-watch.result.examiner.watch + c.serve_kept-kept.new.steps = omega (arith, c.serve_kept-kept.ensures.counted_at_least, c.make-watch.ensures.ran) in
     let served = c.serve_kept-kept.ensures.serves in
     let at_end : IsEnd (answer_of served.0) = subst IsEnd (closes_same value _ _ _ _ _ _ c.end_notes-ended.ensures.closes is ∙ served.1) is in
-    watched_length c.noted_tables_are_told.ensures c.serve_kept-kept.result.episodes c.telling_examiner-watch.ensures.tables (c.tables.ensures ∙ ap tables_of c.inner.ensures)
+    watched_length c.noted_tables_are_told.ensures c.serve_kept-kept.result.episodes c.make-watch.ensures.tables c.tables.ensures
     (served.2 has.image own (begun_own has.image (options_of value) c.args.rule c.in-Ok.session has.begun) fits) at_end
 
 pub returns-clause-ends : goal.returns-clause-ends
 returns-clause-ends g c =
     let has = c.in-Ok.ensures.begins in
     let value = run_shown c.args.diagnose.now.session in
-    let ran = ran_of c.serve_kept-kept.new.watch.watch in
+    let ran = ran_of c.serve_kept-kept.new.watch.examiner.watch in
     let own : ℕ = c.serve_kept-kept.new.steps - ran in
-    let fits : own + ran ≡ ran_of c.telling_examiner-watch.result.watch + c.serve_kept-kept.new.steps = omega (arith, c.serve_kept-kept.ensures.counted_at_least, c.telling_examiner-watch.ensures.ran) in
+    let fits : own + ran ≡ ran_of c.make-watch.result.examiner.watch + c.serve_kept-kept.new.steps = omega (arith, c.serve_kept-kept.ensures.counted_at_least, c.make-watch.ensures.ran) in
     let served = c.serve_kept-kept.ensures.serves in
     inr (inr (diagnosed c.noted_tables_are_told.ensures g.R.AccessRule.rule (diagnose_shown c.args.diagnose.now) c.requires.third _ _ _ _ _ _ _ _ _ _ _ _ _ _ _ _ _ _ own c.of_session.result served.0 c.serve_kept-kept.result.episodes
-    (omega arith) c.requires.rule has.program has.begun has.starts c.in_default.ensures.starts c.telling_examiner-watch.ensures.tables (c.tables.ensures ∙ ap tables_of c.inner.ensures)
+    (omega arith) c.requires.rule has.program has.begun has.starts c.in_default.ensures.starts c.make-watch.ensures.tables c.tables.ensures
     (served.2 has.image own (begun_own has.image (options_of value) c.args.rule c.in-Ok.session has.begun) fits) c.taken.ensures c.steps.ensures served.1 c.end_notes-ended.ensures.closes c.end_diagnosis-answer.ensures.closes
     c.in-Ok.ensures.calls c.in_default.ensures.calls c.serve_kept-kept.ensures.adds c.end_notes-ended.ensures.calls c.end_diagnosis-answer.ensures.calls
     c.of_session.ensures.answer (c.of_session.ensures.recorded ∙ ap (λ (left : Leaves _). left.recorded) c.into_end.ensures) (c.of_session.ensures.tail ∙ ap (λ (left : Leaves _). left.tail) c.into_end.ensures)
