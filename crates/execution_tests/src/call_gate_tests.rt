@@ -95,7 +95,7 @@ fn try_copy(rt: &impl Abort, alloc: Global, connections: &mut ConnSet) -> Result
         (4095, true),
         (4096, false),
     ] {
-        assert_eq!(rt; copy.has(conn), is_open, "{conn}");
+        assert!(rt; copy.has(conn) == is_open, "{conn}");
     }
     Ok(())
 }
@@ -110,7 +110,7 @@ fn try_calls(
     for row in CALLS.lines() {
         let (columns, wanted) = row.split_once(" > ").ok_or("no row")?;
         let call = made(alloc, space, book, connections, columns)?;
-        assert_eq!(rt; call.as_str(), wanted, "{row}");
+        assert!(rt; call.as_str() == wanted, "{row}, and not {call}");
     }
     Ok(())
 }

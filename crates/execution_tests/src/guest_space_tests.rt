@@ -78,7 +78,7 @@ fn try_row(rt: &impl Abort, alloc: Global, space: &mut GuestSpace, row: &str) ->
         Some(number) => format!(in alloc; "{access} {at:x} {size:x} gives {number:x}")?,
         None => format!(in alloc; "{access} {at:x} {size:x} refused")?,
     };
-    assert_eq!(rt; seen.as_str(), row);
+    assert!(rt; seen.as_str() == row, "{row}, and not {seen}");
     Ok(())
 }
 
@@ -129,10 +129,15 @@ fn code_of(alloc: Global, flags: u8) -> Result<(u32, usize), Fail> {
 
 #[test]
 fn each_word_of_text_has_an_entry(rt: HostRuntime) -> Result<(), Fail> {
-    assert_eq!(&rt; code_of(rt.alloc(), 5)?, (0x10000, 3));
-    assert_eq!(&rt; code_of(rt.alloc(), 1)?, (0x10000, 3));
-    assert_eq!(&rt; code_of(rt.alloc(), 7)?, (0, 1));
+    for (flags, start, count) in [(5, 0x10000, 3), (1, 0x10000, 3), (7, 0, 1)] {
+        assert!(rt; code_of(rt.alloc(), flags)? == (start, count), "{flags}");
+    }
     Ok(())
+}
+
+// Whether so many frames are used, and this word stands on both of two pages.
+fn shows(space: &GuestSpace, used: u32, word: u32) -> bool {
+    space.used() == used && space.load(0x10ffe, 4) == Ok(word)
 }
 
 // A store across two pages copies both of what was saved, and is undone.
@@ -141,21 +146,15 @@ fn try_saving(rt: &impl Abort, image: &Image, space: &mut GuestSpace)
 {
     let _window = image.window;
     space.save(0);
-    assert_eq!(rt; (space.used(), space.held()), (256, 256));
+    assert!(rt; space.used() == 256 && space.held() == 256);
     assert!(rt; space.store(0x10ffe, 4, 0x4433_2211).is_ok());
-    assert_eq!(rt;
-        (space.used(), space.load(0x10ffe, 4)),
-        (258, Ok(0x4433_2211))
-    );
+    assert!(rt; shows(space, 258, 0x4433_2211));
     assert!(rt; space.is_saved(0));
     space.restore(0);
-    assert_eq!(rt;
-        (space.used(), space.load(0x10ffe, 4)),
-        (256, Ok(0xd4c3_b2a1))
-    );
+    assert!(rt; shows(space, 256, 0xd4c3_b2a1));
     assert!(rt; space.is_saved(0));
     space.release(0);
-    assert_eq!(rt; (space.used(), space.held()), (256, 0));
+    assert!(rt; space.used() == 256 && space.held() == 0);
 }
 
 // The same file with its data at 0x10ffe, two bytes of it on each of two pages, in a window of 256 pages.

@@ -1,6 +1,7 @@
 use alloc_env::Env;
 use diagnosis::{diagnosis_text, head_text, rest_text};
 use run_history::Cause;
+use rx_base::Bytes;
 use session_notes::{Episode, Tried, Tries, Try};
 use std::alloc::{AllocError, Global};
 use std::test::Fail;
@@ -83,60 +84,100 @@ fn table(alloc: Global, came: [Tried; 5]) -> Result<Tries, AllocError> {
     Ok(Tries::from_vec(tries))
 }
 
-#[test]
-fn environments_that_cure_are_told(rt: HostRuntime) -> Result<(), Fail> {
-    let alloc = rt.alloc();
-    let failed = Tried::Failed(Cause::AssertFailed(1));
-    let came = [Tried::Asks, failed, failed, failed, Tried::Asks];
-    let episodes = [failure(alloc, 2, Cause::AssertFailed(1))];
+const AGAIN: Tried = Tried::Failed(Cause::AssertFailed(1));
+
+// The cause of a failure at point 2, and what came of its trials in each environment, from both checkpoints; the status, and what is told.
+static DIAGNOSES: [(Cause, [Tried; 5], u8, &[u8]); 2] = [
+    // Two environments cure it.
+    (
+        Cause::AssertFailed(1),
+        [Tried::Asks, AGAIN, AGAIN, AGAIN, Tried::Asks],
+        0,
+        CURED,
+    ),
+    // None does.
+    (
+        Cause::BadAccess,
+        [Tried::Failed(Cause::BadAccess); 5],
+        5,
+        NOT_CURED,
+    ),
+];
+
+fn diagnosed(
+    alloc: Global,
+    cause: Cause,
+    came: [Tried; 5],
+    status: u8,
+) -> Result<Bytes, AllocError> {
     let tables = [table(alloc, came)?];
-    let text = diagnosis_text(alloc, &episodes, &tables, 0)?;
-    assert_eq!(rt; text.as_slice(), CURED);
-    Ok(())
+    diagnosis_text(alloc, &[failure(alloc, 2, cause)], &tables, status)
 }
 
 #[test]
-fn a_failure_that_none_cures_is_told(rt: HostRuntime) -> Result<(), Fail> {
-    let alloc = rt.alloc();
-    let came = [Tried::Failed(Cause::BadAccess); 5];
-    let episodes = [failure(alloc, 2, Cause::BadAccess)];
-    let tables = [table(alloc, came)?];
-    let text = diagnosis_text(alloc, &episodes, &tables, 5)?;
-    assert_eq!(rt; text.as_slice(), NOT_CURED);
+fn environments_that_cure_are_told(rt: HostRuntime) -> Result<(), Fail> {
+    for row in DIAGNOSES.iter() {
+        let (cause, came, status, text) = *row;
+        let told = diagnosed(rt.alloc(), cause, came, status)?;
+        assert!(rt; told.as_slice() == text, "{cause:?}");
+    }
     Ok(())
 }
 
 #[test]
 fn a_session_without_a_failure_has_two_lines(rt: HostRuntime) -> Result<(), Fail> {
-    let alloc = rt.alloc();
-    let head = head_text(alloc)?;
-    assert_eq!(rt; head.as_slice(), b"rx diagnosis 1\n".as_slice());
-    let rest = rest_text(alloc, &[], &[], 1)?;
-    assert_eq!(rt; rest.as_slice(), b"end 1 episodes 0\n".as_slice());
+    let head = head_text(rt.alloc())?;
+    assert!(rt; head.as_slice() == b"rx diagnosis 1\n".as_slice());
+    let rest = rest_text(rt.alloc(), &[], &[], 1)?;
+    assert!(rt; rest.as_slice() == b"end 1 episodes 0\n".as_slice());
     Ok(())
 }
 
-#[test]
-fn episodes_are_numbered_and_have_verdicts(rt: HostRuntime) -> Result<(), Fail> {
-    let alloc = rt.alloc();
-    let first = [
-        made(4, Env::Pad, Tried::Behind),
-        made(2, Env::Pad, Tried::Contradicts),
-        made(2, Env::Zero, Tried::Exits(7)),
-    ];
-    let second = [
-        made(6, Env::Delay, Tried::Asks),
-        made(4, Env::Pad, Tried::Asks),
-    ];
+static FIRST: [Try; 3] = [
+    Try {
+        checkpoint: 4,
+        env: Env::Pad,
+        tried: Tried::Behind,
+    },
+    Try {
+        checkpoint: 2,
+        env: Env::Pad,
+        tried: Tried::Contradicts,
+    },
+    Try {
+        checkpoint: 2,
+        env: Env::Zero,
+        tried: Tried::Exits(7),
+    },
+];
+
+static SECOND: [Try; 2] = [
+    Try {
+        checkpoint: 6,
+        env: Env::Delay,
+        tried: Tried::Asks,
+    },
+    Try {
+        checkpoint: 4,
+        env: Env::Pad,
+        tried: Tried::Asks,
+    },
+];
+
+// What is told behind the first line of two failures with these trials.
+fn rest_of_two(alloc: Global) -> Result<Bytes, AllocError> {
+    let first = Tries::from_vec(FIRST.to_vec(alloc)?);
+    let second = Tries::from_vec(SECOND.to_vec(alloc)?);
     let episodes = [
         failure(alloc, 4, Cause::Hang),
         failure(alloc, 9, Cause::BadFree),
     ];
-    let tables = [
-        Tries::from_vec(first.to_vec(alloc)?),
-        Tries::from_vec(second.to_vec(alloc)?),
-    ];
-    let rest = rest_text(alloc, &episodes, &tables, 255)?;
-    assert_eq!(rt; rest.as_slice(), TWO_EPISODES);
+    rest_text(alloc, &episodes, &[first, second], 255)
+}
+
+#[test]
+fn episodes_are_numbered_and_have_verdicts(rt: HostRuntime) -> Result<(), Fail> {
+    let rest = rest_of_two(rt.alloc())?;
+    assert!(rt; rest.as_slice() == TWO_EPISODES);
     Ok(())
 }

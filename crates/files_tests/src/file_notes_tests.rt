@@ -9,7 +9,6 @@ use rx_base::IoFault;
 use rx_io::MemoryFiles;
 use session_notes::{Episode, Notes, Tried, Tries, Try};
 use std::alloc::{AllocError, Global};
-use std::process::Abort;
 use std::test::Fail;
 
 const CHOICES: [Choice; 2] = [
@@ -72,50 +71,52 @@ fn bytes_of<'f>(files: &'f MemoryFiles, name: &str) -> &'f [u8] {
 }
 
 // The call that fails, or 0, and what the two files have then.
-type Row<'r> = (u64, &'r str, &'r str);
+type Row = (u64, &'static str, &'static str);
 
-fn check_row(alloc: Global, rt: &impl Abort, row: &Row<'_>) -> Result<(), Fail> {
-    let (call, record, report) = *row;
+// Whether a row is as it says.
+fn is_so(alloc: Global, (call, record, report): Row) -> Result<bool, Fail> {
     let mut files = MemoryFiles::make(alloc, Vec::new(alloc), [call].to_vec(alloc)?);
     let e = hang(alloc)?;
     let answer = write_all(alloc, &mut files, &e);
-    assert_eq!(rt; answer.is_ok(), call == 0);
-    assert_eq!(rt; bytes_of(&files, "a.record"), record.as_bytes());
-    assert_eq!(rt; bytes_of(&files, "a.report"), report.as_bytes());
-    Ok(())
+    Ok(
+        answer.is_ok() == (call == 0)
+            && bytes_of(&files, "a.record") == record.as_bytes()
+            && bytes_of(&files, "a.report") == report.as_bytes(),
+    )
 }
+
+static ROWS: [Row; 9] = [
+    (
+        0,
+        "rx record 2 window 4 frame line\nc 00012340 z 00000003 00000014\nr 00000000 - 00012340 89abcdef\nend 900 7\n",
+        "rx report 1\nfailure 0 point 4 cause Hang at 00010074\ntry 0 checkpoint 3 env zero result survived\nend 0 taken 7 steps 900\n",
+    ),
+    (1, "", ""),
+    (2, "", ""),
+    (3, "rx record 2 window 4 frame line\n", ""),
+    (4, "rx record 2 window 4 frame line\n", ""),
+    (5, "rx record 2 window 4 frame line\n", "rx report 1\n"),
+    (
+        6,
+        "rx record 2 window 4 frame line\nc 00012340 z 00000003 00000014\nr 00000000 - 00012340 89abcdef\n",
+        "rx report 1\n",
+    ),
+    (
+        7,
+        "rx record 2 window 4 frame line\nc 00012340 z 00000003 00000014\nr 00000000 - 00012340 89abcdef\n",
+        "rx report 1\nfailure 0 point 4 cause Hang at 00010074\ntry 0 checkpoint 3 env zero result survived\n",
+    ),
+    (
+        8,
+        "rx record 2 window 4 frame line\nc 00012340 z 00000003 00000014\nr 00000000 - 00012340 89abcdef\nend 900 7\n",
+        "rx report 1\nfailure 0 point 4 cause Hang at 00010074\ntry 0 checkpoint 3 env zero result survived\n",
+    ),
+];
 
 #[test]
 fn files_end_where_a_call_failed(rt: HostRuntime) -> Result<(), Fail> {
-    let rows: [Row<'_>; 9] = [
-        (
-            0,
-            "rx record 2 window 4 frame line\nc 00012340 z 00000003 00000014\nr 00000000 - 00012340 89abcdef\nend 900 7\n",
-            "rx report 1\nfailure 0 point 4 cause Hang at 00010074\ntry 0 checkpoint 3 env zero result survived\nend 0 taken 7 steps 900\n",
-        ),
-        (1, "", ""),
-        (2, "", ""),
-        (3, "rx record 2 window 4 frame line\n", ""),
-        (4, "rx record 2 window 4 frame line\n", ""),
-        (5, "rx record 2 window 4 frame line\n", "rx report 1\n"),
-        (
-            6,
-            "rx record 2 window 4 frame line\nc 00012340 z 00000003 00000014\nr 00000000 - 00012340 89abcdef\n",
-            "rx report 1\n",
-        ),
-        (
-            7,
-            "rx record 2 window 4 frame line\nc 00012340 z 00000003 00000014\nr 00000000 - 00012340 89abcdef\n",
-            "rx report 1\nfailure 0 point 4 cause Hang at 00010074\ntry 0 checkpoint 3 env zero result survived\n",
-        ),
-        (
-            8,
-            "rx record 2 window 4 frame line\nc 00012340 z 00000003 00000014\nr 00000000 - 00012340 89abcdef\nend 900 7\n",
-            "rx report 1\nfailure 0 point 4 cause Hang at 00010074\ntry 0 checkpoint 3 env zero result survived\n",
-        ),
-    ];
-    for row in &rows {
-        check_row(rt.alloc(), &rt, row)?;
+    for row in ROWS.iter() {
+        assert!(rt; is_so(rt.alloc(), *row)?, "call {}", row.0);
     }
     Ok(())
 }

@@ -33,64 +33,70 @@ fn failed_tries(read: &ReadReport) -> Option<usize> {
     }
 }
 
+// Whether a report has the counts of its row.
+fn has_counts(read: &ReadReport, row: Row) -> bool {
+    let (_, adopted, tries, ended) = row;
+    read.adopted.as_slice().len() == adopted
+        && failed_tries(read) == tries
+        && read.end.is_some() == ended
+}
+
+static READ: [Row; 11] = [
+    ("rx report 1\n", 0, None, false),
+    (NOTED, 1, None, false),
+    (FREED, 1, None, false),
+    (TWICE, 2, None, false),
+    (
+        "rx report 1\nfailure 0 point 3 cause BadFree at 0001009c\ntry 0 checkp",
+        0,
+        Some(0),
+        false,
+    ),
+    (
+        "rx report 1\nfailure 0 point 3 cause Hang at 0001009c\ntry 0 checkpoint 2 env all result Behind\nend 5",
+        0,
+        Some(1),
+        false,
+    ),
+    (
+        "rx report 1\nfailure 0 point 0 cause BadCall at ffffffff\ntry 0 checkpoint 0 env plain result Behind\nend 5 taken 0 steps 7\n",
+        0,
+        Some(1),
+        true,
+    ),
+    (
+        "rx report 1\nend 0 taken 18446744073709551615 steps 368\n",
+        0,
+        None,
+        true,
+    ),
+    (
+        "{\"report\":1}\n{\"cause\":\"BadFree\",\"fail",
+        0,
+        None,
+        false,
+    ),
+    (
+        "{\"report\":1}\n{\"cause\":\"AssertFailed 4294967295\",\"failure\":0,\"pc\":\"0001a0fc\",\"point\":20,\"tries\":[\
+         {\"checkpoint\":18,\"env\":\"isolate\",\"result\":\"AssertFailed 4294967295\"},{\"checkpoint\":16,\"env\":\"all\",\"result\":\"survived\"}]}\n\
+         {\"end\":255,\"steps\":18446744073709551615,\"taken\":1048576}\n",
+        1,
+        None,
+        true,
+    ),
+    (
+        "{\"report\":1}\n{\"cause\":\"BadJump\",\"failure\":0,\"pc\":\"00000000\",\"point\":0,\"tries\":[]}\n",
+        0,
+        Some(0),
+        false,
+    ),
+];
+
 #[test]
 fn reports_are_read(rt: HostRuntime) -> Result<(), Fail> {
     let alloc = rt.alloc();
-    let rows: [Row; 11] = [
-        ("rx report 1\n", 0, None, false),
-        (NOTED, 1, None, false),
-        (FREED, 1, None, false),
-        (TWICE, 2, None, false),
-        (
-            "rx report 1\nfailure 0 point 3 cause BadFree at 0001009c\ntry 0 checkp",
-            0,
-            Some(0),
-            false,
-        ),
-        (
-            "rx report 1\nfailure 0 point 3 cause Hang at 0001009c\ntry 0 checkpoint 2 env all result Behind\nend 5",
-            0,
-            Some(1),
-            false,
-        ),
-        (
-            "rx report 1\nfailure 0 point 0 cause BadCall at ffffffff\ntry 0 checkpoint 0 env plain result Behind\nend 5 taken 0 steps 7\n",
-            0,
-            Some(1),
-            true,
-        ),
-        (
-            "rx report 1\nend 0 taken 18446744073709551615 steps 368\n",
-            0,
-            None,
-            true,
-        ),
-        (
-            "{\"report\":1}\n{\"cause\":\"BadFree\",\"fail",
-            0,
-            None,
-            false,
-        ),
-        (
-            "{\"report\":1}\n{\"cause\":\"AssertFailed 4294967295\",\"failure\":0,\"pc\":\"0001a0fc\",\"point\":20,\"tries\":[\
-             {\"checkpoint\":18,\"env\":\"isolate\",\"result\":\"AssertFailed 4294967295\"},{\"checkpoint\":16,\"env\":\"all\",\"result\":\"survived\"}]}\n\
-             {\"end\":255,\"steps\":18446744073709551615,\"taken\":1048576}\n",
-            1,
-            None,
-            true,
-        ),
-        (
-            "{\"report\":1}\n{\"cause\":\"BadJump\",\"failure\":0,\"pc\":\"00000000\",\"point\":0,\"tries\":[]}\n",
-            0,
-            Some(0),
-            false,
-        ),
-    ];
-    for (text, adopted, tries, ended) in rows {
-        let read = read(alloc, text)?;
-        assert_eq!(rt; read.adopted.as_slice().len(), adopted);
-        assert_eq!(rt; failed_tries(&read), tries);
-        assert_eq!(rt; read.end.is_some(), ended);
+    for (i, row) in READ.iter().enumerate() {
+        assert!(rt; has_counts(&read(alloc, row.0)?, *row), "row {i}");
     }
     Ok(())
 }
@@ -101,61 +107,64 @@ fn an_episode_has_its_numbers(rt: HostRuntime) -> Result<(), Fail> {
     let [e] = read.adopted.as_slice() else {
         return Err(Fail::new("not one episode"));
     };
-    assert_eq!(rt; e.point, 3);
-    assert_eq!(rt; e.cause, Cause::BadFree);
-    assert_eq!(rt; e.pc, 0x0001_009c);
+    assert!(rt; e.point == 3 && e.cause == Cause::BadFree && e.pc == 0x0001_009c);
     let [_, _, _, last] = e.tries.as_slice() else {
         return Err(Fail::new("not four trials"));
     };
-    assert_eq!(rt; last.checkpoint, 2);
-    assert_eq!(rt; last.env, Env::Delay);
-    assert!(rt; last.tried.survives());
+    assert!(rt; last.checkpoint == 2 && last.env == Env::Delay && last.tried.survives());
     Ok(())
+}
+
+// A text, and the line at which it is refused.
+static REFUSED: [(&str, u64); 12] = [
+    ("", 1),
+    ("rx report 1", 1),
+    ("rx report 2\n", 1),
+    ("rx report 1\n\n", 2),
+    (
+        "rx report 1\nfailure 1 point 2 cause BadFree at 0001009c\n",
+        2,
+    ),
+    (
+        "rx report 1\nfailure 0 point 02 cause BadFree at 0001009c\n",
+        2,
+    ),
+    (
+        "rx report 1\nfailure 0 point 2 cause BadFree at 0001009C\n",
+        2,
+    ),
+    (
+        "rx report 1\nfailure 0 point 2 cause BadFree at 0001009c\nfailure 1 point 3 cause BadFree at 0001009c\n",
+        3,
+    ),
+    (
+        "rx report 1\nfailure 0 point 2 cause BadFree at 0001009c\ntry 0 checkpoint 1 env pad result survived\nfailure 1 point 2 cause BadFree at 0001009c\n",
+        4,
+    ),
+    (
+        "rx report 1\nfailure 0 point 2 cause BadFree at 0001009c\ntry 0 checkpoint 1 env pad result survived\ntry 1 checkpoint 0 env pad result survived\n",
+        4,
+    ),
+    ("rx report 1\nend 0 taken 1 steps 2\nx", 3),
+    (
+        "{\"report\":1}\n{\"cause\":\"BadJump\",\"failure\":0,\"pc\":\"00000000\",\"point\":0,\"tries\":[{\"checkpoint\":0,\"env\":\"pad\",\"result\":\"survived\"},{\"checkpoint\":0,\"env\":\"pad\",\"result\":\"Hang\"}]}\n",
+        2,
+    ),
+];
+
+fn is_refused_at(alloc: Global, text: &str, line: u64) -> bool {
+    match read_report(alloc, text.as_bytes()) {
+        Ok(_) => false,
+        Err(refusal) => refusal == ReportRefusal::Refused { line },
+    }
 }
 
 #[test]
 fn reports_are_refused(rt: HostRuntime) -> Result<(), Fail> {
     let alloc = rt.alloc();
-    let rows: [(&str, u64); 12] = [
-        ("", 1),
-        ("rx report 1", 1),
-        ("rx report 2\n", 1),
-        ("rx report 1\n\n", 2),
-        (
-            "rx report 1\nfailure 1 point 2 cause BadFree at 0001009c\n",
-            2,
-        ),
-        (
-            "rx report 1\nfailure 0 point 02 cause BadFree at 0001009c\n",
-            2,
-        ),
-        (
-            "rx report 1\nfailure 0 point 2 cause BadFree at 0001009C\n",
-            2,
-        ),
-        (
-            "rx report 1\nfailure 0 point 2 cause BadFree at 0001009c\nfailure 1 point 3 cause BadFree at 0001009c\n",
-            3,
-        ),
-        (
-            "rx report 1\nfailure 0 point 2 cause BadFree at 0001009c\ntry 0 checkpoint 1 env pad result survived\nfailure 1 point 2 cause BadFree at 0001009c\n",
-            4,
-        ),
-        (
-            "rx report 1\nfailure 0 point 2 cause BadFree at 0001009c\ntry 0 checkpoint 1 env pad result survived\ntry 1 checkpoint 0 env pad result survived\n",
-            4,
-        ),
-        ("rx report 1\nend 0 taken 1 steps 2\nx", 3),
-        (
-            "{\"report\":1}\n{\"cause\":\"BadJump\",\"failure\":0,\"pc\":\"00000000\",\"point\":0,\"tries\":[{\"checkpoint\":0,\"env\":\"pad\",\"result\":\"survived\"},{\"checkpoint\":0,\"env\":\"pad\",\"result\":\"Hang\"}]}\n",
-            2,
-        ),
-    ];
-    for (text, line) in rows {
-        match read_report(alloc, text.as_bytes()) {
-            Ok(_) => return Err(Fail::new(text)),
-            Err(refusal) => assert_eq!(rt; refusal, ReportRefusal::Refused { line }),
-        }
+    for row in REFUSED.iter() {
+        let (text, line) = *row;
+        assert!(rt; is_refused_at(alloc, text, line), "{text}");
     }
     Ok(())
 }

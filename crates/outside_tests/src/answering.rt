@@ -6,28 +6,53 @@ use rx_base::Conn;
 use std::alloc::Global;
 use std::test::Fail;
 
-// An answer of `next` in short.
-fn event_shown(alloc: Global, answer: &Result<LinkEvent, LinkFault>) -> Result<String, Fail> {
-    Ok(match answer {
-        Ok(LinkEvent::Opens(conn)) => format!(in alloc; "o{conn} ")?,
-        Ok(LinkEvent::Piece(conn, bytes)) => {
-            let text = std::str::from_utf8(bytes.as_slice()).ok().ok_or("no text")?;
-            format!(in alloc; "p{conn}:{text} ")?
-        }
-        Ok(LinkEvent::Closes(conn)) => format!(in alloc; "c{conn} ")?,
-        Ok(LinkEvent::Settles) => format!(in alloc; "settles ")?,
-        Ok(LinkEvent::Ends) => format!(in alloc; "end ")?,
-        Err(fault) => format!(in alloc; "{fault:?} ")?,
-    })
+/// Adds a word, the number of a connection, and what is said of it, if anything, between these marks.
+pub fn add_words(
+    alloc: Global,
+    text: &mut String,
+    (word, conn): (&str, Conn),
+    (mark, bytes, end): (&str, &[u8], &str),
+) -> Result<(), Fail> {
+    let said = std::str::from_utf8(bytes).ok().ok_or("no text")?;
+    text.push_str(format!(in alloc; "{word}{conn}{mark}{said}{end}")?.as_str())?;
+    Ok(())
 }
 
-// An answer of `give` in short.
-fn given_shown(alloc: Global, answer: &Result<Given, LinkFault>) -> Result<String, Fail> {
-    Ok(match answer {
-        Ok(Given::All) => format!(in alloc; "all ")?,
-        Ok(Given::Gone(count)) => format!(in alloc; "gone {count} ")?,
-        Err(fault) => format!(in alloc; "{fault:?} ")?,
-    })
+// Adds an answer of `next` in short.
+fn add_event(
+    alloc: Global,
+    answers: &mut String,
+    answer: &Result<LinkEvent, LinkFault>,
+) -> Result<(), Fail> {
+    match answer {
+        Ok(LinkEvent::Opens(conn)) => add_words(alloc, answers, ("o", *conn), ("", &[], " ")),
+        Ok(LinkEvent::Piece(conn, bytes)) => {
+            add_words(alloc, answers, ("p", *conn), (":", bytes.as_slice(), " "))
+        }
+        Ok(LinkEvent::Closes(conn)) => add_words(alloc, answers, ("c", *conn), ("", &[], " ")),
+        Ok(LinkEvent::Settles) => Ok(answers.push_str("settles ")?),
+        Ok(LinkEvent::Ends) => Ok(answers.push_str("end ")?),
+        Err(fault) => add_fault(alloc, answers, *fault),
+    }
+}
+
+fn add_fault(alloc: Global, answers: &mut String, fault: LinkFault) -> Result<(), Fail> {
+    Ok(answers.push_str(format!(in alloc; "{fault:?} ")?.as_str())?)
+}
+
+// Adds an answer of `give` in short.
+fn add_given(
+    alloc: Global,
+    answers: &mut String,
+    answer: &Result<Given, LinkFault>,
+) -> Result<(), Fail> {
+    match answer {
+        Ok(Given::All) => Ok(answers.push_str("all ")?),
+        Ok(Given::Gone(count)) => {
+            Ok(answers.push_str(format!(in alloc; "gone {count} ")?.as_str())?)
+        }
+        Err(fault) => add_fault(alloc, answers, *fault),
+    }
 }
 
 // What a connection is answered.
@@ -57,7 +82,7 @@ fn give_reply<L: Link>(
 {
     let given = link.give(conn, reply(conn));
     let failed = given.is_err();
-    answers.push_str(given_shown(alloc, &given)?.as_str())?;
+    add_given(alloc, answers, &given)?;
     Ok(failed)
 }
 
@@ -68,7 +93,7 @@ fn answer_next<L: Link>(alloc: Global, link: &mut L, answers: &mut String) -> Re
     ensures on { IfOk result (λ last. last ≡ false → ((L.seen link.new).takes ≡ true) × ((L.seen link.new).gives ≡ true)) }
 {
     let event = link.next();
-    answers.push_str(event_shown(alloc, &event)?.as_str())?;
+    add_event(alloc, answers, &event)?;
     match event {
         Ok(LinkEvent::Piece(conn, _)) => give_reply(alloc, link, conn, answers),
         Ok(LinkEvent::Ends) => Ok(true),

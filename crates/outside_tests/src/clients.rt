@@ -49,6 +49,19 @@ fn rest_of<S: Read>(alloc: Global, stream: &mut S) -> Result<String, Fail> {
     Err(Fail::new("no end"))
 }
 
+// What a client takes up to the end.
+fn taken<S: Read>(alloc: Global, clients: &mut [S], number: usize) -> Result<String, Fail> {
+    let stream = clients.get_mut(number).ok_or("no client")?;
+    let text = rest_of(alloc, stream)?;
+    Ok(format!(in alloc; "{number} has {text} ")?)
+}
+
+// A client sends no more.
+fn shut<S: OpenStream>(clients: &mut [S], number: usize) -> Result<(), Fail> {
+    let stream = clients.get_mut(number).ok_or("no client")?;
+    Ok(stream.shutdown(Shutdown::Write)?)
+}
+
 /// Does a step of one of the clients, and tells what it took.
 pub fn do_step<R: Net>(
     net: &R,
@@ -59,15 +72,8 @@ pub fn do_step<R: Net>(
 ) -> Result<String, Fail> {
     match step {
         ClientStep::Connects(text) => clients.push(client(net, port, text)?)?,
-        ClientStep::Shuts(number) => {
-            let stream = clients.get_mut(number).ok_or("no client")?;
-            stream.shutdown(Shutdown::Write)?;
-        }
-        ClientStep::Takes(number) => {
-            let stream = clients.get_mut(number).ok_or("no client")?;
-            let text = rest_of(alloc, stream)?;
-            return Ok(format!(in alloc; "{number} has {text} ")?);
-        }
+        ClientStep::Shuts(number) => shut(clients, number)?,
+        ClientStep::Takes(number) => return taken(alloc, clients, number),
         ClientStep::Leaves(number) => {
             if number < clients.len() {
                 drop(clients.remove(number));

@@ -2,10 +2,10 @@
 ghost use Rattle.std.specs.Prelude.{◌≡◌, ◌≤◌, []};
 ghost use Rattle.port_link.specs.Standing.{IsJustBound};
 
-use crate::answering::answered;
+use crate::answering::{add_words, answered};
 use port_link::{PortLimits, PortLink};
 use ports::{MemoryPort, Port, PortCall, PortEntry, Ready};
-use rx_base::{Bytes, Conn};
+use rx_base::Conn;
 use std::alloc::Global;
 use std::test::Fail;
 
@@ -19,37 +19,42 @@ fn port_of(alloc: Global, script: &[Ready], fails: &[(PortCall, u64)]) -> Result
     Ok(MemoryPort::make(alloc, inputs, script, fails.to_vec(alloc)?, 2))
 }
 
-fn text_of(bytes: &Bytes) -> Result<&str, Fail> {
-    Ok(std::str::from_utf8(bytes.as_slice()).ok().ok_or("no text")?)
+// Adds what a wait was for, and what was ready.
+fn add_wait(alloc: Global, text: &mut String, may_accept: bool, ready: &Ready) -> Result<(), Fail> {
+    let asked = if may_accept { "any " } else { "open " };
+    match ready {
+        Ready::Accepts => {
+            text.push_str(asked)?;
+            Ok(text.push_str("client;")?)
+        }
+        Ready::Reads(conn) => add_words(alloc, text, (asked, *conn), ("", &[], ";")),
+    }
 }
 
-// An entry in short: what was waited for, and what was ready.
-fn entry_shown(alloc: Global, call: &PortEntry) -> Result<String, Fail> {
-    Ok(match call {
-        PortEntry::Bound(port) => format!(in alloc; "bound {port};")?,
+// Adds an entry in short.
+fn add_entry(alloc: Global, text: &mut String, call: &PortEntry) -> Result<(), Fail> {
+    let (word, conn, mark, bytes) = match call {
+        PortEntry::Bound(port) => {
+            return Ok(text.push_str(format!(in alloc; "bound {port};")?.as_str())?);
+        }
         PortEntry::Waited { may_accept, ready } => {
-            let asked = if *may_accept { "any" } else { "open" };
-            match ready {
-                Ready::Accepts => format!(in alloc; "{asked} client;")?,
-                Ready::Reads(conn) => format!(in alloc; "{asked} {conn};")?,
-            }
+            return add_wait(alloc, text, *may_accept, ready);
         }
-        PortEntry::Accepted(conn) => format!(in alloc; "accepted {conn};")?,
-        PortEntry::Took { conn, bytes, .. } => {
-            format!(in alloc; "took {conn}:{};", text_of(bytes)?)?
+        PortEntry::Failed(call) => {
+            return Ok(text.push_str(format!(in alloc; "failed {call:?};")?.as_str())?);
         }
-        PortEntry::Gave { conn, bytes, .. } => {
-            format!(in alloc; "gave {conn}:{};", text_of(bytes)?)?
-        }
-        PortEntry::Closed(conn) => format!(in alloc; "closed {conn};")?,
-        PortEntry::Failed(call) => format!(in alloc; "failed {call:?};")?,
-    })
+        PortEntry::Accepted(conn) => ("accepted ", *conn, "", [].as_slice()),
+        PortEntry::Took { conn, bytes, .. } => ("took ", *conn, ":", bytes.as_slice()),
+        PortEntry::Gave { conn, bytes, .. } => ("gave ", *conn, ":", bytes.as_slice()),
+        PortEntry::Closed(conn) => ("closed ", *conn, "", [].as_slice()),
+    };
+    add_words(alloc, text, (word, conn), (mark, bytes, ";"))
 }
 
 fn shown(alloc: Global, calls: &[PortEntry]) -> Result<String, Fail> {
     let mut text = String::new(alloc);
     for call in calls {
-        text.push_str(entry_shown(alloc, call)?.as_str())?;
+        add_entry(alloc, &mut text, call)?;
     }
     Ok(text)
 }
@@ -85,112 +90,121 @@ fn served(
     Ok((answers, shown(alloc, port.calls())?))
 }
 
-#[test]
-fn a_port_is_served_at_the_same_time(rt: HostRuntime) -> Result<(), Fail> {
-    let alloc = rt.alloc();
-    // What is ready, and which calls fail; how many connections there are, and how many at once; what is answered, and which
-    // calls are made.
-    type Row = (
-        &'static [Ready],
-        &'static [(PortCall, u64)],
-        Conn,
-        u16,
-        &'static str,
-        &'static str,
-    );
-    let rows: [Row; 8] = [
-        // Two clients in turns.
-        (
-            &[
-                Ready::Accepts,
-                Ready::Accepts,
-                Ready::Reads(1),
-                Ready::Reads(0),
-                Ready::Reads(1),
-            ],
-            &[],
-            2,
-            2,
-            "o0 o1 p1:d all p0:ab all c1 p0:c all c0 end ",
-            "bound 80;any client;accepted 0;any client;accepted 1;open 1;took 1:d;gave 1:tw;gave 1:o;open 0;took 0:ab;\
+// What is ready, and which calls fail; how many connections there are, and how many at once; what is answered, and which
+// calls are made.
+type Row = (
+    &'static [Ready],
+    &'static [(PortCall, u64)],
+    Conn,
+    u16,
+    &'static str,
+    &'static str,
+);
+
+static ROWS: [Row; 8] = [
+    // Two clients in turns.
+    (
+        &[
+            Ready::Accepts,
+            Ready::Accepts,
+            Ready::Reads(1),
+            Ready::Reads(0),
+            Ready::Reads(1),
+        ],
+        &[],
+        2,
+        2,
+        "o0 o1 p1:d all p0:ab all c1 p0:c all c0 end ",
+        "bound 80;any client;accepted 0;any client;accepted 1;open 1;took 1:d;gave 1:tw;gave 1:o;open 0;took 0:ab;\
 gave 0:on;gave 0:e;open 1;took 1:;closed 1;open 0;took 0:c;gave 0:on;gave 0:e;open 0;took 0:;closed 0;",
-        ),
-        // A give to one of them fails: it is closed next, and the other one is served on.
-        (
-            &[Ready::Accepts, Ready::Accepts, Ready::Reads(0)],
-            &[(PortCall::Give, 2)],
-            2,
-            2,
-            "o0 o1 p0:ab gone 2 c0 p1:d all c1 end ",
-            "bound 80;any client;accepted 0;any client;accepted 1;open 0;took 0:ab;gave 0:on;failed Give(0);closed 0;\
+    ),
+    // A give to one of them fails: it is closed next, and the other one is served on.
+    (
+        &[Ready::Accepts, Ready::Accepts, Ready::Reads(0)],
+        &[(PortCall::Give, 2)],
+        2,
+        2,
+        "o0 o1 p0:ab gone 2 c0 p1:d all c1 end ",
+        "bound 80;any client;accepted 0;any client;accepted 1;open 0;took 0:ab;gave 0:on;failed Give(0);closed 0;\
 open 1;took 1:d;gave 1:tw;gave 1:o;open 1;took 1:;closed 1;",
-        ),
-        // A take of one fails, which is its close.
-        (
-            &[Ready::Accepts, Ready::Accepts, Ready::Reads(0)],
-            &[(PortCall::Take, 1)],
-            2,
-            2,
-            "o0 o1 c0 p1:d all c1 end ",
-            "bound 80;any client;accepted 0;any client;accepted 1;open 0;failed Take(0);closed 0;\
+    ),
+    // A take of one fails, which is its close.
+    (
+        &[Ready::Accepts, Ready::Accepts, Ready::Reads(0)],
+        &[(PortCall::Take, 1)],
+        2,
+        2,
+        "o0 o1 c0 p1:d all c1 end ",
+        "bound 80;any client;accepted 0;any client;accepted 1;open 0;failed Take(0);closed 0;\
 open 1;took 1:d;gave 1:tw;gave 1:o;open 1;took 1:;closed 1;",
-        ),
-        (
-            &[Ready::Accepts, Ready::Reads(0)],
-            &[(PortCall::Wait, 3)],
-            2,
-            2,
-            "o0 p0:ab all ReadFault ",
-            "bound 80;any client;accepted 0;any 0;took 0:ab;gave 0:on;gave 0:e;failed Wait;",
-        ),
-        (
-            &[],
-            &[(PortCall::Accept, 2)],
-            2,
-            2,
-            "o0 ReadFault ",
-            "bound 80;any client;accepted 0;any client;failed Accept;",
-        ),
-        // Past the last input an accept fails.
-        (
-            &[],
-            &[],
-            4,
-            4,
-            "o0 o1 o2 ReadFault ",
-            "bound 80;any client;accepted 0;any client;accepted 1;any client;accepted 2;any client;failed Accept;",
-        ),
-        // One at a time: none is accepted while one is open, though a client comes first.
-        (
-            &[Ready::Accepts, Ready::Accepts],
-            &[],
-            2,
-            1,
-            "o0 p0:ab all p0:c all c0 o1 p1:d all c1 end ",
-            "bound 80;any client;accepted 0;open 0;took 0:ab;gave 0:on;gave 0:e;open 0;took 0:c;gave 0:on;gave 0:e;open 0;took 0:;closed 0;\
+    ),
+    (
+        &[Ready::Accepts, Ready::Reads(0)],
+        &[(PortCall::Wait, 3)],
+        2,
+        2,
+        "o0 p0:ab all ReadFault ",
+        "bound 80;any client;accepted 0;any 0;took 0:ab;gave 0:on;gave 0:e;failed Wait;",
+    ),
+    (
+        &[],
+        &[(PortCall::Accept, 2)],
+        2,
+        2,
+        "o0 ReadFault ",
+        "bound 80;any client;accepted 0;any client;failed Accept;",
+    ),
+    // Past the last input an accept fails.
+    (
+        &[],
+        &[],
+        4,
+        4,
+        "o0 o1 o2 ReadFault ",
+        "bound 80;any client;accepted 0;any client;accepted 1;any client;accepted 2;any client;failed Accept;",
+    ),
+    // One at a time: none is accepted while one is open, though a client comes first.
+    (
+        &[Ready::Accepts, Ready::Accepts],
+        &[],
+        2,
+        1,
+        "o0 p0:ab all p0:c all c0 o1 p1:d all c1 end ",
+        "bound 80;any client;accepted 0;open 0;took 0:ab;gave 0:on;gave 0:e;open 0;took 0:c;gave 0:on;gave 0:e;open 0;took 0:;closed 0;\
 any client;accepted 1;open 1;took 1:d;gave 1:tw;gave 1:o;open 1;took 1:;closed 1;",
-        ),
-        // Three, of which two are open at once.
-        (
-            &[
-                Ready::Accepts,
-                Ready::Accepts,
-                Ready::Accepts,
-                Ready::Reads(0),
-            ],
-            &[],
-            3,
-            2,
-            "o0 o1 p0:ab all p0:c all c0 o2 p1:d all c1 p2:e all c2 end ",
-            "bound 80;any client;accepted 0;any client;accepted 1;open 0;took 0:ab;gave 0:on;gave 0:e;open 0;took 0:c;gave 0:on;gave 0:e;\
+    ),
+    // Three, of which two are open at once.
+    (
+        &[
+            Ready::Accepts,
+            Ready::Accepts,
+            Ready::Accepts,
+            Ready::Reads(0),
+        ],
+        &[],
+        3,
+        2,
+        "o0 o1 p0:ab all p0:c all c0 o2 p1:d all c1 p2:e all c2 end ",
+        "bound 80;any client;accepted 0;any client;accepted 1;open 0;took 0:ab;gave 0:on;gave 0:e;open 0;took 0:c;gave 0:on;gave 0:e;\
 open 0;took 0:;closed 0;any client;accepted 2;open 1;took 1:d;gave 1:tw;gave 1:o;open 1;took 1:;closed 1;\
 open 2;took 2:e;gave 2:si;gave 2:x;open 2;took 2:;closed 2;",
-        ),
-    ];
-    for (script, fails, conns, at_once, answers, calls) in rows.iter() {
-        let seen = served(alloc, script, fails, *conns, *at_once)?;
-        assert_eq!(rt; seen.0.as_str(), *answers);
-        assert_eq!(rt; seen.1.as_str(), *calls);
+    ),
+];
+
+// Whether a row is served as it says. One with numbers that no port takes isn't.
+fn is_served(alloc: Global, row: &Row) -> Result<bool, Fail> {
+    let (script, fails, conns, at_once, answers, calls) = *row;
+    if at_once < 1 || conns > 4096 {
+        return Ok(false);
+    }
+    let seen = served(alloc, script, fails, conns, at_once)?;
+    Ok(seen.0.as_str() == answers && seen.1.as_str() == calls)
+}
+
+#[test]
+fn a_port_is_served_at_the_same_time(rt: HostRuntime) -> Result<(), Fail> {
+    for (i, row) in ROWS.iter().enumerate() {
+        assert!(rt; is_served(rt.alloc(), row)?, "row {i}");
     }
     Ok(())
 }

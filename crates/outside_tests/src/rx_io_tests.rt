@@ -86,49 +86,70 @@ fn gives<S: Sink>(alloc: Global, sink: &mut S, texts: &[&str]) -> Result<String,
     Ok(text)
 }
 
+// How often a reader is interrupted, and how many bytes it has then; how much room there is for each take, and the answers.
+static READERS: [(u32, u8, &[usize], &str); 4] = [
+    // The other two of the first read come before the second one.
+    (0, 7, &[3, 3, 3, 3], "[7, 7, 7] [7, 7] [2, 2] [] "),
+    // As long as the buffer itself: straight from the reader.
+    (0, 7, &[4096, 4096, 4096], "[7, 7, 7, 7, 7] [2, 2] [] "),
+    (3, 1, &[2], "[1] "),
+    (u32::MAX, 1, &[2], "Failed "),
+];
+
 #[test]
 fn standard_streams_answer(rt: HostRuntime) -> Result<(), Fail> {
     let alloc = rt.alloc();
     assert!(rt; takes(alloc, &mut StdSource::make(&rt), &[2])?.as_str() != "Failed ");
-    assert_eq!(rt;
-        gives(alloc, &mut StdSink::make(&rt), &["\n"])?.as_str(),
-        "Ok(1) "
-    );
-    for (interrupts, left, rooms, wanted) in [
-        // The other two of the first read come before the second one.
-        (0, 7, [3, 3, 3, 3].as_slice(), "[7, 7, 7] [7, 7] [2, 2] [] "),
-        // As long as the buffer itself: straight from the reader.
-        (
-            0,
-            7,
-            [4096, 4096, 4096].as_slice(),
-            "[7, 7, 7, 7, 7] [2, 2] [] ",
-        ),
-        (3, 1, [2].as_slice(), "[1] "),
-        (u32::MAX, 1, [2].as_slice(), "Failed "),
-    ] {
+    assert!(rt; gives(alloc, &mut StdSink::make(&rt), &["\n"])?.as_str() == "Ok(1) ");
+    for (i, row) in READERS.iter().enumerate() {
+        let (interrupts, left, rooms, wanted) = *row;
         let input = Fives { interrupts, left };
         let seen = takes(alloc, &mut StdSource::make(&input), rooms)?;
-        assert_eq!(rt; seen.as_str(), wanted);
+        assert!(rt; seen.as_str() == wanted, "row {i}");
     }
     Ok(())
 }
 
+fn tame_takes(alloc: Global) -> Result<String, Fail> {
+    let bytes = [7, 8, 9].to_vec(alloc)?;
+    takes(alloc, &mut TameSource::make(bytes, 2), &[4])
+}
+
+// The second take fails.
+fn memory_takes(alloc: Global) -> Result<String, Fail> {
+    let bytes = [1, 2, 3].to_vec(alloc)?;
+    let fails = [2].to_vec(alloc)?;
+    takes(
+        alloc,
+        &mut MemorySource::make(bytes, fails, 2),
+        &[4, 4, 4, 4],
+    )
+}
+
 #[test]
-fn memory_takes_and_gives(rt: HostRuntime) -> Result<(), Fail> {
-    let alloc = rt.alloc();
-    let mut tame = TameSource::make([7, 8, 9].to_vec(alloc)?, 2);
-    assert_eq!(rt; takes(alloc, &mut tame, &[4])?.as_str(), "[7, 8] ");
-    let mut source = MemorySource::make([1, 2, 3].to_vec(alloc)?, [2].to_vec(alloc)?, 2);
-    let seen = takes(alloc, &mut source, &[4, 4, 4, 4])?;
-    assert_eq!(rt; seen.as_str(), "[1, 2] Failed [3] [] ");
-    let mut tame = TameSink::make(alloc, 2);
-    assert_eq!(rt; gives(alloc, &mut tame, &["abc"])?.as_str(), "Ok(2) ");
-    assert_eq!(rt; tame.bytes(), b"ab".as_slice());
+fn sources_in_memory_take(rt: HostRuntime) -> Result<(), Fail> {
+    assert!(rt; tame_takes(rt.alloc())?.as_str() == "[7, 8] ");
+    assert!(rt; memory_takes(rt.alloc())?.as_str() == "[1, 2] Failed [3] [] ");
+    Ok(())
+}
+
+fn tame_gives(alloc: Global) -> Result<bool, Fail> {
+    let mut sink = TameSink::make(alloc, 2);
+    let seen = gives(alloc, &mut sink, &["abc"])?;
+    Ok(seen.as_str() == "Ok(2) " && sink.bytes() == b"ab".as_slice())
+}
+
+// The second give fails.
+fn memory_gives(alloc: Global) -> Result<bool, Fail> {
     let mut sink = MemorySink::make(alloc, [2].to_vec(alloc)?, 3);
     let seen = gives(alloc, &mut sink, &["abcd", "d", "d"])?;
-    assert_eq!(rt; seen.as_str(), "Ok(3) Err(Failed) Ok(1) ");
-    assert_eq!(rt; sink.bytes(), b"abcd".as_slice());
+    Ok(seen.as_str() == "Ok(3) Err(Failed) Ok(1) " && sink.bytes() == b"abcd".as_slice())
+}
+
+#[test]
+fn sinks_in_memory_give(rt: HostRuntime) -> Result<(), Fail> {
+    assert!(rt; tame_gives(rt.alloc())?);
+    assert!(rt; memory_gives(rt.alloc())?);
     Ok(())
 }
 
@@ -140,18 +161,28 @@ enum Call {
     Load(&'static str, u64),
 }
 
+// What a load answered.
+fn loaded_shown(alloc: Global, answer: Result<Vec<u8>, LoadFault>) -> Result<String, Fail> {
+    let word = match answer {
+        Ok(bytes) => {
+            let text = std::str::from_utf8(bytes.as_slice()).ok();
+            return Ok(format!(in alloc; "{text:?} ")?);
+        }
+        Err(LoadFault::Failed) => "no file ",
+        Err(LoadFault::TooLarge) => "too large ",
+        Err(LoadFault::Memory) => "no memory ",
+    };
+    Ok(String::from_str(alloc, word)?)
+}
+
 // Makes a call, and tells what it answered.
 fn make_call<F: Files>(alloc: Global, files: &mut F, call: Call) -> Result<String, Fail> {
-    Ok(match call {
-        Call::Start(name) => format!(in alloc; "{:?} ", files.start(name))?,
-        Call::Add(name, text) => format!(in alloc; "{:?} ", files.add(name, text.as_bytes()))?,
-        Call::Load(name, limit) => match files.load(alloc, name, limit) {
-            Ok(bytes) => format!(in alloc; "{:?} ", std::str::from_utf8(bytes.as_slice()).ok())?,
-            Err(LoadFault::Failed) => format!(in alloc; "no file ")?,
-            Err(LoadFault::TooLarge) => format!(in alloc; "too large ")?,
-            Err(LoadFault::Memory) => format!(in alloc; "no memory ")?,
-        },
-    })
+    let answer = match call {
+        Call::Start(name) => files.start(name),
+        Call::Add(name, text) => files.add(name, text.as_bytes()),
+        Call::Load(name, limit) => return loaded_shown(alloc, files.load(alloc, name, limit)),
+    };
+    Ok(format!(in alloc; "{answer:?} ")?)
 }
 
 // Makes calls one after the other.
@@ -194,68 +225,91 @@ fn told(alloc: Global, calls: &[FileCall]) -> Result<String, Fail> {
     Ok(text)
 }
 
+// The second of these calls, the eleventh in all, fails.
+fn holds_files(alloc: Global, files: &mut MemoryFiles) -> Result<bool, Fail> {
+    let seen = called(alloc, files, &CALLS)?;
+    let more = called(
+        alloc,
+        files,
+        &[Call::Add("rx_io_b", "g"), Call::Start("rx_io_b")],
+    )?;
+    Ok(seen.as_str() == ANSWERS && more.as_str() == "Ok(()) Err(Failed) ")
+}
+
 #[test]
 fn memory_holds_files(rt: HostRuntime) -> Result<(), Fail> {
     let alloc = rt.alloc();
     let mut files = MemoryFiles::make(alloc, Vec::new(alloc), [11].to_vec(alloc)?);
-    assert_eq!(rt; called(alloc, &mut files, &CALLS)?.as_str(), ANSWERS);
-    let seen = called(
-        alloc,
-        &mut files,
-        &[Call::Add("rx_io_b", "g"), Call::Start("rx_io_b")],
-    )?;
-    assert_eq!(rt; seen.as_str(), "Ok(()) Err(Failed) ");
-    assert_eq!(rt; files.bytes_of("rx_io_b"), Some(b"fg".as_slice()));
+    assert!(rt; holds_files(alloc, &mut files)?);
+    assert!(rt; files.bytes_of("rx_io_b") == Some(b"fg".as_slice()));
     assert!(rt; files.bytes_of("rx_io_missing").is_none());
     Ok(())
+}
+
+static TAME_CALLS: [Call; 5] = [
+    Call::Load("b", 0),
+    Call::Start("b"),
+    Call::Add("a", "z"),
+    Call::Load("a", 3),
+    Call::Load("b", 3),
+];
+
+const TOLD: &str =
+    "loaded Some(\"b\") started Some(\"b\") added Some(\"a\") loaded Some(\"a\") loaded Some(\"b\") ";
+
+fn tells_calls(alloc: Global, files: &mut TameFiles) -> Result<bool, Fail> {
+    let seen = called(alloc, files, &TAME_CALLS)?;
+    let told = told(alloc, files.calls())?;
+    Ok(
+        seen.as_str() == "Some(\"\") Ok(()) Ok(()) Some(\"xyz\") Some(\"\") "
+            && told.as_str() == TOLD,
+    )
+}
+
+// Tame files of which `a` is there.
+fn tame_files(alloc: Global) -> Result<TameFiles, Fail> {
+    let name = String::from_str(alloc, "a")?;
+    let bytes = b"xy".to_vec(alloc)?;
+    let mut held = Vec::new(alloc);
+    held.push((name, bytes))?;
+    Ok(TameFiles::make(alloc, held))
 }
 
 // In tame files a missing name is loaded as an empty file. They tell their calls by name.
 #[test]
 fn tame_files_tell_their_calls(rt: HostRuntime) -> Result<(), Fail> {
-    let alloc = rt.alloc();
-    let mut held = Vec::new(alloc);
-    held.push((String::from_str(alloc, "a")?, b"xy".to_vec(alloc)?))?;
-    let mut files = TameFiles::make(alloc, held);
-    let seen = called(
-        alloc,
-        &mut files,
-        &[
-            Call::Load("b", 0),
-            Call::Start("b"),
-            Call::Add("a", "z"),
-            Call::Load("a", 3),
-            Call::Load("b", 3),
-        ],
-    )?;
-    assert_eq!(rt;
-        seen.as_str(),
-        "Some(\"\") Ok(()) Ok(()) Some(\"xyz\") Some(\"\") "
-    );
-    assert_eq!(rt;
-        told(alloc, files.calls())?.as_str(),
-        "loaded Some(\"b\") started Some(\"b\") added Some(\"a\") loaded Some(\"a\") loaded Some(\"b\") "
-    );
-    assert_eq!(rt; files.bytes_of("a"), Some(b"xyz".as_slice()));
+    let mut files = tame_files(rt.alloc())?;
+    assert!(rt; tells_calls(rt.alloc(), &mut files)?);
+    assert!(rt; files.bytes_of("a") == Some(b"xyz".as_slice()));
     assert!(rt; files.bytes_of("missing").is_none());
     Ok(())
+}
+
+// A file of several pieces is loaded whole.
+fn loads_whole<F: Files>(alloc: Global, files: &mut F) -> Result<bool, Fail> {
+    let bytes = vec![in alloc; 5u8; 10_000]?;
+    let added = files.add("rx_io_long", bytes.as_slice());
+    let whole = match files.load(alloc, "rx_io_long", 10_000) {
+        Ok(bytes) => bytes.len() == 10_000,
+        Err(_) => false,
+    };
+    let short = matches!(
+        files.load(alloc, "rx_io_long", 9_999),
+        Err(LoadFault::TooLarge)
+    );
+    Ok(added == Ok(()) && whole && short)
 }
 
 #[test]
 fn the_system_holds_files(rt: HostRuntime) -> Result<(), Fail> {
     let alloc = rt.alloc();
     let mut files = StdFiles::make(&rt, alloc);
-    assert_eq!(rt; called(alloc, &mut files, &CALLS)?.as_str(), ANSWERS);
+    assert!(rt; called(alloc, &mut files, &CALLS)?.as_str() == ANSWERS);
     fs::remove_file(&rt, "rx_io_a")?;
     fs::remove_file(&rt, "rx_io_b")?;
-    // A file of several pieces is loaded whole.
-    let bytes = vec![in alloc; 5u8; 10_000]?;
-    assert_eq!(rt; files.add("rx_io_long", bytes.as_slice()), Ok(()));
-    let whole = files.load(alloc, "rx_io_long", 10_000);
-    let short = files.load(alloc, "rx_io_long", 9_999);
+    let is_whole = loads_whole(alloc, &mut files)?;
     fs::remove_file(&rt, "rx_io_long")?;
-    assert_eq!(rt; whole.ok().ok_or("not loaded")?.len(), 10_000);
-    assert!(rt; matches!(short, Err(LoadFault::TooLarge)));
+    assert!(rt; is_whole);
     Ok(())
 }
 
@@ -268,7 +322,7 @@ fn the_disk_takes_files(rt: HostRuntime) -> Result<(), Fail> {
         first: "rx_io_b",
     };
     let mut files = DiskFiles::make(&rt, alloc, Some(through));
-    assert_eq!(rt; called(alloc, &mut files, &CALLS)?.as_str(), ANSWERS);
+    assert!(rt; called(alloc, &mut files, &CALLS)?.as_str() == ANSWERS);
     fs::remove_file(&rt, "rx_io_a")?;
     fs::remove_file(&rt, "rx_io_b")?;
     Ok(())

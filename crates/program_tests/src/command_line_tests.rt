@@ -43,7 +43,7 @@ fn are_answered(
         let (end, expected) = row.split_once(" => ").unwrap_or((row, usual));
         let line = format!(in alloc; "{front}{end}")?;
         let answer = answer_to(rt, alloc, line.as_str(), is_told)?;
-        assert_eq!(rt; answer.as_str(), expected, "{row}");
+        assert!(rt; answer.as_str() == expected, "{row}, and not {answer}");
     }
     Ok(())
 }
@@ -86,8 +86,8 @@ const ACCEPTED: &str = "\
     serve --patience 0 p --record 80 --report 1 65535 --frame whole 4096 --form json --window 64 --ring 16 --every 64 --frames 16 --budget 68719476736 => Some(Serve(ServeCommand { session: RunCommand { program: \"p\", recording: \"80\", report: \"1\", form: Json, frame: Whole, window: 64, hold: 0, ring: 16, every: 64, frames: 16, budget: 68719476736, keep: 4, env: Plain, guard: Off }, port: 65535, conns: 4096, patience: 0, at_once: 1 }))\n\
     serve 1 1 1 --record r --report t --patience 3600 --guard extent --keep 2 --env isolate => Some(Serve(ServeCommand { session: RunCommand { program: \"1\", recording: \"r\", report: \"t\", form: Text, frame: Line, window: 4, hold: 0, ring: 8, every: 1, frames: 4, budget: 1000000, keep: 2, env: Isolate, guard: Extent }, port: 1, conns: 1, patience: 3600, at_once: 1 }))\n\
     serve p 80 2 --at-once 256 --record r --report t => Some(Serve(ServeCommand { session: RunCommand { program: \"p\", recording: \"r\", report: \"t\", form: Text, frame: Line, window: 4, hold: 0, ring: 8, every: 1, frames: 4, budget: 1000000, keep: 4, env: Plain, guard: Off }, port: 80, conns: 2, patience: 60, at_once: 256 }))\n\
-    diagnose p --record r --report t --diagnosis d => Some(Diagnose(DiagnoseCommand { session: RunCommand { program: \"p\", recording: \"r\", report: \"t\", form: Text, frame: Line, window: 4, hold: 0, ring: 8, every: 1, frames: 4, budget: 1000000, keep: 4, env: Plain, guard: Off }, diagnosis: \"d\" }))\n\
-    diagnose --diagnosis d --hold 7 --keep 8 --env delay --report t p --record r --form json => Some(Diagnose(DiagnoseCommand { session: RunCommand { program: \"p\", recording: \"r\", report: \"t\", form: Json, frame: Line, window: 4, hold: 7, ring: 8, every: 1, frames: 4, budget: 1000000, keep: 8, env: Delay, guard: Off }, diagnosis: \"d\" }))\n\
+    diagnose p --record r --report t --diagnosis d => Some(Diagnose(DiagnoseCommand { session: RunCommand { program: \"p\", recording: \"r\", report: \"t\", form: Text, frame: Line, window: 4, hold: 0, ring: 8, every: 1, frames: 4, budget: 1000000, keep: 4, env: Plain, guard: Extent }, diagnosis: \"d\" }))\n\
+    diagnose --diagnosis d --hold 7 --keep 8 --env delay --report t p --record r --form json => Some(Diagnose(DiagnoseCommand { session: RunCommand { program: \"p\", recording: \"r\", report: \"t\", form: Json, frame: Line, window: 4, hold: 7, ring: 8, every: 1, frames: 4, budget: 1000000, keep: 8, env: Delay, guard: Extent }, diagnosis: \"d\" }))\n\
     drill 0 1 => Some(Drill(DrillCommand { seed: 0, count: 1 }))\n\
     drill 4294967295 100000 => Some(Drill(DrillCommand { seed: 4294967295, count: 100000 }))\n\
     drill 7 7 => Some(Drill(DrillCommand { seed: 7, count: 7 }))\n\
@@ -476,7 +476,7 @@ const DIAGNOSE_USAGE: &str = "diagnose PROGRAM and in any place, each once:
   --budget 1 to 68719476736 (1000000)
   --keep 1 to 4294967295 (4)
   --env plain or pad or zero or isolate or delay or all (plain)
-  --guard off or extent or block (off)
+  --guard off or extent or block (extent)
   --tell auto or on or off (auto)
   --durable on or off (off)
 drill SEED (0 to 4294967295) COUNT (1 to 100000)
@@ -552,27 +552,40 @@ fn words_are_read_and_a_person_is_told(rt: HostRuntime) -> Result<(), Fail> {
     are_answered(&rt, rt.alloc(), ("", "no arrow"), COMPLAINTS, true)
 }
 
-#[test]
-fn usage_is_told(rt: HostRuntime) -> Result<(), Fail> {
-    for (command, first, rest, last, others) in [
-        ("run", RUN_USAGE, "", "", ""),
-        ("asm", "", "asm SOURCE OUT\n", "", ""),
-        ("convert", "", "convert PROGRAM RECORD OUT\n", "", ""),
-        ("standby", "", "", STANDBY_USAGE, ""),
-        ("resume", "", "", RESUME_USAGE, ""),
-        ("serve", "", "", SERVE_USAGE, ""),
-        (
-            "drill",
+// A command, and the parts of its usage.
+static USAGES: [(&str, [&str; 4]); 8] = [
+    ("run", [RUN_USAGE, "", "", ""]),
+    ("asm", ["", "asm SOURCE OUT\n", "", ""]),
+    ("convert", ["", "convert PROGRAM RECORD OUT\n", "", ""]),
+    ("standby", ["", "", STANDBY_USAGE, ""]),
+    ("resume", ["", "", RESUME_USAGE, ""]),
+    ("serve", ["", "", SERVE_USAGE, ""]),
+    (
+        "drill",
+        [
             "",
             "drill SEED (0 to 4294967295) COUNT (1 to 100000)\n",
             "",
             "",
-        ),
-        ("help", RUN_USAGE, OTHERS_USAGE, SERVE_USAGE, DIAGNOSE_USAGE),
-    ] {
-        let told = usage(rt.alloc(), command)?;
-        let expected = format!(in rt.alloc(); "{first}{rest}{last}{others}")?;
-        assert_eq!(rt; told.as_str(), expected.as_str(), "{command}");
+        ],
+    ),
+    (
+        "help",
+        [RUN_USAGE, OTHERS_USAGE, SERVE_USAGE, DIAGNOSE_USAGE],
+    ),
+];
+
+fn has_usage(alloc: Global, command: &str, parts: [&str; 4]) -> Result<bool, Fail> {
+    let [first, rest, last, others] = parts;
+    let expected = format!(in alloc; "{first}{rest}{last}{others}")?;
+    Ok(usage(alloc, command)?.as_str() == expected.as_str())
+}
+
+#[test]
+fn usage_is_told(rt: HostRuntime) -> Result<(), Fail> {
+    for row in USAGES.iter() {
+        let (command, parts) = *row;
+        assert!(rt; has_usage(rt.alloc(), command, parts)?, "{command}");
     }
     Ok(())
 }
@@ -589,29 +602,33 @@ fn help_is_asked_for(rt: HostRuntime) -> Result<(), Fail> {
     for row in ASKED.lines() {
         let (line, expected) = row.split_once(" => ").unwrap_or((row, ""));
         let asked = asked_by(rt.alloc(), line)?;
-        assert_eq!(rt; asked.as_str(), expected, "{row}");
+        assert!(rt; asked.as_str() == expected, "{row}");
     }
     Ok(())
 }
 
+// A command, and its help.
+static HELPS: [(CommandName, &str); 3] = [
+    (CommandName::Serve, SERVE_HELP),
+    (
+        CommandName::Asm,
+        "asm SOURCE OUT\n  Assembles a text, and writes its executable.\n  SOURCE a name: The file of the text that is assembled.\n  OUT a name: The file that is written.\n",
+    ),
+    (
+        CommandName::Frame,
+        "frame\n  Turns lines on standard input into frames of the trunk on standard output.\n",
+    ),
+];
+
 #[test]
 fn help_is_told(rt: HostRuntime) -> Result<(), Fail> {
-    for (name, expected) in [
-        (CommandName::Serve, SERVE_HELP),
-        (
-            CommandName::Asm,
-            "asm SOURCE OUT\n  Assembles a text, and writes its executable.\n  SOURCE a name: The file of the text that is assembled.\n  OUT a name: The file that is written.\n",
-        ),
-        (
-            CommandName::Frame,
-            "frame\n  Turns lines on standard input into frames of the trunk on standard output.\n",
-        ),
-    ] {
+    for row in HELPS.iter() {
+        let (name, expected) = *row;
         let told = help_text(rt.alloc(), Some(name))?;
-        assert_eq!(rt; told.as_str(), expected, "{name:?}");
+        assert!(rt; told.as_str() == expected, "{name:?}");
     }
     let all = help_text(rt.alloc(), None)?;
-    assert_eq!(rt; all.as_str().lines().count(), 22);
+    assert!(rt; all.as_str().lines().count() == 22);
     Ok(())
 }
 
@@ -628,8 +645,8 @@ fn are_short(rows: &[OptionRow]) -> bool {
 #[test]
 fn each_sentence_is_short(rt: HostRuntime) {
     for command in COMMANDS {
-        assert!(rt; command.says.len() <= 100, "{}", command.says);
-        assert!(rt; are_short(command.options), "{}", command.says);
+        let is_short = command.says.len() <= 100 && are_short(command.options);
+        assert!(rt; is_short, "{}", command.says);
     }
     assert!(rt; are_short(&POSITIONALS));
 }

@@ -115,8 +115,8 @@ fn try_guests<L: Ledger>(rt: &impl Abort, alloc: Global, blank: Blank) -> Result
     requires some { 0 < blank.parts }
 {
     let mut steps = Steps::<L>::start(blank);
-    for row in GUESTS {
-        try_guest(rt, alloc, row, &mut steps)?;
+    for row in GUESTS.iter() {
+        try_guest(rt, alloc, *row, &mut steps)?;
     }
     Ok(())
 }

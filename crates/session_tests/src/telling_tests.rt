@@ -1,11 +1,13 @@
 // The lines that a person is told of recoveries.
 use alloc_env::Env;
+use block_book::{Block, Freed, Site};
 use run_history::{Cause, Regs};
 use session_notes::{Episode, Tried, Tries, Try};
 use std::alloc::Global;
 use std::test::Fail;
 use telling::{
-    Access, Counts, Near, Place, SeenItem, Sighting, Touch, end_line, recovery_line, sighting_lines,
+    Access, Counts, Fault, Gone, Helps, Near, Place, SeenItem, Sighting, Touch, end_line, fault_of,
+    helps_of, recovery_line, sighting_lines,
 };
 
 // The registers where each has its own number, and the others' line.
@@ -43,6 +45,7 @@ fn sighting(at: u32, place: Place) -> Sighting {
             len: 12,
         }),
         touch: Some(Touch { access, place }),
+        pointer: None,
     }
 }
 
@@ -66,101 +69,248 @@ fn episode(alloc: Global, tried: Tried) -> Result<Episode, Fail> {
     })
 }
 
-#[test]
-fn recoveries_are_told(rt: HostRuntime) -> Result<(), Fail> {
-    let alloc = rt.alloc();
+// The second of the day, the microseconds, and whether the failure was seen; what the second trial came to; and the line.
+type Recovery = (Option<u32>, Option<u64>, bool, Tried, &'static str);
+
+static RECOVERIES: [Recovery; 2] = [
+    (
+        Some(50_602),
+        Some(412),
+        true,
+        Tried::Asks,
+        "rx: 14:03:22 recovered in 0.412 ms: point 37 (message 4 of connection 5, 12 bytes): BadAccess at 000104ec; try 1, checkpoint 32, env zero\n",
+    ),
+    (
+        None,
+        None,
+        false,
+        Tried::Contradicts,
+        "rx: gave up: point 37: BadAccess at 000104ec; 2 tries, of which none survived\n",
+    ),
+];
+
+// The line of a recovery.
+fn recovery_told(alloc: Global, row: Recovery) -> Result<String, Fail> {
+    let (second, micros, is_seen, tried, _) = row;
     let place = Place {
         allowed: true,
         in_heap: true,
         below: None,
+        gone: None,
     };
-    let seen = sighting(0x20_0020, place);
-    let lives = episode(alloc, Tried::Asks)?;
-    let line = recovery_line(alloc, Some(50_602), Some(412), Some(&seen), &lives)?;
-    assert_eq!(rt;
-        line.as_str(),
-        "rx: 14:03:22 recovered in 0.412 ms: point 37 (message 4 of connection 5, 12 bytes): BadAccess at 000104ec; try 1, checkpoint 32, env zero\n"
-    );
-    let fails = episode(alloc, Tried::Contradicts)?;
-    let bare = recovery_line(alloc, None, None, None, &fails)?;
-    assert_eq!(rt;
-        bare.as_str(),
-        "rx: gave up: point 37: BadAccess at 000104ec; 2 tries, of which none survived\n"
-    );
+    let sighting = sighting(0x20_0020, place);
+    let seen = if is_seen { Some(&sighting) } else { None };
+    Ok(recovery_line(alloc, second, micros, seen, &episode(alloc, tried)?)?)
+}
+
+#[test]
+fn recoveries_are_told(rt: HostRuntime) -> Result<(), Fail> {
+    let alloc = rt.alloc();
+    for row in RECOVERIES.iter() {
+        assert!(rt; recovery_told(alloc, *row)?.as_str() == row.4, "{}", row.4);
+    }
     let counts = Counts {
         recovered: 1,
         given_up: 0,
     };
     let end = end_line(alloc, Some(86_399), 0, 40, &counts)?;
-    assert_eq!(rt;
-        end.as_str(),
-        "rx: 23:59:59 ended with status 0: 40 items taken, 1 failure, 1 recovered, 0 given up\n"
+    assert!(rt;
+        end.as_str()
+            == "rx: 23:59:59 ended with status 0: 40 items taken, 1 failure, 1 recovered, 0 given up\n"
     );
     Ok(())
 }
 
-// The first line that is told of a store to this address, with what lies there, and the lines of the registers behind it.
-fn is_told(
-    rt: &HostRuntime,
-    at: u32,
-    in_heap: bool,
-    below: Option<Near>,
-    line: &str,
-) -> Result<bool, Fail> {
-    let alloc = rt.alloc();
-    let place = Place {
+// The message behind which each block was asked for.
+const MESSAGE: SeenItem = SeenItem {
+    kind: 2,
+    conn: 3,
+    number: 61,
+    len: 9,
+};
+
+// Where that was.
+const MADE: Site = Site {
+    pc: 0x10a2c,
+    caller: 0x10b00,
+    taken: 61,
+};
+
+const STANDS: Near = Near {
+    block: Block {
+        at: 0x20_0000,
+        size: 28,
+        side: 0,
+        delayed: false,
+        made: MADE,
+    },
+    made_for: Some(MESSAGE),
+};
+
+const DELAYED: Near = Near {
+    block: Block {
+        at: 0x20_0000,
+        size: 1,
+        side: 0,
+        delayed: true,
+        made: MADE,
+    },
+    made_for: Some(MESSAGE),
+};
+
+// A block that was freed behind 70 items, of which the log has the last no more.
+const GONE: Gone = Gone {
+    freed: Freed {
+        block: Block {
+            at: 0x20_0000,
+            size: 32,
+            side: 0,
+            delayed: false,
+            made: MADE,
+        },
+        by: Site {
+            pc: 0x10b14,
+            caller: 0x10c00,
+            taken: 70,
+        },
+    },
+    made_for: Some(MESSAGE),
+    freed_for: None,
+};
+
+// What lies where a byte is stored: whether that is in the heap, the block next below, and the one that was freed there.
+fn place(in_heap: bool, below: Option<Near>, gone: Option<Gone>) -> Place {
+    Place {
         allowed: in_heap,
         in_heap,
         below,
-    };
-    let text = sighting_lines(alloc, Cause::BadAccess, &sighting(at, place))?;
-    let whole = format!(in alloc; "{line}{REGISTERS}")?;
-    Ok(text.as_str() == whole.as_str())
+        gone,
+    }
 }
 
-#[test]
-fn places_are_told(rt: HostRuntime) -> Result<(), Fail> {
-    let near = Near {
-        at: 0x20_0000,
-        size: 28,
-        freed: false,
-    };
-    let freed = Near {
-        at: 0x20_0000,
-        size: 1,
-        freed: true,
-    };
-    let past = is_told(
-        &rt,
+// Where a byte is stored, what lies there, and the lines.
+type Store = (u32, bool, Option<Near>, Option<Gone>, &'static str);
+
+static STORES: [Store; 5] = [
+    (
         0x20_0020,
         true,
-        Some(near),
-        "  wrote 1 byte at 00200020: 4 bytes past a block of 28 bytes at 00200000\n",
-    )?;
-    assert!(rt; past);
-    let into = is_told(
-        &rt,
+        Some(STANDS),
+        None,
+        "  wrote 1 byte at 00200020: 4 bytes past a block of 28 bytes at 00200000\n    the block at 00200000 was allocated at 00010a2c (ra 00010b00) for message 61 of connection 3\n",
+    ),
+    (
         0x20_001b,
         true,
-        Some(near),
-        "  wrote 1 byte at 0020001b: 27 bytes into a block of 28 bytes at 00200000\n",
-    )?;
-    assert!(rt; into);
-    let late = is_told(
-        &rt,
+        Some(STANDS),
+        None,
+        "  wrote 1 byte at 0020001b: 27 bytes into a block of 28 bytes at 00200000\n    the block at 00200000 was allocated at 00010a2c (ra 00010b00) for message 61 of connection 3\n",
+    ),
+    (
         0x20_0000,
         true,
-        Some(freed),
-        "  wrote 1 byte at 00200000: 0 bytes into a freed block of 1 byte at 00200000\n",
-    )?;
-    assert!(rt; late);
-    let astray = is_told(
-        &rt,
+        Some(DELAYED),
+        None,
+        "  wrote 1 byte at 00200000: 0 bytes into a freed block of 1 byte at 00200000\n    the block at 00200000 was allocated at 00010a2c (ra 00010b00) for message 61 of connection 3\n",
+    ),
+    (
+        0x20_0004,
+        true,
+        None,
+        Some(GONE),
+        "  wrote 1 byte at 00200004: in the heap, with no block near below\n    there was a block of 32 bytes at 00200000, allocated at 00010a2c (ra 00010b00) for message 61 of connection 3, freed at 00010b14 (ra 00010c00) behind 70 items\n",
+    ),
+    (
         0x6420_6e61,
         false,
         None,
+        None,
         "  wrote 1 byte at 64206e61: no segment allows it\n",
-    )?;
-    assert!(rt; astray);
+    ),
+];
+
+#[test]
+fn places_are_told(rt: HostRuntime) -> Result<(), Fail> {
+    for row in STORES.iter() {
+        let (at, in_heap, below, gone, lines) = *row;
+        let seen = sighting(at, place(in_heap, below, gone));
+        let told = sighting_lines(rt.alloc(), Cause::BadAccess, &seen)?;
+        assert!(rt;
+            told.as_str().strip_prefix(lines) == Some(REGISTERS),
+            "{told}"
+        );
+    }
+    Ok(())
+}
+
+const PADS: Helps = Helps {
+    pad: true,
+    zero: false,
+    delay: false,
+};
+
+const DELAYS: Helps = Helps {
+    pad: false,
+    zero: false,
+    delay: true,
+};
+
+const ZEROS: Helps = Helps {
+    pad: false,
+    zero: true,
+    delay: true,
+};
+
+// Where a byte is stored, what lies there, what helps, and what is wrong. A block of 28 bytes reserves 32.
+type Wrong = (u32, bool, Option<Near>, Option<Gone>, Option<Helps>, Fault);
+
+#[rattlefmt::skip]
+static WRONG: [Wrong; 12] = [
+    (0x20_0020, true, Some(STANDS), None, None, Fault::PastEnd),
+    (0x20_0020, true, Some(STANDS), None, Some(DELAYS), Fault::PastEnd),
+    (0x20_0030, true, Some(STANDS), None, None, Fault::Unknown),
+    (0x20_0030, true, Some(STANDS), None, Some(PADS), Fault::PastEnd),
+    (0x20_0000, true, Some(DELAYED), None, None, Fault::Freed),
+    (0x20_0004, true, None, Some(GONE), None, Fault::Freed),
+    (0x20_0024, true, Some(STANDS), Some(GONE), Some(DELAYS), Fault::Freed),
+    (0x20_0024, true, Some(STANDS), Some(GONE), Some(PADS), Fault::PastEnd),
+    (0x20_0024, true, Some(STANDS), Some(GONE), None, Fault::Freed),
+    (0x20_0020, true, Some(STANDS), Some(GONE), None, Fault::PastEnd),
+    (0x20_0004, true, None, Some(GONE), Some(ZEROS), Fault::Unset),
+    (0x6420_6e61, false, None, None, Some(DELAYS), Fault::Freed),
+];
+
+#[test]
+fn faults_are_told(rt: HostRuntime) -> Result<(), Fail> {
+    for row in WRONG.iter() {
+        let (at, in_heap, below, gone, helps, fault) = *row;
+        let seen = sighting(at, place(in_heap, below, gone));
+        let told = fault_of(Cause::BadAccess, &seen, helps);
+        assert!(rt; told == fault, "{at}");
+    }
+    Ok(())
+}
+
+// A trial.
+fn trial(checkpoint: u64, env: Env, tried: Tried) -> Try {
+    Try {
+        checkpoint,
+        env,
+        tried,
+    }
+}
+
+#[test]
+fn the_oldest_cure_tells(rt: HostRuntime) -> Result<(), Fail> {
+    let tries = [
+        trial(36, Env::Pad, Tried::Asks),
+        trial(36, Env::Delay, Tried::Asks),
+        trial(32, Env::Pad, Tried::Contradicts),
+        trial(32, Env::Zero, Tried::Asks),
+        trial(32, Env::Delay, Tried::Asks),
+        trial(28, Env::Pad, Tried::Behind),
+    ];
+    assert!(rt; helps_of(&tries) == Some(ZEROS));
+    assert!(rt; helps_of(&[]).is_none());
     Ok(())
 }

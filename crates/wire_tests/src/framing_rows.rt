@@ -81,9 +81,12 @@ fn note_items(log: &ItemLog, found: &mut Vec<u8>) -> Result<(), Fail> {
         if item.kind > 9 || item.conn > 9 || within > 9 {
             return Err(Fail::new("another kind, connection or number"));
         }
-        found.push(b'0' + item.kind)?;
-        found.push(b'0' + item.conn as u8)?;
-        found.push(b'0' + within as u8)?;
+        let digits = [
+            b'0' + item.kind,
+            b'0' + item.conn as u8,
+            b'0' + within as u8,
+        ];
+        found.extend_from_slice(&digits)?;
         found.extend_from_slice(item.bytes.as_slice())?;
         found.push(b'|')?;
     }

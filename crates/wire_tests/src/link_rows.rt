@@ -2,11 +2,19 @@
 ghost use Rattle.std.specs.Prelude.{◌≡◌, true};
 
 use crate::rows::events_of;
-use links::{Link, LinkEvent, MemoryLink};
+use links::{Link, LinkEvent, LinkFault, MemoryLink};
 use rx_io::{MemorySink, MemorySource};
-use std::alloc::Global;
+use std::alloc::{AllocError, Global};
 use std::test::Fail;
 use trunk_wire::TrunkLink;
+
+fn add_answer(
+    alloc: Global,
+    answers: &mut String,
+    answer: &Result<LinkEvent, LinkFault>,
+) -> Result<(), AllocError> {
+    answers.push_str(format!(in alloc; "{answer:?} ")?.as_str())
+}
 
 // The answers of `next` until the link ends or fails.
 fn answers_of<L: Link>(alloc: Global, link: &mut L) -> Result<String, Fail>
@@ -15,7 +23,7 @@ fn answers_of<L: Link>(alloc: Global, link: &mut L) -> Result<String, Fail>
     let mut answers = String::new(alloc);
     'turns: for _ in 0..20 {
         let answer = link.next();
-        answers.push_str(format!(in alloc; "{answer:?} ")?.as_str())?;
+        add_answer(alloc, &mut answers, &answer)?;
         match answer {
             Ok(LinkEvent::Ends) => return Ok(answers),
             Ok(_) => {}
@@ -64,6 +72,11 @@ pub fn output_seen(alloc: Global, most: usize, fails: u64) -> Result<String, Fai
     Ok(format!(in alloc; "{given:?} {:?}", sink.bytes())?)
 }
 
+fn byte_of(pair: &[u8]) -> Result<u8, Fail> {
+    let pair = std::str::from_utf8(pair).ok().ok_or("no pair")?;
+    Ok(u8::from_str_radix(pair, 16)?)
+}
+
 /// The bytes of pairs of hexadecimal digits; none of a dash.
 pub fn bytes_of(alloc: Global, hex: &str) -> Result<Vec<u8>, Fail> {
     let mut bytes = Vec::new(alloc);
@@ -71,8 +84,7 @@ pub fn bytes_of(alloc: Global, hex: &str) -> Result<Vec<u8>, Fail> {
         return Ok(bytes);
     }
     for pair in hex.as_bytes().chunks(2) {
-        let pair = std::str::from_utf8(pair).ok().ok_or("no pair")?;
-        bytes.push(u8::from_str_radix(pair, 16)?)?;
+        bytes.push(byte_of(pair)?)?;
     }
     Ok(bytes)
 }
