@@ -184,7 +184,7 @@ PROGRAMS = [
 OF_THE_SUITE = [("sha256", 6), ("sort", 3), ("calculator", 70)]
 
 # At most so many instructions of the host for one of the guest.
-BARS = {"data segment": 15.5, "stack": 15.5, "both": 16.6, "sha256": 15.5, "sort": 17.4, "calculator": 17.9}
+BARS = {"data segment": 10.6, "stack": 10.6, "both": 14.3, "sha256": 14.9, "sort": 13.6, "calculator": 17.7}
 
 
 def frame(kind, payload=b""):
