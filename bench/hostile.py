@@ -38,8 +38,9 @@ from second.guests import text_of  # noqa: E402
 from second.trunk import OPENS, frame, piece_frame  # noqa: E402
 
 SECONDS = 30  # for a run
+LARGE_SECONDS = 240  # for one that reads 4 GiB
 MIB = 1 << 20
-PROGRAM_LIMIT, RECORD_LIMIT = 16 * MIB, 64 * MIB
+PROGRAM_LIMIT, RECORD_LIMIT = 16 * MIB, 4096 * MIB
 NOBODY = 65534
 NO_LOADER = 127  # the system's loader had too little memory for the C library
 STATUSES = range(11)
@@ -62,18 +63,18 @@ class Trial:
             path = os.path.join(folder, name)
             if os.path.isfile(path) and not os.path.islink(path):
                 with open(path, "rb") as file:
-                    found[name] = hashlib.sha256(file.read()).digest()
+                    found[name] = hashlib.file_digest(file, "sha256").digest()
         return found
 
-    def run(self, what, folder, words, wanted, stream=b"", written=("r", "t"), **how):
+    def run(self, what, folder, words, wanted, stream=b"", written=("r", "t"), seconds=SECONDS, **how):
         """Runs rx in a folder, and says what is wrong of how it ended, if anything is."""
         before = self.sums(folder)
         try:
-            made = subprocess.run([self.rx, *words], cwd=folder, input=None if "stdin" in how else stream, timeout=SECONDS, check=False,
+            made = subprocess.run([self.rx, *words], cwd=folder, input=None if "stdin" in how else stream, timeout=seconds, check=False,
                                   **{"stdout": subprocess.PIPE, "stderr": subprocess.PIPE, **how})  # fmt: skip
         except subprocess.TimeoutExpired:
             self.counts[what, "no end"] += 1
-            self.wrong.append("%s: no end within %d seconds: %s" % (what, SECONDS, words))
+            self.wrong.append("%s: no end within %d seconds: %s" % (what, seconds, words))
             return None
         said = (made.stderr or b"").decode(errors="replace")
         self.counts[what, made.returncode] += 1
@@ -86,6 +87,12 @@ class Trial:
         if touched:
             self.wrong.append("%s: touched %s" % (what, touched))
         return Ended(made.returncode, said, made.stdout or b"")
+
+
+    def says(self, what, ended, front):
+        """Standard error has to be one line that begins so."""
+        if ended is not None and (not ended.said.startswith(front) or ended.said.count("\n") != 1):
+            self.wrong.append("%s: it said %r" % (what, ended.said[:200]))
 
 
 def folder_of(program="overrun"):
@@ -146,8 +153,17 @@ def outputs(trial):
         signal.signal(signal.SIGXFSZ, signal.SIG_IGN)
         resource.setrlimit(resource.RLIMIT_FSIZE, (4096, 4096))
 
+    ended = trial.run("a record that may not grow any more", folder_of(), RUN, {9}, many, preexec_fn=limited, restore_signals=False)
+    trial.says("a record that may not grow any more", ended, "rx: the file r couldn't be written: ")
+    few = frame(OPENS, 0) + b"".join(piece_frame(0, b'nail 2",iron,0.10\n') for _ in range(200))
     folder = folder_of()
-    trial.run("a record that may not grow any more", folder, RUN, {9}, many, preexec_fn=limited, restore_signals=False)
+    ended = trial.run("a record that stops", folder, [*RUN, "--record-full", "stop"], {0}, few, preexec_fn=limited, restore_signals=False)
+    trial.says("a record that stops", ended, "rx: the record r can't be written any more, and stops here: ")
+    with open(os.path.join(folder, "r"), "rb") as record, open(os.path.join(folder, "t"), "rb") as report:
+        if b"end " in record.read() or not report.read().splitlines()[-1].startswith(b"end 0 "):
+            trial.wrong.append("a record that stops: it has an end, or the report hasn't")
+    folder = folder_of()
+    trial.run("no record", folder, ["run", "p", "--record", "none", "--report", "t"], {0}, few, written=("t",))
 
 
 def sizes(trial):
@@ -156,12 +172,14 @@ def sizes(trial):
         with open(os.path.join(folder, "p"), "ab") as file:
             file.truncate(size)
         trial.run("a program %s" % what, folder, RUN, wanted, OVERRUN)
+    # it is read whole, so memory may run out
     for what, size in (("as large as may be", RECORD_LIMIT), ("one byte larger", RECORD_LIMIT + 1)):
         folder = folder_of()
         with open(os.path.join(folder, "r"), "wb") as file:
             file.write(b"rx record 2 window 4 frame line\n")
             file.truncate(size)
-        trial.run("a record %s" % what, folder, ["replay", "p", "r"], {3}, OVERRUN, written=())
+        trial.run("a record %s" % what, folder, ["replay", "p", "r"], {3, 10}, OVERRUN, written=(), seconds=LARGE_SECONDS)
+        shutil.rmtree(folder)
     folder = folder_of()
     trial.run("no program", folder, ["run", "none", *RUN[2:]], {9}, OVERRUN, written=())
     trial.run("a program that is a directory", folder, ["run", ".", *RUN[2:]], {9}, OVERRUN, written=())

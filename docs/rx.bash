@@ -24,6 +24,9 @@ _rx() {
     'run --durable')
         COMPREPLY=($(compgen -W 'on off' -- "$word"))
         return ;;
+    'run --record-full')
+        COMPREPLY=($(compgen -W 'end stop' -- "$word"))
+        return ;;
     'resume --form')
         COMPREPLY=($(compgen -W 'text json' -- "$word"))
         return ;;
@@ -39,6 +42,9 @@ _rx() {
     'resume --durable')
         COMPREPLY=($(compgen -W 'on off' -- "$word"))
         return ;;
+    'resume --record-full')
+        COMPREPLY=($(compgen -W 'end stop' -- "$word"))
+        return ;;
     'serve --form')
         COMPREPLY=($(compgen -W 'text json' -- "$word"))
         return ;;
@@ -51,11 +57,17 @@ _rx() {
     'serve --guard')
         COMPREPLY=($(compgen -W 'off extent block' -- "$word"))
         return ;;
+    'serve --stop')
+        COMPREPLY=($(compgen -W 'never input' -- "$word"))
+        return ;;
     'serve --tell')
         COMPREPLY=($(compgen -W 'auto on off' -- "$word"))
         return ;;
     'serve --durable')
         COMPREPLY=($(compgen -W 'on off' -- "$word"))
+        return ;;
+    'serve --record-full')
+        COMPREPLY=($(compgen -W 'end stop' -- "$word"))
         return ;;
     'diagnose --form')
         COMPREPLY=($(compgen -W 'text json' -- "$word"))
@@ -75,18 +87,21 @@ _rx() {
     'diagnose --durable')
         COMPREPLY=($(compgen -W 'on off' -- "$word"))
         return ;;
+    'diagnose --record-full')
+        COMPREPLY=($(compgen -W 'end stop' -- "$word"))
+        return ;;
     esac
     case "${COMP_WORDS[1]}" in
     run)
-        [[ $word == -* ]] && COMPREPLY=($(compgen -W '--record --report --form --frame --window --hold --ring --every --frames --budget --keep --env --guard --tell --durable' -- "$word")) && return ;;
+        [[ $word == -* ]] && COMPREPLY=($(compgen -W '--record --report --form --frame --window --hold --ring --every --frames --budget --keep --env --guard --tell --durable --record-full' -- "$word")) && return ;;
     standby)
         [[ $word == -* ]] && COMPREPLY=($(compgen -W '--record --budget' -- "$word")) && return ;;
     resume)
-        [[ $word == -* ]] && COMPREPLY=($(compgen -W '--record --report --form --hold --ring --every --frames --budget --keep --env --guard --tell --durable' -- "$word")) && return ;;
+        [[ $word == -* ]] && COMPREPLY=($(compgen -W '--record --report --form --hold --ring --every --frames --budget --keep --env --guard --tell --durable --record-full' -- "$word")) && return ;;
     serve)
-        [[ $word == -* ]] && COMPREPLY=($(compgen -W '--record --report --form --frame --window --ring --every --frames --budget --keep --env --guard --patience --at-once --tell --durable' -- "$word")) && return ;;
+        [[ $word == -* ]] && COMPREPLY=($(compgen -W '--record --report --form --frame --window --ring --every --frames --budget --keep --env --guard --patience --at-once --stop --drain --tell --durable --record-full' -- "$word")) && return ;;
     diagnose)
-        [[ $word == -* ]] && COMPREPLY=($(compgen -W '--record --report --diagnosis --form --frame --window --hold --ring --every --frames --budget --keep --env --guard --tell --durable' -- "$word")) && return ;;
+        [[ $word == -* ]] && COMPREPLY=($(compgen -W '--record --report --diagnosis --form --frame --window --hold --ring --every --frames --budget --keep --env --guard --tell --durable --record-full' -- "$word")) && return ;;
     help)
         COMPREPLY=($(compgen -W 'run asm replay convert standby resume serve diagnose drill frame unframe' -- "$word"))
         return ;;

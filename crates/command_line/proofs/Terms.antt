@@ -17,9 +17,9 @@ pub use Rattle.command_line.specs.Texts.{Text, is_dashed, is_name, is_numeral, n
 pub use Rattle.command_line.specs.Parts.{Parts, StartsWith, are_positionals, nothing, parts, parts_of, texts_of, with_option, with_positional}
 unfoldable pub use Rattle.command_line.specs.Parts.{parts_behind}
 pub use Rattle.command_line.specs.Table.{CommandForm, Row, Takes, form_read, row_read, rows_read, static_row}
-unfoldable pub use Rattle.command_line.specs.Table.{conns_row, count_row, diagnose_guard_row, diagnosis_row, env_row, form_row, frame_row, guard_row, port_row, record_row, report_row, seed_row}
+unfoldable pub use Rattle.command_line.specs.Table.{conns_row, count_row, diagnose_guard_row, diagnosis_row, env_row, form_row, frame_row, guard_row, port_row, record_row, report_row, seed_row, stopped_by_row}
 pub use Rattle.command_line.specs.Options.{Options, are_options, default_of, given, has_option, has_required, is_between, is_for, is_taken, number_at, takes_of, value_of}
-pub use Rattle.command_line.specs.Commands.{Asks, CommandValue, DiagnoseValue, DrillValue, ResumeValue, RunValue, ServeValue, StandbyValue, behind_name, command_of, diagnose, drill, env_of, every_name, fits, form_named, form_of, frame_of, guard_of, is_of, positional, resume, run, run_in, serve, session_value, shown, standby, value_by}
+pub use Rattle.command_line.specs.Commands.{Asks, CommandValue, DiagnoseValue, DrillValue, ResumeValue, RunValue, ServeValue, StandbyValue, behind_name, command_of, diagnose, drill, env_of, every_name, fits, form_named, form_of, frame_of, guard_of, is_of, may_stop, positional, resume, run, run_in, serve, session_value, shown, standby, value_by}
 unfoldable pub use Rattle.command_line.specs.Commands.{asm_form, asm_value, convert_form, convert_value, diagnose_form, diagnose_value, drill_form, drill_value, frame_form, is_asm, is_convert, is_diagnose, is_drill, is_frame, is_replay, is_resume, is_run, is_serve, is_standby, is_unframe, name_of, replay_form, replay_value, resume_form, resume_value, run_form, run_value, serve_form, serve_value, standby_form, standby_value, unframe_form}
 pub use Rattle.command_line.specs.Reading.{EachName, EachRow, HasRead, app_of_form, defaults_of, option_rule}
 pub use Rattle.command_line.specs.Ranges.{AreInRange, EachInRange, HasRanges, IsInRange, NumbersOf, RangesOf, takes_numbers}

@@ -35,7 +35,7 @@ use Rattle.command_line.specs.declared.drill_words.DrillCommand.{DrillCommand}
 use Rattle.command_line.specs.declared.drill_words.TheConstants as drill_table
 use Rattle.command_line.specs.declared.frame_words.TheConstants as frame_table
 use Rattle.command_line.specs.declared.run_words.TheConstants as table
-use Rattle.command_line.specs.Table.{CommandForm, Row, static_row, static_form, record_row, report_row, env_row, form_row, frame_row, guard_row, diagnose_guard_row, diagnosis_row, port_row, conns_row, seed_row, count_row}
+use Rattle.command_line.specs.Table.{CommandForm, Row, static_row, static_form, record_row, report_row, env_row, form_row, frame_row, guard_row, diagnose_guard_row, diagnosis_row, port_row, conns_row, stopped_by_row, seed_row, count_row}
 
 -- what a session of a program is asked for
 pub record RunValue : Type 0 where
@@ -104,6 +104,8 @@ pub record ServeValue : Type 0 where
   pub conns : ℕ
   pub patience : ℕ
   pub at_once : ℕ
+  pub stops : Bool
+  pub drain : ℕ
 
 -- what a session with a diagnosis is asked for
 pub record DiagnoseValue : Type 0 where
@@ -368,6 +370,10 @@ is_resume p = fits resume_form p && have_six p
 abbrev pub number_there : ℕ → Parts → ℕ
 number_there index p = unwrap_or (number_of (positional index p)) 0
 
+-- whether a `serve` may be stopped, by the text of who does that
+abbrev pub may_stop : Text → Bool
+may_stop text = bytes_eq text serve_table.INPUT.now
+
 -- the names and numbers of `serve`: its session holds nothing
 unfoldable pub serve_value : Parts → ServeValue
 serve_value p = record {
@@ -376,6 +382,8 @@ serve_value p = record {
   conns = number_there 2 p;
   patience = number_at (static_row serve_table.PATIENCE) p.options;
   at_once = number_at (static_row serve_table.AT_ONCE) p.options;
+  stops = may_stop (value_of stopped_by_row p.options);
+  drain = number_at (static_row serve_table.DRAIN) p.options;
 }
 
 -- the numbers of `serve`, each with its row: two are positionals, the others are options
@@ -391,6 +399,7 @@ serve_numbers value =
     ∷ (static_row table.KEEP, value.session.keep)
     ∷ (static_row serve_table.PATIENCE, value.patience)
     ∷ (static_row serve_table.AT_ONCE, value.at_once)
+    ∷ (static_row serve_table.DRAIN, value.drain)
     ∷ []
 
 -- the words are those of `serve`: behind the program stand a port and a number of connections, and its names are three different texts
@@ -539,7 +548,7 @@ resume_shown c = record {
 }
 
 abbrev pub serve_shown : ServeCommand → ServeValue
-serve_shown c = record { session = run_shown c.session; port = c.port; conns = c.conns; patience = c.patience; at_once = c.at_once }
+serve_shown c = record { session = run_shown c.session; port = c.port; conns = c.conns; patience = c.patience; at_once = c.at_once; stops = c.stops; drain = c.drain }
 
 abbrev pub diagnose_shown : DiagnoseCommand → DiagnoseValue
 diagnose_shown c = record { session = run_shown c.session; diagnosis = c.diagnosis.now }

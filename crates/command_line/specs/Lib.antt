@@ -9,3 +9,4 @@ pub mod Ranges
 pub mod Help
 pub mod Telling
 pub mod Durable
+pub mod Recording

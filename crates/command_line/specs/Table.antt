@@ -96,6 +96,9 @@ tell_row = static_row table.TELL
 unfoldable pub durable_row : Row
 durable_row = static_row table.DURABLE
 
+unfoldable pub record_full_row : Row
+record_full_row = static_row table.RECORD_FULL
+
 unfoldable pub diagnose_guard_row : Row
 diagnose_guard_row = static_row diagnose_table.DIAGNOSE_GUARD
 
@@ -107,6 +110,9 @@ port_row = static_row serve_table.PORT
 
 unfoldable pub conns_row : Row
 conns_row = static_row serve_table.CONNS
+
+unfoldable pub stopped_by_row : Row
+stopped_by_row = static_row serve_table.STOPPED_BY
 
 unfoldable pub seed_row : Row
 seed_row = static_row drill_table.SEED

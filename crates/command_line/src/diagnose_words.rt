@@ -14,8 +14,8 @@ use crate::matching::{out_of_memory, parser, value_in};
 use crate::options::{CommandName, CommandOf, CommandRow, OptionRow, RowOf, TakesOf};
 use crate::run_words::{
     BLOCK, BUDGET, DURABLE, ENV, EVERY, EXTENT, FORM, FRAME, FRAMES, HOLD, KEEP, OFF, PROGRAM,
-    RECORD, REPORT, RING, RunCommand, TELL, WINDOW, guard_of, have_names, number_or_zero,
-    recording, report, session_from,
+    RECORD, RECORD_FULL, REPORT, RING, RunCommand, TELL, WINDOW, guard_of, have_names,
+    number_or_zero, recording, report, session_from,
 };
 use clap::{ArgMatches, Error};
 use std::alloc::{AllocError, Global};
@@ -37,7 +37,7 @@ pub const DIAGNOSE_GUARD: OptionRow = RowOf {
 };
 
 /// The options of `diagnose`.
-pub const DIAGNOSE_OPTIONS: [OptionRow; 16] = [
+pub const DIAGNOSE_OPTIONS: [OptionRow; 17] = [
     RECORD,
     REPORT,
     DIAGNOSIS,
@@ -54,6 +54,7 @@ pub const DIAGNOSE_OPTIONS: [OptionRow; 16] = [
     DIAGNOSE_GUARD,
     TELL,
     DURABLE,
+    RECORD_FULL,
 ];
 
 /// Runs a program, and tries everything at each failure.

@@ -19,6 +19,7 @@ mod matching;
 mod options;
 mod parts;
 mod positionals;
+mod record_words;
 mod replay_words;
 mod resume_words;
 mod run_words;
@@ -41,9 +42,10 @@ pub use options::{
     CommandName, CommandOf, CommandRow, OptionRow, RowOf, Takes, TakesOf, takes_value,
 };
 pub use positionals::POSITIONALS;
+pub use record_words::asked_record_stop;
 pub use replay_words::{REPLAY, REPLAY_OPTIONS, ReplayCommand};
 pub use resume_words::{REPORTED, RESUME, RESUME_OPTIONS, ResumeCommand, run_in};
-pub use run_words::{Form, Guard, RUN, RUN_OPTIONS, RunCommand};
+pub use run_words::{Form, Guard, NO_RECORD, RUN, RUN_OPTIONS, RunCommand};
 pub use serve_words::{SERVE, SERVE_NUMBERS, SERVE_OPTIONS, ServeCommand};
 pub use standby_words::{STANDBY, STANDBY_OPTIONS, StandbyCommand};
 pub use tell_words::{Tell, asked_tell};

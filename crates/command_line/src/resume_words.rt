@@ -14,7 +14,7 @@ use crate::options::{CommandName, CommandOf, CommandRow, OptionRow};
 use crate::replay_words::RECORDED;
 use crate::run_words::{
     BUDGET, DURABLE, ENV, EVERY, FORM, FRAMES, Form, GUARD, Guard, HOLD, KEEP, PROGRAM, RECORD,
-    REPORT, RING, RunCommand, TELL, differ, env_of, form_of, guard_of, long_or_zero,
+    RECORD_FULL, REPORT, RING, RunCommand, TELL, differ, env_of, form_of, guard_of, long_or_zero,
     number_or_zero, recording, report,
 };
 use crate::standby_words::COUNTS;
@@ -27,8 +27,21 @@ use std::alloc::{AllocError, Global};
 pub const REPORTED: &str = "REPORT";
 
 /// The options of `resume`.
-pub const RESUME_OPTIONS: [OptionRow; 13] = [
-    RECORD, REPORT, FORM, HOLD, RING, EVERY, FRAMES, BUDGET, KEEP, ENV, GUARD, TELL, DURABLE,
+pub const RESUME_OPTIONS: [OptionRow; 14] = [
+    RECORD,
+    REPORT,
+    FORM,
+    HOLD,
+    RING,
+    EVERY,
+    FRAMES,
+    BUDGET,
+    KEEP,
+    ENV,
+    GUARD,
+    TELL,
+    DURABLE,
+    RECORD_FULL,
 ];
 
 /// Goes on for a host that was killed.

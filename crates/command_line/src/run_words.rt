@@ -27,6 +27,12 @@ pub const PROGRAM: &str = "PROGRAM";
 pub const TEXT: &str = "text";
 /// The report as JSON.
 pub const JSON: &str = "json";
+/// The name of no record: nothing is written.
+pub const NO_RECORD: &str = "none";
+/// The session ends.
+pub const END: &str = "end";
+/// The record stops, and the session goes on.
+pub const STOP: &str = "stop";
 /// A message is a line.
 pub const LINE: &str = "line";
 /// A message comes behind its length.
@@ -61,7 +67,7 @@ pub const RECORD: OptionRow = RowOf {
     name: "record",
     takes: TakesOf::Name,
     default: None,
-    says: "Where the record of the session is written.",
+    says: "Where the record of the session is written. With none it isn't.",
 };
 /// Where the report goes.
 pub const REPORT: OptionRow = RowOf {
@@ -164,10 +170,32 @@ pub const DURABLE: OptionRow = RowOf {
     says: "Whether an episode is on the disk before replies that come of it are written.",
 };
 
+/// What becomes of a session whose record can't be written any more. It is no part of what a session is asked for.
+pub const RECORD_FULL: OptionRow = RowOf {
+    name: "record-full",
+    takes: TakesOf::OneOf(&[END, STOP]),
+    default: Some(END),
+    says: "Whether the session ends where its record can't be written any more, or only the record stops.",
+};
+
 /// The options of `run`.
-pub const RUN_OPTIONS: [OptionRow; 15] = [
-    RECORD, REPORT, FORM, FRAME, WINDOW, HOLD, RING, EVERY, FRAMES, BUDGET, KEEP, ENV, GUARD, TELL,
+pub const RUN_OPTIONS: [OptionRow; 16] = [
+    RECORD,
+    REPORT,
+    FORM,
+    FRAME,
+    WINDOW,
+    HOLD,
+    RING,
+    EVERY,
+    FRAMES,
+    BUDGET,
+    KEEP,
+    ENV,
+    GUARD,
+    TELL,
     DURABLE,
+    RECORD_FULL,
 ];
 
 /// Runs a program.

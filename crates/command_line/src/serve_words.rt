@@ -5,7 +5,7 @@ ghost use Rattle.clap.specs.declared.error.kind.ErrorKind.TheVariants.{OutOfMemo
 ghost use Rattle.command_line.specs.Parts.{Parts, parts_of};
 ghost use Rattle.command_line.specs.Options.{takes_of};
 ghost use Rattle.command_line.specs.Table.{conns_row, port_row};
-ghost use Rattle.command_line.specs.Commands.{fits, is_serve, positional, serve_form, serve_numbers, serve_shown, serve_value};
+ghost use Rattle.command_line.specs.Commands.{fits, is_serve, may_stop, positional, serve_form, serve_numbers, serve_shown, serve_value};
 ghost use Rattle.command_line.specs.Ranges.{EachInRange};
 ghost use Rattle.command_line.specs.Reading.{HasRead};
 
@@ -13,8 +13,8 @@ use crate::accepted::{have_form, name_at};
 use crate::matching::{out_of_memory, parser, value_in};
 use crate::options::{CommandName, CommandOf, CommandRow, OptionRow, RowOf, TakesOf, takes_value};
 use crate::run_words::{
-    BUDGET, DURABLE, ENV, EVERY, FORM, FRAME, FRAMES, GUARD, KEEP, PROGRAM, RECORD, REPORT, RING,
-    RunCommand, TELL, WINDOW, guard_of, have_names, number_or_zero, session_from,
+    BUDGET, DURABLE, ENV, EVERY, FORM, FRAME, FRAMES, GUARD, KEEP, PROGRAM, RECORD, RECORD_FULL,
+    REPORT, RING, RunCommand, TELL, WINDOW, guard_of, have_names, number_or_zero, session_from,
 };
 use clap::{ArgMatches, Error};
 use std::alloc::{AllocError, Global};
@@ -54,13 +54,50 @@ pub const AT_ONCE: OptionRow = RowOf {
     says: "How many clients are served at the same time. With 1 it is one after another.",
 };
 
+/// Nobody stops it.
+pub const NEVER: &str = "never";
+/// Standard input does.
+pub const INPUT: &str = "input";
+
+/// Who stops it: nobody, or standard input, by a line `stop` or its end.
+pub const STOPPED_BY: OptionRow = RowOf {
+    name: "stop",
+    takes: TakesOf::OneOf(&[NEVER, INPUT]),
+    default: Some(NEVER),
+    says: "Whether a line stop on standard input, or its end, stops it: then no client is accepted any more.",
+};
+/// How many seconds clients may stay behind a stop.
+pub const DRAIN: OptionRow = RowOf {
+    name: "drain",
+    takes: TakesOf::Number(0, 3600),
+    default: Some("10"),
+    says: "For how many seconds clients that are connected may stay behind a stop.",
+};
+
 /// The names of `serve` that are numbers.
 pub const SERVE_NUMBERS: [OptionRow; 2] = [PORT, CONNS];
 
 /// The options of `serve`.
-pub const SERVE_OPTIONS: [OptionRow; 16] = [
-    RECORD, REPORT, FORM, FRAME, WINDOW, RING, EVERY, FRAMES, BUDGET, KEEP, ENV, GUARD, PATIENCE,
-    AT_ONCE, TELL, DURABLE,
+pub const SERVE_OPTIONS: [OptionRow; 19] = [
+    RECORD,
+    REPORT,
+    FORM,
+    FRAME,
+    WINDOW,
+    RING,
+    EVERY,
+    FRAMES,
+    BUDGET,
+    KEEP,
+    ENV,
+    GUARD,
+    PATIENCE,
+    AT_ONCE,
+    STOPPED_BY,
+    DRAIN,
+    TELL,
+    DURABLE,
+    RECORD_FULL,
 ];
 
 /// Runs a program for the clients of a port.
@@ -73,7 +110,7 @@ pub const SERVE: CommandRow = CommandOf {
 };
 
 /// A session for the clients of a port: what it is of, the port, how many connections it has, for how many seconds it waits for a
-/// client, and how many clients it serves at the same time.
+/// client, how many clients it serves at the same time, whether it may be stopped, and for how many seconds clients may stay then.
 #[derive(Clone, Copy, Debug)]
 pub struct ServeCommand<'a> {
     /// Its `hold` is 0.
@@ -84,6 +121,16 @@ pub struct ServeCommand<'a> {
     pub patience: u32,
     /// 1 to 256.
     pub at_once: u32,
+    /// By a line `stop` on standard input, or by its end.
+    pub stops: bool,
+    pub drain: u32,
+}
+
+// Whether it may be stopped, by the text of who does that.
+fn may_stop(text: &str) -> bool
+    ensures { result ≡ may_stop text.now }
+{
+    text == INPUT
 }
 
 // Whether the words have the form of `serve`.
@@ -147,6 +194,8 @@ fn serve_from<'a>(matches: &ArgMatches<'a>) -> ServeCommand<'a>
         conns: number_or_zero(value_in(matches, CONNS_NAME)),
         patience: number_or_zero(value_in(matches, PATIENCE.name)),
         at_once: number_or_zero(value_in(matches, AT_ONCE.name)),
+        stops: may_stop(value_in(matches, STOPPED_BY.name)),
+        drain: number_or_zero(value_in(matches, DRAIN.name)),
     }
 }
 

@@ -1,11 +1,12 @@
 // The files of the system, of which two are written through to the disk.
 ghost use Rattle.std.specs.Prelude.{◌≡◌, None};
+ghost use Rattle.rx_base.specs.Faults.{HasCause};
 
 use rx_base::{IoFault, LoadFault};
-use rx_io::{Files, StdFiles};
+use rx_io::{FileFault, Files, StdFiles};
 use std::alloc::Global;
 use std::fs::{OpenFile, OpenOptions};
-use std::rt;
+use std::{io, rt};
 
 /// Which files are written through: one behind each addition, and another one behind the first alone.
 #[derive(Clone, Copy, Debug)]
@@ -22,9 +23,11 @@ pub struct Through<'a> {
 pub struct DiskFiles<'a, R: rt::Files> {
     rt: &'a R,
     files: StdFiles<'a, R>,
+    alloc: Global,
     through: Option<Through<'a>>,
     each_begins: bool,
     first_begins: bool,
+    fault: Option<FileFault>,
     faults: u64,
 }
 
@@ -37,20 +40,14 @@ fn folder_of(name: &str) -> &str {
     }
 }
 
-// The disk takes what stands in a file, or says that it can't.
-fn sync_file<R: rt::Files>(rt: &R, name: &str) -> bool {
-    match OpenOptions::new().append(true).open(rt, name) {
-        Ok(file) => file.sync_data().is_ok(),
-        Err(_) => false,
-    }
+// The disk takes what stands in a file, or says why it can't.
+fn sync_file<R: rt::Files>(rt: &R, name: &str) -> io::Result<()> {
+    OpenOptions::new().append(true).open(rt, name)?.sync_data()
 }
 
 // The disk takes which files a folder has.
-fn sync_folder<R: rt::Files>(rt: &R, name: &str) -> bool {
-    match OpenOptions::new().read(true).open(rt, name) {
-        Ok(folder) => folder.sync_all().is_ok(),
-        Err(_) => false,
-    }
+fn sync_folder<R: rt::Files>(rt: &R, name: &str) -> io::Result<()> {
+    OpenOptions::new().read(true).open(rt, name)?.sync_all()
 }
 
 impl<'a, R: rt::Files> DiskFiles<'a, R> {
@@ -61,19 +58,42 @@ impl<'a, R: rt::Files> DiskFiles<'a, R> {
         DiskFiles {
             rt,
             files: StdFiles::make(rt, alloc),
+            alloc,
             through,
             each_begins: true,
             first_begins: true,
+            fault: None,
             faults: 0,
         }
     }
 
+    /// Why a file couldn't be written last, or written through to the disk, if one couldn't be, and memory didn't run out for that.
+    /// It is told once.
+    pub fn take_fault(&mut self) -> Option<FileFault> {
+        match self.fault.take() {
+            Some(fault) => Some(fault),
+            None => self.files.take_fault(),
+        }
+    }
+
+    // A file couldn't be written through to the disk.
+    fn fail(&mut self, name: &str, error: io::Error) -> Result<(), IoFault>
+        ensures cause { HasCause self.old.faults self.new.faults result }
+    {
+        self.faults = self.faults.saturating_add(1);
+        self.fault = match String::from_str(self.alloc, name) {
+            Ok(name) => Some(FileFault { name, error }),
+            Err(_) => None,
+        };
+        Err(IoFault::Failed)
+    }
+
     // Writes a file through to the disk to which bytes were added, if it is one that is.
-    fn write_through(&mut self, name: &str) -> bool
+    fn write_through(&mut self, name: &str) -> io::Result<()>
         ensures { self.new.faults ≡ self.old.faults }
     {
         let Some(through) = self.through else {
-            return true;
+            return Ok(());
         };
         let (is_due, begins) = if through.each == name {
             (true, self.each_begins)
@@ -81,17 +101,21 @@ impl<'a, R: rt::Files> DiskFiles<'a, R> {
             (through.first == name && self.first_begins, true)
         };
         if !is_due {
-            return true;
+            return Ok(());
         }
         self.mark(name, false);
-        sync_file(self.rt, name) && (!begins || sync_folder(self.rt, folder_of(name)))
+        sync_file(self.rt, name)?;
+        if begins {
+            sync_folder(self.rt, folder_of(name))?;
+        }
+        Ok(())
     }
 
     // Writes through to the disk that a file was started, if it is one whose old bytes mustn't come back.
-    fn empty_through(&self, name: &str) -> bool {
+    fn empty_through(&self, name: &str) -> io::Result<()> {
         match self.through {
-            Some(through) => through.first != name || sync_file(self.rt, name),
-            None => true,
+            Some(through) if through.first == name => sync_file(self.rt, name),
+            _ => Ok(()),
         }
     }
 
@@ -138,11 +162,9 @@ impl<R: rt::Files> Files for DiskFiles<'_, R> {
             }
             return Err(fault);
         }
-        if self.empty_through(name) {
-            Ok(())
-        } else {
-            self.faults = self.faults.saturating_add(1);
-            Err(IoFault::Failed)
+        match self.empty_through(name) {
+            Ok(()) => Ok(()),
+            Err(error) => self.fail(name, error),
         }
     }
 
@@ -153,10 +175,9 @@ impl<R: rt::Files> Files for DiskFiles<'_, R> {
             }
             return Err(fault);
         }
-        if !self.write_through(name) {
-            self.faults = self.faults.saturating_add(1);
-            return Err(IoFault::Failed);
+        match self.write_through(name) {
+            Ok(()) => Ok(()),
+            Err(error) => self.fail(name, error),
         }
-        Ok(())
     }
 }

@@ -5,12 +5,12 @@ ghost use Rattle.ports.specs.Connections.{is_open};
 use crate::clients::{ClientStep, do_step, free_port, text_of};
 use crate::port_tests::serve;
 use port_link::PortLimits;
-use ports::{Port, Ready};
+use ports::{Awaited, Port, Ready};
 use rx_base::{Conn, IoFault};
 use std::alloc::Global;
 use std::net::Net;
 use std::test::Fail;
-use tcp_edge::TcpPortEdge;
+use tcp_edge::{StopInput, TcpPortEdge};
 
 // A port that keeps which of its connections are open. A call that may not be made answers `Memory`.
 #[derive(Drop)]
@@ -50,7 +50,10 @@ impl<C: Port + Drop> Careful<C> {
     }
 
     fn wait(&mut self) -> Result<Ready, IoFault> {
-        self.port.wait(true)
+        self.port.wait(Awaited {
+            client: true,
+            stop: false,
+        })
     }
 
     fn accept(&mut self) -> Result<(), IoFault> {
@@ -131,6 +134,7 @@ fn event<C: Port + Drop>(alloc: Global, port: &mut Careful<C>) -> Result<String,
             let answer = port.take(conn, &mut buf);
             taken(alloc, conn, &buf, answer)
         }
+        Ok(Ready::Stops) => Ok(String::from_str(alloc, "stops ")?),
         Err(fault) => Ok(format!(in alloc; "wait {fault:?} ")?),
     }
 }
@@ -204,6 +208,11 @@ fn played<R: Net, C: Port + Drop>(
     Ok(text)
 }
 
+// Nobody asks for a stop.
+fn no_stop<R: Net>(_net: &R) -> Option<StopInput<R::Stream>> {
+    None
+}
+
 // For how many seconds it waits, what is done, and what comes of it.
 type Row = (u64, &'static [Step], &'static str);
 
@@ -268,7 +277,8 @@ fn a_port_serves_on_loopback(rt: HostRuntime) -> Result<(), Fail> {
     let alloc = rt.alloc();
     for (i, row) in ROWS.iter().enumerate() {
         let (patience, steps, wanted) = *row;
-        let seen = played(&rt, alloc, TcpPortEdge::make(&rt, alloc, patience), steps)?;
+        let port = TcpPortEdge::make(&rt, alloc, patience, no_stop(&rt));
+        let seen = played(&rt, alloc, port, steps)?;
         assert!(rt; seen.as_str() == wanted, "row {i}: {seen}");
     }
     Ok(())
@@ -298,16 +308,31 @@ fn served_in_turn<R: Net, C: Port + Drop>(
     ] {
         let _ = do_step(net, alloc, number, &mut clients, step)?;
     }
-    serve(alloc, port, PortLimits { conns: 2, at_once })
+    let limits = PortLimits {
+        conns: 2,
+        at_once,
+        stops: false,
+    };
+    serve(alloc, port, limits)
 }
 
 // One client after another is waited for without a look at the others, two at the same time with one. The silent one is let go by its patience.
 #[test]
 fn a_link_serves_on_loopback(rt: HostRuntime) -> Result<(), Fail> {
     let alloc = rt.alloc();
-    let seen = served_in_turn(&rt, alloc, TcpPortEdge::make(&rt, alloc, 1), 1)?;
+    let seen = served_in_turn(
+        &rt,
+        alloc,
+        TcpPortEdge::make(&rt, alloc, 1, no_stop(&rt)),
+        1,
+    )?;
     assert!(rt; seen.as_str() == "o0 p0:ab all c0 o1 c1 end ");
-    let seen = served_in_turn(&rt, alloc, TcpPortEdge::make(&rt, alloc, 1), 2)?;
+    let seen = served_in_turn(
+        &rt,
+        alloc,
+        TcpPortEdge::make(&rt, alloc, 1, no_stop(&rt)),
+        2,
+    )?;
     assert!(rt; seen.as_str() == "o0 o1 p0:ab all c0 c1 end ");
     Ok(())
 }

@@ -1,6 +1,6 @@
 -- What one call on a port, or none, makes of what a link over it tells.
 use Rattle.ports.specs.declared.port_calls.PortEntry.TheVariants as made
-use Rattle.port_link.proofs.Terms.{Bool, List, None, Option, Some, [], ap, append-nil, refl, subst, sym, ℕ, ◌++◌, ◌∙◌, ◌∷◌, ◌≡◌, none-some, same_Some, Entry, tells_more, Tells, PortEntry, Ready, Logs, Place, PortLimits, AreCalls, IsCall, Served, after_call, served_after, served_of, Agrees, IsAt, IsJustBound, IsWhole, WasReady, link_journal, told_at, WentOn, served_of-append}
+use Rattle.port_link.proofs.Terms.{Awaited, List, None, Option, Some, [], ap, append-nil, refl, subst, sym, ℕ, ◌++◌, ◌∙◌, ◌∷◌, ◌≡◌, none-some, same_Some, Entry, tells_more, Tells, PortEntry, Ready, Logs, Place, PortLimits, AreCalls, IsCall, Served, after_call, served_after, served_of, Agrees, IsAt, IsJustBound, IsWhole, WasReady, link_journal, told_at, WentOn, served_of-append}
 
 -- no call was made
 pub logs_same : (told : Option (List PortEntry)) → Logs told told []
@@ -19,11 +19,11 @@ just_bound None (Some new) served logs = absurd logs
 just_bound (Some old) (Some new) served logs = λ calls is. served_push old calls (made.Bound served) (sym (same_Some new calls is) ∙ logs)
 
 -- a wait answered
-pub ready_one : (old new : Option (List PortEntry)) (may : Bool) (ready : Ready) → Logs old new (made.Waited may ready ∷ []) → WasReady ready new
+pub ready_one : (old new : Option (List PortEntry)) (awaited : Awaited) (ready : Ready) → Logs old new (made.Waited awaited ready ∷ []) → WasReady ready new
 unfolding after_call
-ready_one old None may ready logs = λ calls is. absurd (none-some calls is)
-ready_one None (Some new) may ready logs = absurd logs
-ready_one (Some old) (Some new) may ready logs = λ calls is. ap (λ (served : Served). served.ready) (served_push old calls (made.Waited may ready) (sym (same_Some new calls is) ∙ logs))
+ready_one old None awaited ready logs = λ calls is. absurd (none-some calls is)
+ready_one None (Some new) awaited ready logs = absurd logs
+ready_one (Some old) (Some new) awaited ready logs = λ calls is. ap (λ (served : Served). served.ready) (served_push old calls (made.Waited awaited ready) (sym (same_Some new calls is) ∙ logs))
 
 pub served_kept : (old new : List PortEntry) → new ≡ old ++ [] → served_of new ≡ served_of old
 served_kept old new grew = ap served_of (grew ∙ append-nil old)

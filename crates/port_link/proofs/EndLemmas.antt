@@ -3,7 +3,7 @@ use Rattle.links.specs.declared.journal.Entry.TheVariants as entry
 use Rattle.links.specs.declared.journal.LinkEvent.TheVariants as event
 use Rattle.ports.specs.declared.port_calls.PortEntry.TheVariants as made
 use Rattle.ports.specs.declared.port_calls.FailedCall.TheVariants as call
-use Rattle.port_link.proofs.Terms.{Bool, List, Option, Some, [], ap, arith, false, if◌then◌else◌, length, nat_lt, refl, suc, sym, true, unwrap_or, zero, ℕ, ◌++◌, ◌<◌, ◌∙◌, ◌∷◌, ◌≡◌, Entry, LinkEvent, HasEnded, last_taken, PortEntry, Place, PortLimits, Stage, Broken, Closed, Dropped, Ended, Open, Unopened, Served, after_call, closed_entries, entries_of, fresh_served, gives_all, gives_part, served_after, served_of, takes_bytes, with_part, Stands, link_journal, with_ends}
+use Rattle.port_link.proofs.Terms.{Bool, List, Option, Some, [], ap, arith, false, if◌then◌else◌, length, nat_lt, refl, suc, sym, true, unwrap_or, zero, ℕ, ◌||◌, ◌++◌, ◌<◌, ◌==◌, ◌∙◌, ◌∷◌, ◌≡◌, Entry, LinkEvent, HasEnded, last_taken, PortEntry, Place, PortLimits, Stage, Broken, Closed, Dropped, Ended, Open, Unopened, IsAt, IsOver, Served, after_call, closed_entries, entries_of, fresh_served, gives_all, gives_part, served_after, served_of, takes_bytes, with_part, Stands, link_journal, with_ends}
 
 took_last : (entries : List Entry) (taken : LinkEvent) → last_taken (entries ++ entry.Took taken ∷ []) ≡ Some taken
 took_last [] taken = refl
@@ -57,7 +57,7 @@ gave_not false conn bytes served not = λ ended. not (sym (gave_last served.entr
 after_not : (served : Served) (next : PortEntry) → NotEnded served.entries → NotEnded (after_call served next).entries
 unfolding after_call
 after_not served (made.Bound number) not = λ ended. cc
-after_not served (made.Waited may_accept ready) not = not
+after_not served (made.Waited awaited ready) not = not
 after_not served (made.Accepted conn) not = took_opens (entries_of served) conn
 after_not served (made.Took conn bytes room) not = took_bytes conn bytes served
 after_not served (made.Gave conn bytes offered) not = gave_not (nat_lt (length bytes) offered) conn bytes served not
@@ -77,6 +77,13 @@ some_ends : (ends : ℕ) (entries : List Entry) → NotEnded entries → HasEnde
 some_ends zero entries not ended = absurd (not ended)
 some_ends (suc n) entries not ended = omega arith
 
+-- what is over where a link stands is over where its calls lead
+pub over_at : (limits : PortLimits) (place : Place) (served : Served) → IsAt place served → IsOver limits place.accepted place.closed place.stopped → IsOver limits served.accepted served.closed served.stopped
+over_at limits place served at over = (
+  at.closed ∙ over.0 ∙ sym at.accepted,
+  ap (λ (n : ℕ). (n == limits.conns) || served.stopped) at.accepted ∙ ap (λ (stopped : Bool). (place.accepted == limits.conns) || stopped) at.stopped ∙ over.1,
+)
+
 -- a link that has ended has answered its end
 pub ended_counts : (place : Place) (calls : List PortEntry) → HasEnded (link_journal place (served_of calls)) → 0 < place.ends
 unfolding link_journal served_of
@@ -84,9 +91,7 @@ ended_counts place calls ended =
     let served : Served = served_after fresh_served calls in
     some_ends place.ends (entries_of served) (with_last served.entries served.to served.part (calls_not fresh_served calls (λ none. cc))) ended
 
--- as many connections were accepted and closed as it has
+-- all connections that were accepted are closed, and no more are to come
 pub ended_whole : (told : Option (List PortEntry)) (connections : List Bool) (limits : PortLimits) (place : Place) (calls : List PortEntry) → Stands told connections limits place → told ≡ Some calls
-    → HasEnded (link_journal place (served_of calls)) → ((served_of calls).accepted ≡ limits.conns) × ((served_of calls).closed ≡ limits.conns)
-ended_whole told connections limits place calls stands is ended =
-    let last = stands.ended (ended_counts place calls ended) in
-    ((stands.agrees calls is).accepted ∙ last.0, (stands.agrees calls is).closed ∙ last.1 ∙ last.0)
+    → HasEnded (link_journal place (served_of calls)) → IsOver limits (served_of calls).accepted (served_of calls).closed (served_of calls).stopped
+ended_whole told connections limits place calls stands is ended = over_at limits place (served_of calls) (stands.agrees calls is) (stands.ended (ended_counts place calls ended))

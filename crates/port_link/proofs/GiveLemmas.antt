@@ -263,7 +263,7 @@ leads_went limits conn (Some old) (Some new) leads place gave agrees whole there
 
 part_at : (place : Place) (conn : ℕ) (front : List ℕ) (served : Served) → IsAt place served → IsAt place (gives_part conn front served)
 part_at place conn [] served at = at
-part_at place conn (byte ∷ front) served at = record { stages = at.stages; accepted = at.accepted; closed = at.closed }
+part_at place conn (byte ∷ front) served at = record { stages = at.stages; accepted = at.accepted; closed = at.closed; stopped = at.stopped }
 
 -- what it tells, where it stands and what calls it made
 module _ (limits : PortLimits) (conn : ℕ) (old new : Option (List PortEntry)) (place : Place) (bytes : List ℕ) where
@@ -292,18 +292,20 @@ module _ (limits : PortLimits) (conn : ℕ) (old new : Option (List PortEntry)) 
     stages = λ other. at.stages other ∙ sym (keeps_set shown place.stages conn (stage_behind (stage_at place conn) result) inside (ap shown is) other);
     accepted = at.accepted;
     closed = at.closed;
+    stopped = at.stopped;
   }
 
   agrees_given : (result : Result Given LinkFault) → GivesTo conn old new bytes result → conn < length place.stages → Agrees old place → Agrees new (given_place conn result place)
   agrees_given (Ok All) gave inside agrees =
       leads_agree conn old new (gives_all conn bytes) (given_place conn (Ok All) place) gave (λ calls is.
-      let at = still_at (Ok All) (served_of calls) inside refl (agrees calls is) in record { stages = at.stages; accepted = at.accepted; closed = at.closed })
+      let at = still_at (Ok All) (served_of calls) inside refl (agrees calls is) in record { stages = at.stages; accepted = at.accepted; closed = at.closed; stopped = at.stopped })
   agrees_given (Ok (Gone count)) gave inside agrees =
       leads_agree conn old new (gives_gone conn (take count bytes)) (given_place conn (Ok (Gone count)) place) gave.1 (λ calls is. record {
         stages = λ other. shown_set place.stages conn (broken (stage_at place conn)) (broken ((served_of calls).stages conn)) (served_of calls).stages inside
             (ap broken ((agrees calls is).stages conn) ∙ broken_shown (stage_at place conn)) (agrees calls is).stages other;
         accepted = (agrees calls is).accepted;
         closed = (agrees calls is).closed;
+        stopped = (agrees calls is).stopped;
       })
   agrees_given (Err Memory) gave inside agrees =
       leads_agree conn old new (gives_part conn gave.0) (given_place conn (Err Memory) place) gave.2 (λ calls is.

@@ -1,7 +1,7 @@
 -- What each call adds to the journal of a link, and what stages say of one another.
 use Rattle.links.specs.declared.journal.Entry.TheVariants as entry
 use Rattle.links.specs.declared.journal.LinkEvent.TheVariants as event
-use Rattle.port_link.proofs.Terms.{List, Option, [], add-one, ap, append-nil, arith, false, refl, suc, sym, true, zero, ℕ, ◌++◌, ◌+◌, ◌<◌, ◌∙◌, ◌∷◌, ◌≡◌, Entry, Ready, Place, Stage, Broken, Closed, Dropped, Ended, Open, Unopened, is_broken, is_done, is_present, shown, Served, closed_entries, closes, entries_of, is_closable, opens, takes_bytes, with_ready, link_journal, with_ends, closed_place, dropped_place, ended_place, opened_place, settled_place}
+use Rattle.port_link.proofs.Terms.{List, [], add-one, ap, append-nil, arith, false, refl, suc, sym, true, zero, ℕ, ◌++◌, ◌+◌, ◌<◌, ◌∙◌, ◌∷◌, ◌≡◌, Entry, Ready, Place, Stage, Broken, Closed, Dropped, Ended, Open, Unopened, is_broken, is_done, is_present, shown, Served, closed_entries, closes, entries_of, is_closable, opens, takes_bytes, with_ready, without_ready, link_journal, with_ends, closed_place, dropped_place, ended_place, opened_place, settled_place, waited_place}
 
 -- a link that isn't at its end hasn't answered it
 pub no_ends : (ends : ℕ) {A : Type 0} → (0 < ends → A) → (A → ⊥) → ends ≡ 0
@@ -12,9 +12,13 @@ more_in : (ends : ℕ) (entries more : List Entry) → ends ≡ 0 → with_ends 
 more_in ends entries more none = rw none refl
 
 -- what a wait answered is no part of it
-pub ready_journal : (place : Place) (served : Served) (ready : Option Ready) → link_journal place (with_ready ready served) ≡ link_journal place served
+pub ready_journal : (place : Place) (served : Served) (ready : Ready) → link_journal (waited_place ready place) (with_ready ready served) ≡ link_journal place served ++ []
 unfolding link_journal
-ready_journal place served ready = refl
+ready_journal place served ready = sym (append-nil _)
+
+pub unready_journal : (place : Place) (served : Served) → link_journal place (without_ready served) ≡ link_journal place served ++ []
+unfolding link_journal
+unready_journal place served = sym (append-nil _)
 
 -- an accept opens the next connection
 pub opened : (place : Place) (served : Served) → place.ends ≡ 0

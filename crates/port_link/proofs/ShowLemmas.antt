@@ -1,5 +1,5 @@
 -- What a link over a port shows, at first and behind a give.
-use Rattle.port_link.proofs.Terms.{Bool, Err, List, None, Ok, Option, Result, Some, [], ap, arith, inl, inr, length, refl, subst, sym, true, ℕ, ◌-◌, ◌<◌, ◌∙◌, ◌≡◌, ◌≤◌, fun_ext, cases_lt, get_or-replicate, get_or_past, length-replicate, IfErr, IsErrOf, replicate, ◌^◌, Rose, one_more, Given, All, Gone, LinkFault, Memory, WriteFault, told_by, ComesUntold, Counts, Handed, HasGiveCause, IsGone, Phases, TellsHanded, Told, Seen, PortEntry, Place, PortLimits, Stage, Unopened, gones_behind, is_done, is_given, is_present, phase_of, shown, stage_behind, stage_in, Served, IsAt, IsJustBound, IsWhole, Stands, gives_at, link_journal, phases_at, stage_at, told_at, given_place, told_nothing}
+use Rattle.port_link.proofs.Terms.{Bool, Err, List, None, Ok, Option, Result, Some, [], ap, arith, false, inl, inr, length, refl, subst, sym, true, ℕ, ◌-◌, ◌<◌, ◌∙◌, ◌≡◌, ◌≤◌, fun_ext, cases_lt, get_or-replicate, get_or_past, length-replicate, IfErr, IsErrOf, replicate, ◌^◌, Rose, one_more, Given, All, Gone, LinkFault, Memory, WriteFault, told_by, ComesUntold, Counts, Handed, HasGiveCause, IsGone, Phases, TellsHanded, Told, Seen, PortEntry, Place, PortLimits, Stage, Unopened, gones_behind, is_done, is_given, is_present, phase_of, shown, stage_behind, stage_in, Served, IsAt, IsJustBound, IsWhole, Stands, gives_at, link_journal, phases_at, stage_at, told_at, given_place, told_nothing}
 use Rattle.port_link.proofs.GiveLemmas.{given_gives, given_phase}
 use Rattle.port_link.proofs.PlaceLemmas.{closes_to, keeps_set}
 use Rattle.port_link.specs.declared.place.Closing.TheVariants as closing
@@ -11,7 +11,7 @@ none_yet n conn = elim (cases_lt conn n) [
 ]
 
 abbrev pub first_place : List Stage → Place
-first_place stages = record { stages = stages; accepted = 0; closed = 0; closing = closing.Nothing; ends = 0 }
+first_place stages = record { stages = stages; accepted = 0; closed = 0; closing = closing.Nothing; ends = 0; stopped = false }
 
 -- nothing was told yet over a port that was just bound
 pub fresh_told : (told : Option (List PortEntry)) (stages : List Stage) → IsJustBound told → told_at told (first_place stages) ≡ told_nothing told
@@ -23,7 +23,7 @@ pub fresh_stands : (told : Option (List PortEntry)) (connections : List Bool) (l
 fresh_stands told connections limits stages bound none at size =
     subst (λ (c : List Bool). Stands told c limits (first_place stages)) (sym none)
     (record {
-      agrees = λ calls is. subst (IsAt (first_place stages)) (sym (bound calls is)) (record { stages = λ conn. sym (ap shown (at conn)); accepted = refl; closed = refl });
+      agrees = λ calls is. subst (IsAt (first_place stages)) (sym (bound calls is)) (record { stages = λ conn. sym (ap shown (at conn)); accepted = refl; closed = refl; stopped = refl });
       room = size;
       present = λ conn. sym (ap is_present (at conn));
       accepted = refl;

@@ -6,11 +6,11 @@ use Rattle.links.specs.Links as links
 use Rattle.links.specs.declared.journal.Entry.TheVariants as entry
 use Rattle.links.specs.declared.journal.LinkEvent.TheVariants as event
 use Rattle.rx_base.specs.declared.fault.IoFault.TheVariants as io
-use Rattle.port_link.proofs.Terms.{Bool, Err, List, None, Ok, Option, Result, Some, [], ap, arith, false, inl, inr, length, nat_lt, refl, subst, sym, true, ℕ, ◌&&◌, ◌++◌, ◌+◌, ◌<◌, ◌∙◌, ◌∷◌, ◌≡◌, ◌≢◌, ◌≤◌, ◌⊎◌, fun_ext, and_parts, cases_lt, ltb-true, length-append, length-set, IsErrOf, slice_set, IoFault, HasCause, LinkEvent, LinkFault, Memory, ReadFault, Refused, WriteFault, ComesUntold, Enters, GoesBy, Phases, PortEntry, Ready, Accepts, Reads, Logs, PortAccepts, PortWaits, open_fewer, open_more, open_within, is_open, open_count, without, Closing, Place, PortLimits, Stage, Closed, Dropped, Ended, Open, Unopened, is_broken, is_done, is_given, is_present, phase_of, shown, stage_in, IsCall, Served, after_call, can_accept, is_closable, served_of, takes_bytes, with_ready, IsAt, IsClosing, IsWhole, Stands, WasReady, link_journal, phases_at, stage_at, told_at, HasOpenCause, IsTake, NextAt, Settles, TakesNext, TakesPiece, WaitsAt, WentOn, closed_place, dropped_place, ended_place, opened_place, read_fault_of, settled_place, taken, calls_on, calls_same}
+use Rattle.port_link.proofs.Terms.{Bool, Err, List, None, Ok, Option, Result, Some, [], ap, arith, false, inl, inr, length, nat_lt, not, refl, subst, sym, true, ℕ, ◌&&◌, ◌||◌, ◌++◌, ◌+◌, ◌<◌, ◌==◌, ◌∙◌, ◌∷◌, ◌≡◌, ◌≢◌, ◌≤◌, ◌⊎◌, fun_ext, and_parts, and_right, cases_lt, eq-eqb, eqb-false, eqb-true, lt-ltb, ltb-true, or_cases, or_left, or_right, length-append, length-set, IsErrOf, slice_set, IoFault, HasCause, LinkEvent, LinkFault, Memory, ReadFault, Refused, WriteFault, ComesUntold, Enters, GoesBy, Phases, Awaited, PortEntry, Ready, Accepts, Reads, Stops, IsReady, Logs, PortAccepts, PortWaits, open_fewer, open_more, open_within, is_open, open_count, without, Closing, Place, PortLimits, Stage, Closed, Dropped, Ended, Open, Unopened, is_broken, is_done, is_given, is_present, phase_of, shown, stage_in, IsCall, IsOver, Served, StopsAwaited, after_call, awaited_of, can_accept, is_closable, is_stop, served_of, takes_bytes, with_ready, without_ready, IsAt, IsClosing, IsWhole, Stands, WasReady, link_journal, phases_at, stage_at, told_at, AnswersEnd, HasOpenCause, IsTake, NextAt, Settles, TakesNext, TakesPiece, WaitsAt, WentOn, closed_place, dropped_place, ended_place, opened_place, read_fault_of, settled_place, taken, waited_place, calls_on, calls_same}
 use Rattle.port_link.specs.declared.place.Closing.TheVariants as closing
-use Rattle.port_link.specs.Taking.{NoneBroken, may_accept}
+use Rattle.port_link.specs.Taking.{NoneBroken, awaited_at, is_over, may_accept}
 use Rattle.port_link.proofs.CallLemmas.{logs_same, went_one, went_none, agrees_one, agrees_none, whole_one, whole_none, tells_one, tells_none}
-use Rattle.port_link.proofs.JournalLemmas.{no_ends, opened, took, ended, dropped, ended_more, ready_journal, same_journal, settled, closed, none_closable, broken_is}
+use Rattle.port_link.proofs.JournalLemmas.{no_ends, opened, took, ended, dropped, ended_more, ready_journal, same_journal, unready_journal, settled, closed, none_closable, broken_is}
 use Rattle.port_link.proofs.PlaceLemmas.{Closes, closes_to, stage_set, shown_set, keeps_set, all_set, present_opened, present_closed, same_if, other_if, commute}
 
 failed_by : {T U : Type 0} (fault : IoFault) (answer : LinkFault) → answer ≡ read_fault_of fault → IsErrOf {T = T} (Err answer) ReadFault → IsErrOf {T = U} (Err fault) io.Failed
@@ -47,6 +47,67 @@ none_done before stages is there = there.nothing is
 to_nothing : (before : Closing) (stages : List Stage) → before ≡ closing.Nothing → ((conn : ℕ) → is_done (stage_in stages conn) ≡ false) → IsClosing before stages
 to_nothing before stages is none = closes_to before stages (subst (λ (c : Closing). Closes c stages) (sym is) none)
 
+-- what was over is so behind a stop
+over_still : (limits : PortLimits) (accepted closed : ℕ) (more stopped : Bool) → IsOver limits accepted closed stopped → IsOver limits accepted closed (more || stopped)
+over_still limits accepted closed more stopped over = (
+  over.0,
+  elim (or_cases (accepted == limits.conns) stopped over.1) [
+    | inl last ↦ or_left (accepted == limits.conns) (more || stopped) last
+    | inr stop ↦ or_right (accepted == limits.conns) (more || stopped) (or_right more stopped stop)
+  ],
+)
+
+over_is : (limits : PortLimits) (place : Place) → is_over limits place ≡ true → IsOver limits place.accepted place.closed place.stopped
+over_is limits place is =
+    let parts = and_parts (place.closed == place.accepted) ((place.accepted == limits.conns) || place.stopped) is in
+    (eqb-true place.closed place.accepted parts.0, parts.1)
+
+-- where a client may be accepted nothing is over
+may_not_over : (limits : PortLimits) (place : Place) → may_accept limits place ≡ true → IsOver limits place.accepted place.closed place.stopped → ⊥
+may_not_over limits place may over =
+    let parts = and_parts (not place.stopped) (nat_lt place.accepted limits.conns && nat_lt place.accepted (place.closed + limits.at_once)) may in
+    let less : place.accepted < limits.conns = ltb-true place.accepted limits.conns (and_parts _ _ parts.1).0 in
+    elim (or_cases (place.accepted == limits.conns) place.stopped over.1) [
+      | inl last ↦ (let same = eqb-true place.accepted limits.conns last in let no : ⊥ = omega (arith, less, same) in no)
+      | inr stop ↦ (let no : not true ≡ true = subst (λ (stopped : Bool). not stopped ≡ true) stop parts.0 in cc)
+    ]
+
+-- where it isn't over and no client may be accepted, a connection is open
+open_by : (same last stopped less room : Bool) → (same && (last || stopped)) ≡ false → (last ≡ false → less ≡ true) → room ≡ true → (not stopped && (less && room)) ≡ false → same ≡ true → ⊥
+open_by false last stopped less room over is_less is_room may is = cc
+open_by true true stopped less room over is_less is_room may is = cc
+open_by true false true less room over is_less is_room may is = cc
+open_by true false false false room over is_less is_room may is = (let no : false ≡ true = is_less refl in cc)
+open_by true false false true false over is_less is_room may is = cc
+open_by true false false true true over is_less is_room may is = cc
+
+not_over_open : (limits : PortLimits) (place : Place) → is_over limits place ≡ false → 1 ≤ limits.at_once → place.accepted ≤ limits.conns → place.closed ≤ place.accepted → may_accept limits place ≡ false → place.closed < place.accepted
+not_over_open limits place over some most behind may = elim (cases_lt place.closed place.accepted) [
+  | inl less ↦ less
+  | inr past ↦ absurd (all_closed (omega arith))
+]
+  where
+    all_closed : place.closed ≡ place.accepted → ⊥
+    all_closed same =
+        open_by (place.closed == place.accepted) (place.accepted == limits.conns) place.stopped (nat_lt place.accepted limits.conns) (nat_lt place.accepted (place.closed + limits.at_once)) over
+        (λ no. let other = eqb-false place.accepted limits.conns no in lt-ltb place.accepted limits.conns (below (cases_lt place.accepted limits.conns) other))
+        (lt-ltb place.accepted (place.closed + limits.at_once) (omega (arith, same, some))) may (eq-eqb place.closed place.accepted same)
+      where
+        below : (place.accepted < limits.conns) ⊎ (limits.conns ≤ place.accepted) → place.accepted ≢ limits.conns → place.accepted < limits.conns
+        below (inl less) other = less
+        below (inr past) other = absurd (other (omega (arith, past, most)))
+
+-- a stop was awaited where it was answered
+stops_awaited : (awaited : Awaited) (connections : List Bool) (ready : Ready) → IsReady awaited connections ready → StopsAwaited awaited ready
+stops_awaited awaited connections Accepts is = tt
+stops_awaited awaited connections (Reads conn) is = tt
+stops_awaited awaited connections Stops is = is
+
+-- behind a stop neither a client nor a stop is awaited
+pub none_awaited : (limits : PortLimits) (place : Place) → place.stopped ≡ true → ((awaited_at limits place).client ≡ false) × ((awaited_at limits place).stop ≡ false)
+none_awaited limits place stopped =
+    (ap (λ (is : Bool). not is && (nat_lt place.accepted limits.conns && nat_lt place.accepted (place.closed + limits.at_once))) stopped, and_right limits.stops (not place.stopped) (ap not stopped))
+
 module _ (limits : PortLimits) (old new : Option (List PortEntry)) (connections : List Bool) (place : Place) (stands : Stands old connections limits place) where
   pub present_less : (conn : ℕ) → is_present (stage_at place conn) ≡ true → conn < place.accepted
   present_less conn there = let less = open_within connections conn (stands.present conn ∙ there) in let same = stands.accepted in omega arith
@@ -59,7 +120,7 @@ module _ (limits : PortLimits) (old new : Option (List PortEntry)) (connections 
   not_ended conn there =
       let fewer = open_fewer connections conn (stands.present conn ∙ there) in
       let count = stands.count in
-      no_ends place.ends stands.ended (λ all. let one = all.1 in let no : ⊥ = omega arith in no)
+      no_ends place.ends stands.ended (λ all. let one = all.0 in let no : ⊥ = omega arith in no)
 
   pub closed_less : (conn : ℕ) → is_present (stage_at place conn) ≡ true → place.closed < place.accepted
   closed_less conn there = let fewer = open_fewer connections conn (stands.present conn ∙ there) in let count = stands.count in omega arith
@@ -70,13 +131,17 @@ module _ (limits : PortLimits) (old new : Option (List PortEntry)) (connections 
   pub ready_within : (conn : ℕ) → limits.conns ≤ 4096 → is_open conn connections ≡ true → conn < 4096
   ready_within conn few here = let less = open_within connections conn here in let same = stands.accepted in let most = stands.most in omega arith
 
-  pub some_open : place.closed < place.accepted → 0 < open_count connections
+  some_open : place.closed < place.accepted → 0 < open_count connections
   some_open less = let count = stands.count in omega arith
+
+  -- so a wait has something to wait for
+  pub awaits_some : is_over limits place ≡ false → 1 ≤ limits.at_once → may_accept limits place ≡ false → 0 < open_count connections
+  awaits_some over some may = some_open (not_over_open limits place over some stands.most (let count = stands.count in omega arith) may)
 
   same_next : (fault : LinkFault) → GoesBy (Some ComesUntold) (Err fault) → NextAt place place (Err fault)
   same_next fault goes = record { order = λ other. refl; grammar = goes; closing = tt }
 
-  pub stays_waits : Logs old new [] → WaitsAt limits old new connections place
+  pub stays_waits : Logs old new [] → WaitsAt limits old new connections place place
   stays_waits logs = record {
     stands = record {
       agrees = agrees_none old new place place logs (λ served at. at) stands.agrees;
@@ -97,15 +162,12 @@ module _ (limits : PortLimits) (old new : Option (List PortEntry)) (connections 
     whole = whole_none old new logs;
   }
 
-  at_ready : (ready : Option Ready) (served : Served) → IsAt place served → IsAt place (with_ready ready served)
-  at_ready ready served at = record { stages = at.stages; accepted = at.accepted; closed = at.closed }
-
-  -- a call was made that changes nothing but what was answered to a wait
-  pub still_waits : (made_call : PortEntry) (ready : Option Ready) → Logs old new (made_call ∷ []) → ((served : Served) → after_call served made_call ≡ with_ready ready served) → ((calls : List PortEntry) → old ≡ Some calls → IsCall limits (served_of calls) made_call)
-      → WaitsAt limits old new connections place
-  still_waits made_call ready logs same is = record {
+  -- a wait or an accept failed
+  pub unready_waits : (made_call : PortEntry) → Logs old new (made_call ∷ []) → ((served : Served) → after_call served made_call ≡ without_ready served) → ((calls : List PortEntry) → old ≡ Some calls → IsCall limits (served_of calls) made_call)
+      → WaitsAt limits old new connections place place
+  unready_waits made_call logs same is = record {
     stands = record {
-      agrees = agrees_one old new made_call place logs (λ calls told. subst (IsAt place) (sym (same (served_of calls))) (at_ready ready (served_of calls) (stands.agrees calls told)));
+      agrees = agrees_one old new made_call place logs (λ calls told. subst (IsAt place) (sym (same (served_of calls))) (at_unready (served_of calls) (stands.agrees calls told)));
       room = stands.room;
       present = stands.present;
       accepted = stands.accepted;
@@ -117,14 +179,44 @@ module _ (limits : PortLimits) (old new : Option (List PortEntry)) (connections 
       ended = stands.ended;
     };
     steps = record {
-      told = tells_one old new made_call place place [] logs (λ calls told. ap (link_journal place) (same (served_of calls)) ∙ ready_journal place (served_of calls) ready ∙ same_journal place (served_of calls));
+      told = tells_one old new made_call place place [] logs (λ calls told. ap (link_journal place) (same (served_of calls)) ∙ unready_journal place (served_of calls));
       went = went_one limits old new made_call logs is;
     };
     whole = whole_one old new made_call logs (λ served none. ap (λ (s : Served). s.part) (same served) ∙ none);
   }
+    where
+      at_unready : (served : Served) → IsAt place served → IsAt place (without_ready served)
+      at_unready served at = record { stages = at.stages; accepted = at.accepted; closed = at.closed; stopped = at.stopped }
+
+  -- a wait answered
+  pub ready_waits : (awaited : Awaited) (ready : Ready) → Logs old new (made.Waited awaited ready ∷ []) → ((calls : List PortEntry) → old ≡ Some calls → IsCall limits (served_of calls) (made.Waited awaited ready))
+      → WaitsAt limits old new connections place (waited_place ready place)
+  unfolding after_call
+  ready_waits awaited ready logs is = record {
+    stands = record {
+      agrees = agrees_one old new (made.Waited awaited ready) (waited_place ready place) logs (λ calls told. at_ready (served_of calls) (stands.agrees calls told));
+      room = stands.room;
+      present = stands.present;
+      accepted = stands.accepted;
+      count = stands.count;
+      behind = stands.behind;
+      closing = stands.closing;
+      most = stands.most;
+      at_once = stands.at_once;
+      ended = λ more. over_still limits place.accepted place.closed (is_stop ready) place.stopped (stands.ended more);
+    };
+    steps = record {
+      told = tells_one old new (made.Waited awaited ready) place (waited_place ready place) [] logs (λ calls told. ready_journal place (served_of calls) ready);
+      went = went_one limits old new (made.Waited awaited ready) logs is;
+    };
+    whole = whole_one old new (made.Waited awaited ready) logs (λ served none. none);
+  }
+    where
+      at_ready : (served : Served) → IsAt place served → IsAt (waited_place ready place) (with_ready ready served)
+      at_ready served at = record { stages = at.stages; accepted = at.accepted; closed = at.closed; stopped = ap (λ (stopped : Bool). is_stop ready || stopped) at.stopped }
 
   -- so is none where memory ran out
-  pub fails_takes : (fault : LinkFault) → GoesBy (Some ComesUntold) (Err fault) → WaitsAt limits old new connections place → TakesNext limits old new connections place place (Err fault)
+  pub fails_takes : (fault : LinkFault) → GoesBy (Some ComesUntold) (Err fault) → WaitsAt limits old new connections place place → TakesNext limits old new connections place place (Err fault)
   fails_takes fault goes waits = record { stands = waits.stands; steps = waits.steps; whole = waits.whole; next = same_next fault goes }
 
   -- where none is to be closed
@@ -134,32 +226,42 @@ module _ (limits : PortLimits) (old new : Option (List PortEntry)) (connections 
 
   same_may : (served : Served) → IsAt place served → may_accept limits place ≡ can_accept limits served
   same_may served at =
-      ap (λ accepted. nat_lt accepted limits.conns && nat_lt accepted (place.closed + limits.at_once)) (sym at.accepted)
-      ∙ ap (λ closed. nat_lt served.accepted limits.conns && nat_lt served.accepted (closed + limits.at_once)) (sym at.closed)
+      ap (λ stopped. not stopped && (nat_lt place.accepted limits.conns && nat_lt place.accepted (place.closed + limits.at_once))) (sym at.stopped)
+      ∙ ap (λ accepted. not served.stopped && (nat_lt accepted limits.conns && nat_lt accepted (place.closed + limits.at_once))) (sym at.accepted)
+      ∙ ap (λ closed. not served.stopped && (nat_lt served.accepted limits.conns && nat_lt served.accepted (closed + limits.at_once))) (sym at.closed)
+
+  same_awaited : (served : Served) → IsAt place served → awaited_at limits place ≡ awaited_of limits served
+  same_awaited served at =
+      ap (λ (client : Bool). let made_of : Awaited = record { client = client; stop = limits.stops && not place.stopped } in made_of) (same_may served at)
+      ∙ ap (λ (stopped : Bool). let made_of : Awaited = record { client = can_accept limits served; stop = limits.stops && not stopped } in made_of) (sym at.stopped)
 
   may_be : may_accept limits place ≡ true → (served : Served) → IsAt place served → can_accept limits served ≡ true
   may_be may served at = sym (same_may served at) ∙ may
 
-  pub wait_waits : (may : Bool) (result : Result Ready IoFault) → PortWaits old new may result → place.closing ≡ closing.Nothing → NoneBroken place → may ≡ may_accept limits place → WaitsAt limits old new connections place
+  is_wait : place.closing ≡ closing.Nothing → NoneBroken place → (ready : Ready) → IsReady (awaited_at limits place) connections ready → (calls : List PortEntry) → old ≡ Some calls → IsCall limits (served_of calls) (made.Waited (awaited_at limits place) ready)
+  is_wait nothing none ready is calls told =
+      (λ conn. has_closed nothing none (served_of calls) (stands.agrees calls told) conn, same_awaited (served_of calls) (stands.agrees calls told), stops_awaited (awaited_at limits place) connections ready is)
+
+  pub wait_waits : (ready : Ready) → PortWaits old new (awaited_at limits place) (Ok ready) → place.closing ≡ closing.Nothing → NoneBroken place → IsReady (awaited_at limits place) connections ready → WaitsAt limits old new connections place (waited_place ready place)
+  wait_waits ready logs nothing none is = ready_waits (awaited_at limits place) ready logs (is_wait nothing none ready is)
+
+  pub wait_stays : (fault : IoFault) → PortWaits old new (awaited_at limits place) (Err fault) → place.closing ≡ closing.Nothing → NoneBroken place → WaitsAt limits old new connections place place
   unfolding after_call
-  wait_waits may (Ok ready) logs nothing none is =
-      still_waits (made.Waited may ready) (Some ready) logs (λ served. refl)
-      (λ calls told. ((λ conn. has_closed nothing none (served_of calls) (stands.agrees calls told) conn), is ∙ same_may (served_of calls) (stands.agrees calls told)))
-  wait_waits may (Err io.Failed) logs nothing none is = still_waits (made.Failed call.Wait) None logs (λ served. refl) (λ calls told conn. has_closed nothing none (served_of calls) (stands.agrees calls told) conn)
-  wait_waits may (Err io.Memory) logs nothing none is = stays_waits logs
+  wait_stays io.Failed logs nothing none = unready_waits (made.Failed call.Wait) logs (λ served. refl) (λ calls told conn. has_closed nothing none (served_of calls) (stands.agrees calls told) conn)
+  wait_stays io.Memory logs nothing none = stays_waits logs
 
   -- a client was accepted
   pub open_takes : (now : List Bool) → Logs old new (made.Accepted (length connections) ∷ []) → now ≡ connections ++ true ∷ [] → may_accept limits place ≡ true → WasReady Accepts old → limits.conns ≤ 4096 → place.closing ≡ closing.Nothing
       → TakesNext limits old new now place (opened_place place) (Ok (event.Opens place.accepted))
   unfolding after_call
   open_takes now told is may was few nothing =
-      let parts = and_parts _ _ may in
+      let parts = and_parts (nat_lt place.accepted limits.conns) (nat_lt place.accepted (place.closed + limits.at_once)) (and_parts (not place.stopped) (nat_lt place.accepted limits.conns && nat_lt place.accepted (place.closed + limits.at_once)) may).1 in
       let less : place.accepted < limits.conns = ltb-true place.accepted limits.conns parts.0 in
       let fewer : place.accepted < place.closed + limits.at_once = ltb-true place.accepted (place.closed + limits.at_once) parts.1 in
       let room = stands.room in
       let inside : place.accepted < length place.stages = omega arith in
       let logs : Logs old new (made.Accepted place.accepted ∷ []) = subst (λ (n : ℕ). Logs old new (made.Accepted n ∷ [])) stands.accepted told in
-      let none : place.ends ≡ 0 = no_ends place.ends stands.ended (λ all. let one = all.0 in let no : ⊥ = omega arith in no) in
+      let none : place.ends ≡ 0 = no_ends place.ends stands.ended (may_not_over limits place may) in
       let fresh : stage_at place place.accepted ≡ Unopened = stands.behind place.accepted (omega arith) in
       subst (λ (c : List Bool). TakesNext limits old new c place (opened_place place) (Ok (event.Opens place.accepted))) (sym is)
       (record {
@@ -168,6 +270,7 @@ module _ (limits : PortLimits) (old new : Option (List PortEntry)) (connections 
             stages = λ other. shown_set place.stages place.accepted Open Open (served_of calls).stages inside refl (stands.agrees calls is_told).stages other;
             accepted = ap (λ (n : ℕ). n + 1) (stands.agrees calls is_told).accepted;
             closed = (stands.agrees calls is_told).closed;
+            stopped = (stands.agrees calls is_told).stopped;
           });
           room = length-set place.stages place.accepted Open ∙ stands.room;
           present = present_opened connections place.stages place.accepted inside stands.accepted stands.present;
@@ -196,7 +299,7 @@ module _ (limits : PortLimits) (old new : Option (List PortEntry)) (connections 
   unfolding after_call
   open_fails io.Memory answer is logs may was = subst (λ (a : LinkFault). TakesNext limits old new connections place place (Err a)) (sym is) (fails_takes Memory tt (stays_waits logs))
   open_fails io.Failed answer is logs may was = subst (λ (a : LinkFault). TakesNext limits old new connections place place (Err a)) (sym is)
-      (fails_takes ReadFault tt (still_waits (made.Failed call.Accept) None logs (λ served. refl) (λ calls told. (may_be may (served_of calls) (stands.agrees calls told), was calls told))))
+      (fails_takes ReadFault tt (unready_waits (made.Failed call.Accept) logs (λ served. refl) (λ calls told. (may_be may (served_of calls) (stands.agrees calls told), was calls told))))
 
   -- a piece was taken, or the end of them
   take_call : (conn : ℕ) (bytes : List ℕ) (made_call : PortEntry) (served : Served) → IsTake conn bytes made_call → after_call served made_call ≡ takes_bytes conn bytes served
@@ -237,6 +340,9 @@ module _ (limits : PortLimits) (old new : Option (List PortEntry)) (connections 
   take_went conn bytes made_call is logs is_open_now was =
       went_one limits old new made_call logs (λ calls told. take_is conn bytes made_call (served_of calls) is ((stands.agrees calls told).stages conn ∙ ap shown is_open_now) (was calls told))
 
+  same_at : (conn byte : ℕ) (bytes : List ℕ) (served : Served) → IsAt place served → IsAt place (takes_bytes conn (byte ∷ bytes) served)
+  same_at conn byte bytes served at = record { stages = at.stages; accepted = at.accepted; closed = at.closed; stopped = at.stopped }
+
   pub piece_takes : (conn : ℕ) (items : List ℕ) (made_call : PortEntry) → IsTake conn items made_call → Logs old new (made_call ∷ []) → 0 < length items → stage_at place conn ≡ Open → WasReady (Reads conn) old → limits.conns ≤ 4096
       → TakesNext limits old new connections place place (Ok (event.Piece conn items))
   piece_takes conn [] made_call is logs some is_open_now was few = absurd (omega arith)
@@ -247,7 +353,7 @@ module _ (limits : PortLimits) (old new : Option (List PortEntry)) (connections 
       record {
         stands = record {
           agrees = agrees_one old new made_call place logs (λ calls told. subst (IsAt place) (sym (take_call conn (byte ∷ bytes) made_call (served_of calls) is))
-              (record { stages = (stands.agrees calls told).stages; accepted = (stands.agrees calls told).accepted; closed = (stands.agrees calls told).closed }));
+              (same_at conn byte bytes (served_of calls) (stands.agrees calls told)));
           room = stands.room;
           present = stands.present;
           accepted = stands.accepted;
@@ -287,6 +393,7 @@ module _ (limits : PortLimits) (old new : Option (List PortEntry)) (connections 
             stages = λ other. shown_set place.stages conn Ended Ended (served_of calls).stages inside refl (stands.agrees calls told).stages other;
             accepted = (stands.agrees calls told).accepted;
             closed = (stands.agrees calls told).closed;
+            stopped = (stands.agrees calls told).stopped;
           }));
           room = length-set place.stages conn Ended ∙ stands.room;
           present = λ other. stands.present other ∙ sym (keeps_set is_present place.stages conn Ended inside (sym there) other);
@@ -333,6 +440,7 @@ module _ (limits : PortLimits) (old new : Option (List PortEntry)) (connections 
           stages = λ other. shown_set place.stages conn stage Closed (served_of calls).stages inside (sym is_shown) (stands.agrees calls told).stages other;
           accepted = (stands.agrees calls told).accepted;
           closed = ap (λ (n : ℕ). n + 1) (stands.agrees calls told).closed;
+          stopped = (stands.agrees calls told).stopped;
         });
         room = length-set place.stages conn stage ∙ stands.room;
         present = present_closed connections place.stages conn stage inside (stands.present conn ∙ there) gone stands.present;
@@ -412,13 +520,11 @@ module _ (limits : PortLimits) (old new : Option (List PortEntry)) (connections 
 
 -- without a call on the port
 module _ (limits : PortLimits) (told : Option (List PortEntry)) (connections : List Bool) (place : Place) (stands : Stands told connections limits place) where
-  pub end_takes_none : place.closed ≡ limits.conns → TakesNext limits told told connections place (record place { ends = place.ends + 1 }) (Ok event.Ends)
-  end_takes_none all =
-      let count = stands.count in
-      let most = stands.most in
+  end_takes_none : is_over limits place ≡ true → TakesNext limits told told connections place (record place { ends = place.ends + 1 }) (Ok event.Ends)
+  end_takes_none over =
       record {
         stands = record {
-          agrees = λ calls is. record { stages = (stands.agrees calls is).stages; accepted = (stands.agrees calls is).accepted; closed = (stands.agrees calls is).closed };
+          agrees = λ calls is. record { stages = (stands.agrees calls is).stages; accepted = (stands.agrees calls is).accepted; closed = (stands.agrees calls is).closed; stopped = (stands.agrees calls is).stopped };
           room = stands.room;
           present = stands.present;
           accepted = stands.accepted;
@@ -427,7 +533,7 @@ module _ (limits : PortLimits) (told : Option (List PortEntry)) (connections : L
           closing = stands.closing;
           most = stands.most;
           at_once = stands.at_once;
-          ended = λ more. (omega arith, omega arith);
+          ended = λ more. over_is limits place over;
         };
         steps = record {
           told = tells_none told told place (record place { ends = place.ends + 1 }) (entry.Took event.Ends ∷ []) (logs_same told) (λ calls is. ended_more place (served_of calls));
@@ -437,8 +543,17 @@ module _ (limits : PortLimits) (told : Option (List PortEntry)) (connections : L
         next = record { order = (tt, λ other. refl); grammar = untold event.Ends; closing = tt };
       }
 
-  pub memory_takes : TakesNext limits told told connections place place (Err Memory)
+  memory_takes : TakesNext limits told told connections place place (Err Memory)
   memory_takes = fails_takes limits told told connections place stands Memory tt (stays_waits limits told told connections place stands (logs_same told))
+
+  -- the end, or none where memory ran out
+  pub answered_takes : (later : Place) (result : Result LinkEvent LinkFault) → is_over limits place ≡ true → AnswersEnd place later result → TakesNext limits told told connections place later result
+  answered_takes later (Ok answered) over answers =
+      subst (λ (p : Place). TakesNext limits told told connections place p (Ok answered)) (sym answers.1)
+      (subst (λ (e : LinkEvent). TakesNext limits told told connections place (record place { ends = place.ends + 1 }) (Ok e)) (sym answers.0) (end_takes_none over))
+  answered_takes later (Err fault) over answers =
+      subst (λ (p : Place). TakesNext limits told told connections place p (Err fault)) (sym answers.1)
+      (subst (λ (f : LinkFault). TakesNext limits told told connections place place (Err f)) (sym answers.0) memory_takes)
 
   pub nothing_settles : place.closing ≡ closing.Nothing → Settles limits told told connections place place
   nothing_settles is =
@@ -465,6 +580,7 @@ module _ (limits : PortLimits) (told : Option (List PortEntry)) (connections : L
             stages = λ other. (stands.agrees calls is_told).stages other ∙ sym (keeps_set shown place.stages conn Closed inside (sym (ap shown there.0)) other);
             accepted = (stands.agrees calls is_told).accepted;
             closed = (stands.agrees calls is_told).closed;
+            stopped = (stands.agrees calls is_told).stopped;
           };
           room = length-set place.stages conn Closed ∙ stands.room;
           present = λ other. stands.present other ∙ sym (keeps_set is_present place.stages conn Closed inside (sym (ap is_present there.0)) other);
@@ -504,22 +620,28 @@ settle_then limits old mid new between now place mid_place later result settles 
 }
 
 -- a wait, and then the event that it told
-pub wait_then : (limits : PortLimits) (old mid new : Option (List PortEntry)) (between now : List Bool) (place later : Place) (result : Result LinkEvent LinkFault) → WaitsAt limits old mid between place
-    → TakesNext limits mid new now place later result → TakesNext limits old new now place later result
-wait_then limits old mid new between now place later result waits takes = record {
+pub wait_then : (limits : PortLimits) (old mid new : Option (List PortEntry)) (between now : List Bool) (place : Place) (ready : Ready) (mid_place later : Place) (result : Result LinkEvent LinkFault) → mid_place ≡ waited_place ready place
+    → WaitsAt limits old mid between place mid_place → TakesNext limits mid new now mid_place later result → TakesNext limits old new now place later result
+wait_then limits old mid new between now place ready mid_place later result is waits takes = record {
   stands = takes.stands;
   steps = record {
-    told = tells_then (told_at old place) (told_at mid place) (told_at new later) [] (taken result) waits.steps.told takes.steps.told;
+    told = tells_then (told_at old place) (told_at mid mid_place) (told_at new later) [] (taken result) waits.steps.told takes.steps.told;
     went = calls_on limits old mid new waits.steps.went takes.steps.went;
   };
-  whole = λ is. takes.whole (waits.whole is);
-  next = takes.next;
+  whole = λ is_whole. takes.whole (waits.whole is_whole);
+  next = from_place (subst (λ (p : Place). NextAt p later result) is takes.next);
 }
+  where
+    from_place : NextAt (waited_place ready place) later result → NextAt place later result
+    from_place next = record { order = next.order; grammar = next.grammar; closing = next.closing }
 
 -- a wait that failed
-pub wait_fails : (limits : PortLimits) (old new : Option (List PortEntry)) (now : List Bool) (place : Place) (fault : LinkFault) → GoesBy (Some ComesUntold) (Err fault) → WaitsAt limits old new now place → TakesNext limits old new now place place (Err fault)
-wait_fails limits old new now place fault goes waits =
-    record { stands = waits.stands; steps = waits.steps; whole = waits.whole; next = record { order = λ other. refl; grammar = goes; closing = tt } }
+pub wait_fails : (limits : PortLimits) (old new : Option (List PortEntry)) (now : List Bool) (place later : Place) (fault : LinkFault) → GoesBy (Some ComesUntold) (Err fault) → later ≡ place → WaitsAt limits old new now place later
+    → TakesNext limits old new now place later (Err fault)
+wait_fails limits old new now place later fault goes is waits = record { stands = waits.stands; steps = waits.steps; whole = waits.whole; next = subst (λ (p : Place). NextAt place p (Err fault)) (sym is) same }
+  where
+    same : NextAt place place (Err fault)
+    same = record { order = λ other. refl; grammar = goes; closing = tt }
 
 pub goes_so : (fault : IoFault) (answer : LinkFault) → answer ≡ read_fault_of fault → GoesBy (Some ComesUntold) (Err answer)
 goes_so io.Failed answer is = subst (λ (a : LinkFault). GoesBy (Some ComesUntold) (Err a)) (sym is) tt
@@ -527,4 +649,4 @@ goes_so io.Memory answer is = subst (λ (a : LinkFault). GoesBy (Some ComesUntol
 
 -- a client may be accepted where one is ready
 pub ready_less : (limits : PortLimits) (place : Place) → may_accept limits place ≡ true → place.accepted < limits.conns
-ready_less limits place may = ltb-true place.accepted limits.conns (and_parts _ _ may).0
+ready_less limits place may = ltb-true place.accepted limits.conns (and_parts _ _ (and_parts _ _ may).1).0

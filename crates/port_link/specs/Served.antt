@@ -1,6 +1,6 @@
 -- What the calls on a port make of its connections, as the journal of a link.
-use Rattle.std.specs.Prelude.{◌≡◌, ℕ, ◌+◌, ◌<◌, nat_lt, ◌==◌, ◌&&◌, Bool, true, false, List, [], ◌∷◌, ◌++◌, length, Option, None, Some, if◌then◌else◌}
-use Rattle.port_link.specs.Terms.{Entry, LinkEvent, PortEntry, Ready, Accepts, Reads}
+use Rattle.std.specs.Prelude.{◌≡◌, ℕ, ◌+◌, ◌<◌, nat_lt, ◌==◌, ◌&&◌, ◌||◌, not, Bool, true, false, List, [], ◌∷◌, ◌++◌, length, Option, None, Some, if◌then◌else◌}
+use Rattle.port_link.specs.Terms.{Awaited, Entry, LinkEvent, PortEntry, Ready, Accepts, Reads, Stops}
 use Rattle.port_link.specs.declared.place.PortLimits.{PortLimits}
 use Rattle.port_link.specs.declared.place.Stage.{Stage}
 use Rattle.port_link.specs.declared.place.Stage.TheVariants.{Broken, Closed, Dropped, Ended, Open, Unopened}
@@ -11,7 +11,7 @@ use Rattle.ports.specs.declared.port_calls.FailedCall.TheVariants as call
 use Rattle.ports.specs.declared.port_calls.PortEntry.TheVariants as made
 
 -- Where calls lead: the stage of each connection; how many were accepted, and how many of these were closed; the journal; what went
--- out of a piece of which not all did yet, with its connection; and what the last wait answered, until that is done.
+-- out of a piece of which not all did yet, with its connection; what the last wait answered, until that is done; and whether a wait answered a stop.
 pub record Served : Type 0 where
   pub stages : ℕ → Stage
   pub accepted : ℕ
@@ -20,10 +20,11 @@ pub record Served : Type 0 where
   pub to : ℕ
   pub part : List ℕ
   pub ready : Option Ready
+  pub stopped : Bool
 
 -- behind a bind
 abbrev pub fresh_served : Served
-fresh_served = record { stages = λ conn. Unopened; accepted = 0; closed = 0; entries = []; to = 0; part = []; ready = None }
+fresh_served = record { stages = λ conn. Unopened; accepted = 0; closed = 0; entries = []; to = 0; part = []; ready = None; stopped = false }
 
 -- the stages with another one for a connection
 abbrev pub with_stage : ℕ → Stage → (ℕ → Stage) → ℕ → Stage
@@ -85,22 +86,32 @@ closes conn served = record served {
   part = [];
 }
 
--- a wait answered this, or failed; an accept that failed has used it up
-abbrev pub with_ready : Option Ready → Served → Served
-with_ready ready served = record served { ready = ready }
+-- a wait or an accept failed: what was answered to the last wait is used up
+abbrev pub without_ready : Served → Served
+without_ready served = record served { ready = None }
 
--- The call makes this of what was served. A bind begins anew. Of a wait it is kept what it answered. The end of a connection's input and a take that fails
+-- whether it is a stop
+abbrev pub is_stop : Ready → Bool
+is_stop Accepts = false
+is_stop (Reads conn) = false
+is_stop Stops = true
+
+-- a wait answered this; what was stopped stays so
+abbrev pub with_ready : Ready → Served → Served
+with_ready ready served = record served { ready = Some ready; stopped = is_stop ready || served.stopped }
+
+-- The call makes this of what was served. A bind begins anew. Of a wait it is kept what it answered, and of a stop for good. The end of a connection's input and a take that fails
 -- are its close; a give that fails is a piece whose connection is gone. Gives of the rest of a piece belong to it.
 unfoldable pub after_call : Served → PortEntry → Served
 after_call served (made.Bound number) = fresh_served
-after_call served (made.Waited may_accept ready) = with_ready (Some ready) served
+after_call served (made.Waited awaited ready) = with_ready ready served
 after_call served (made.Accepted conn) = opens conn served
 after_call served (made.Took conn bytes room) = takes_bytes conn bytes served
 after_call served (made.Gave conn bytes offered) = if nat_lt (length bytes) offered then gives_part conn bytes served else gives_all conn bytes served
 after_call served (made.Closed conn) = closes conn served
 after_call served (made.Failed call.Bind) = served
-after_call served (made.Failed call.Wait) = with_ready None served
-after_call served (made.Failed call.Accept) = with_ready None served
+after_call served (made.Failed call.Wait) = without_ready served
+after_call served (made.Failed call.Accept) = without_ready served
 after_call served (made.Failed (call.Take conn)) = takes_bytes conn [] served
 after_call served (made.Failed (call.Give conn)) = gives_gone conn [] served
 
@@ -122,9 +133,19 @@ is_closable Broken = true
 is_closable Dropped = false
 is_closable Closed = false
 
--- whether a client may be accepted: fewer connections than the link has were, and fewer are open than may be at the same time
+-- whether a client may be accepted: no stop was asked for, fewer connections than the link has were accepted, and fewer are open than may be at the same time
 abbrev pub can_accept : PortLimits → Served → Bool
-can_accept limits served = nat_lt served.accepted limits.conns && nat_lt served.accepted (served.closed + limits.at_once)
+can_accept limits served = not served.stopped && (nat_lt served.accepted limits.conns && nat_lt served.accepted (served.closed + limits.at_once))
+
+-- what is awaited besides the open connections: a client, where one may be accepted; and a stop, where the link may be stopped, and wasn't
+abbrev pub awaited_of : PortLimits → Served → Awaited
+awaited_of limits served = record { client = can_accept limits served; stop = limits.stops && not served.stopped }
+
+-- a stop is answered only where it was awaited
+abbrev pub StopsAwaited : Awaited → Ready → Type 0
+StopsAwaited awaited Accepts = Unit {0}
+StopsAwaited awaited (Reads conn) = Unit {0}
+StopsAwaited awaited Stops = awaited.stop ≡ true
 
 -- each connection that may be closed was
 abbrev pub HasClosed : Served → Type 0
@@ -135,12 +156,12 @@ abbrev pub GoesOn : List ℕ → ℕ → ℕ → Type 0
 GoesOn [] to conn = Unit {0}
 GoesOn (byte ∷ part) to conn = to ≡ conn
 
--- A link makes such a call there. It waits where each connection that is gone was closed, and for a client exactly where one may be accepted. It
--- accepts where the last wait answered that a client can be accepted; it takes into 4096 bytes, from the connection that the last wait answered, whose
+-- A link makes such a call there. It waits where each connection that is gone was closed, for a client exactly where one may be accepted, and for a stop
+-- exactly where it may be stopped and wasn't. It accepts where the last wait answered that a client can be accepted; it takes into 4096 bytes, from the connection that the last wait answered, whose
 -- end wasn't found; it gives to one that isn't closed; it closes one that is gone; it binds never.
 abbrev pub IsCall : PortLimits → Served → PortEntry → Type 0
 IsCall limits served (made.Bound number) = ⊥
-IsCall limits served (made.Waited may_accept ready) = HasClosed served × (may_accept ≡ can_accept limits served)
+IsCall limits served (made.Waited awaited ready) = HasClosed served × (awaited ≡ awaited_of limits served) × StopsAwaited awaited ready
 IsCall limits served (made.Accepted conn) = (conn ≡ served.accepted) × (can_accept limits served ≡ true) × (served.ready ≡ Some Accepts)
 IsCall limits served (made.Took conn bytes room) = (served.stages conn ≡ Open) × (room ≡ 4096) × (served.ready ≡ Some (Reads conn))
 IsCall limits served (made.Gave conn bytes offered) = (is_present (served.stages conn) ≡ true) × (0 < length bytes) × GoesOn served.part served.to conn
@@ -150,6 +171,10 @@ IsCall limits served (made.Failed call.Wait) = HasClosed served
 IsCall limits served (made.Failed call.Accept) = (can_accept limits served ≡ true) × (served.ready ≡ Some Accepts)
 IsCall limits served (made.Failed (call.Take conn)) = (served.stages conn ≡ Open) × (served.ready ≡ Some (Reads conn))
 IsCall limits served (made.Failed (call.Give conn)) = (is_present (served.stages conn) ≡ true) × GoesOn served.part served.to conn
+
+-- all connections that were accepted are closed, and no more are to come: so many were, or the link was stopped
+abbrev pub IsOver : PortLimits → ℕ → ℕ → Bool → Type 0
+IsOver limits accepted closed stopped = (closed ≡ accepted) × (((accepted == limits.conns) || stopped) ≡ true)
 
 -- such calls, one after another
 unfoldable pub AreCalls : PortLimits → Served → List PortEntry → Type 0

@@ -7,7 +7,7 @@ use Rattle.port_link.specs.declared.place.PortLimits.{PortLimits}
 use Rattle.port_link.specs.declared.place.Place.{Place}
 use Rattle.port_link.specs.declared.place.Stage.{Stage}
 use Rattle.port_link.specs.declared.place.Stage.TheVariants.{Dropped, Ended, Unopened}
-use Rattle.port_link.specs.Served.{Served, fresh_served, entries_of, served_of}
+use Rattle.port_link.specs.Served.{IsOver, Served, fresh_served, entries_of, served_of}
 use Rattle.port_link.specs.StageTables.{stage_in}
 use Rattle.port_link.specs.Stages.{is_done, is_given, is_present, shown, phase_of}
 use Rattle.links.specs.declared.journal.Entry.TheVariants as entry
@@ -22,6 +22,7 @@ pub record IsAt (place : Place) (served : Served) : Type 0 where
   pub stages : (conn : ℕ) → served.stages conn ≡ shown (stage_at place conn)
   pub accepted : served.accepted ≡ place.accepted
   pub closed : served.closed ≡ place.closed
+  pub stopped : served.stopped ≡ place.stopped
 
 abbrev pub Agrees : Option (List PortEntry) → Place → Type 0
 Agrees told place = (calls : List PortEntry) → told ≡ Some calls → IsAt place (served_of calls)
@@ -50,7 +51,7 @@ pub record IsClosing (closing : Closing) (stages : List Stage) : Type 0 where
   pub made : (conn : ℕ) → closing ≡ Made conn → stage_in stages conn ≡ Dropped
   pub made_alone : (conn : ℕ) → closing ≡ Made conn → NoOther conn stages
 
--- A link over a port that tells these calls, and has these connections. It ends behind so many, and has at most so many open at the same time.
+-- A link over a port that tells these calls, and has these connections. It ends behind so many or behind a stop, and has at most so many open at the same time.
 pub record Stands (told : Option (List PortEntry)) (connections : List Bool) (limits : PortLimits) (place : Place) : Type 0 where
   pub agrees : Agrees told place
   pub room : length place.stages ≡ 4096
@@ -61,7 +62,7 @@ pub record Stands (told : Option (List PortEntry)) (connections : List Bool) (li
   pub closing : IsClosing place.closing place.stages
   pub most : place.accepted ≤ limits.conns
   pub at_once : place.accepted ≤ place.closed + limits.at_once
-  pub ended : 0 < place.ends → (place.accepted ≡ limits.conns) × (place.closed ≡ place.accepted)
+  pub ended : 0 < place.ends → IsOver limits place.accepted place.closed place.stopped
 
 -- the end was answered so often
 abbrev pub with_ends : ℕ → List Entry → List Entry

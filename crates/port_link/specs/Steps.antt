@@ -1,14 +1,15 @@
 -- What a link does to its port, over one call or several.
-use Rattle.std.specs.Prelude.{◌≡◌, ℕ, ◌+◌, ◌≤◌, Bool, List, [], ◌∷◌, ◌++◌, Option, None, Some, Result, Ok, Err, IsErrOf, Vec, slice_set}
+use Rattle.std.specs.Prelude.{◌≡◌, ℕ, ◌+◌, ◌≤◌, ◌||◌, Bool, List, [], ◌∷◌, ◌++◌, Option, None, Some, Result, Ok, Err, IsErrOf, Vec, slice_set}
 use Rattle.std.specs.declared.alloc.Global.{Global}
-use Rattle.port_link.specs.Terms.{IoFault, Rose, Entry, LinkEvent, LinkFault, Memory, ReadFault, ComesUntold, Enters, GivesAtClose, GoesBy, Tells, PortEntry, Logs}
+use Rattle.port_link.specs.Terms.{IoFault, Rose, Entry, LinkEvent, LinkFault, Memory, ReadFault, ComesUntold, Enters, GivesAtClose, GoesBy, Tells, PortEntry, Ready, Logs}
 use Rattle.port_link.specs.declared.place.Closing.TheVariants as closing
 use Rattle.port_link.specs.declared.place.PortLimits.{PortLimits}
 use Rattle.port_link.specs.declared.place.Place.{Place}
 use Rattle.port_link.specs.declared.place.Stage.TheVariants.{Closed, Dropped, Ended, Open}
-use Rattle.port_link.specs.Served.{served_of, AreCalls}
+use Rattle.port_link.specs.Served.{served_of, AreCalls, is_stop}
 use Rattle.port_link.specs.Standing.{Stands, IsWhole, phases_at, gives_at, told_at}
 use Rattle.links.specs.declared.journal.Entry.TheVariants as entry
+use Rattle.links.specs.declared.journal.LinkEvent.TheVariants as event
 use Rattle.rx_base.specs.declared.fault.IoFault.TheVariants as io
 use Rattle.ports.specs.declared.port_calls.FailedCall.TheVariants as call
 use Rattle.ports.specs.declared.port_calls.PortEntry.TheVariants as made
@@ -48,6 +49,19 @@ closed_place conn place = record place { stages = slice_set place.stages conn Cl
 abbrev pub settled_place : ℕ → Place → Place
 settled_place conn place = record place { stages = slice_set place.stages conn Closed; closing = closing.Nothing }
 
+-- behind what a wait answered: what was stopped stays so
+abbrev pub waited_place : Ready → Place → Place
+waited_place ready place = record place { stopped = is_stop ready || place.stopped }
+
+abbrev pub IsWaited : Result Ready LinkFault → Place → Place → Type 0
+IsWaited (Ok ready) place later = later ≡ waited_place ready place
+IsWaited (Err fault) place later = later ≡ place
+
+-- the end was answered once more; or memory ran out
+abbrev pub AnswersEnd : Place → Place → Result LinkEvent LinkFault → Type 0
+AnswersEnd place later (Ok answered) = (answered ≡ event.Ends) × (later ≡ record place { ends = place.ends + 1 })
+AnswersEnd place later (Err fault) = (fault ≡ Memory) × (later ≡ place)
+
 -- a fault of a wait or an accept
 abbrev pub read_fault_of : IoFault → LinkFault
 read_fault_of io.Failed = ReadFault
@@ -84,10 +98,10 @@ pub record Settles (limits : PortLimits) (old new : Option (List PortEntry)) (co
   pub phases : (conn : ℕ) → phases_at later conn ≡ phases_at place conn
   pub nothing : later.closing ≡ closing.Nothing
 
--- a link waited, and stands where it stood
-pub record WaitsAt (limits : PortLimits) (old new : Option (List PortEntry)) (connections : List Bool) (place : Place) : Type 0 where
-  pub stands : Stands new connections limits place
-  pub steps : StepsTo limits old new place place []
+-- a link waited, and stands where it stood; but a stop is kept
+pub record WaitsAt (limits : PortLimits) (old new : Option (List PortEntry)) (connections : List Bool) (place later : Place) : Type 0 where
+  pub stands : Stands new connections limits later
+  pub steps : StepsTo limits old new place later []
   pub whole : IsWhole old → IsWhole new
 
 -- the port's faults of bind, wait and accept never fall, and `ReadFault` comes only where they rose

@@ -13,9 +13,10 @@ pub use Rattle.links.specs.LinkForms.{handed_by, told_by}
 pub use Rattle.links.specs.Links.{ComesUntold, Counts, Enters, Gives, GivesAtClose, GoesBy, Handed, HasEnded, HasGiveCause, IsGone, Phase, Phases, Tells, TellsHanded, Told, cut_entries, last_taken}
 pub use Rattle.links.specs.Seen.{IsSound, Seen}
 pub use Rattle.ports.specs.declared.port.Port.{Ghosts}
+pub use Rattle.ports.specs.declared.port_calls.Awaited.{Awaited}
 pub use Rattle.ports.specs.declared.port_calls.PortEntry.{PortEntry}
 pub use Rattle.ports.specs.declared.port_calls.Ready.{Ready}
-pub use Rattle.ports.specs.declared.port_calls.Ready.TheVariants.{Accepts, Reads}
+pub use Rattle.ports.specs.declared.port_calls.Ready.TheVariants.{Accepts, Reads, Stops}
 pub use Rattle.ports.specs.Calls.{Logs, PortAccepts, PortWaits}
 pub use Rattle.ports.specs.ConnectionLaws.{open_fewer, open_more, open_within}
 pub use Rattle.ports.specs.Connections.{IsReady, is_open, open_count, without}

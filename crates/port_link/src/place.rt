@@ -32,14 +32,16 @@ pub enum Closing {
     Made(Conn),
 }
 
-/// How many connections a link has, at most 4096, and how many of them are open at the same time at most.
+/// How many connections a link has, at most 4096, how many of them are open at the same time at most, and whether it may be stopped.
 #[derive(Clone, Copy, Debug, Drop)]
 pub struct PortLimits {
     pub conns: Conn,
     pub at_once: u16,
+    pub stops: bool,
 }
 
-/// The stage of each connection; how many were accepted, and how many of these were closed; and how often `Ends` was answered.
+/// The stage of each connection; how many were accepted, and how many of these were closed; how often `Ends` was answered; and whether
+/// a stop was asked for.
 #[derive(Debug, Drop)]
 pub struct Place {
     pub stages: [Stage; 4096],
@@ -47,6 +49,7 @@ pub struct Place {
     pub closed: Conn,
     pub closing: Closing,
     pub ends: u64,
+    pub stopped: bool,
 }
 
 /// Nothing was answered of any connection.

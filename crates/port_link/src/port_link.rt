@@ -14,8 +14,8 @@ use rx_base::Conn;
 use std::alloc::Global;
 
 /// A link over a port that was bound. Its connections are numbered from 0, in the order in which they are accepted, and as many
-/// of them as its limits say are served at the same time; after so many in all as they say it ends. It gives to each connection that isn't
-/// closed, and never answers `Refused` or `WriteFault`.
+/// of them as its limits say are served at the same time; after so many in all as they say it ends. Behind a stop no client is accepted
+/// any more, and it ends once all are closed. It gives to each connection that isn't closed, and never answers `Refused` or `WriteFault`.
 #[derive(Drop)]
 pub struct PortLink<P: Port> {
     alloc: Global,
@@ -70,6 +70,7 @@ impl<P: Port> PortLink<P> {
                 closed: 0,
                 closing: Closing::Nothing,
                 ends: 0,
+                stopped: false,
             },
             handed: None,
             takes: true,

@@ -4,12 +4,13 @@ ghost use Rattle.ports.specs.Connections.{is_open, IsReady};
 ghost use Rattle.port_link.specs.Stages.{is_broken};
 ghost use Rattle.port_link.specs.Standing.{Stands, WasReady, stage_at};
 ghost use Rattle.ports.specs.declared.port_calls.Ready.TheVariants.{Accepts, Reads};
-ghost use Rattle.port_link.specs.Steps.{Settles, TakesPiece, TakesNext, WaitsAt, HasOpenCause, NextGoes, read_fault_of};
-ghost use Rattle.port_link.specs.Taking.{may_accept, NoneBroken};
+ghost use Rattle.port_link.specs.Served.{is_stop};
+ghost use Rattle.port_link.specs.Steps.{AnswersEnd, IsWaited, Settles, TakesPiece, TakesNext, WaitsAt, HasOpenCause, NextGoes, read_fault_of, waited_place};
+ghost use Rattle.port_link.specs.Taking.{awaited_at, is_over, may_accept, NoneBroken};
 
 use crate::place::{Closing, Place, PortLimits, Stage, first_broken};
 use links::{LinkEvent, LinkFault};
-use ports::{Port, Ready};
+use ports::{Awaited, Port, Ready};
 use rx_base::{Bytes, Conn, IoFault};
 use std::alloc::Global;
 
@@ -50,31 +51,71 @@ fn read_fault(fault: IoFault) -> LinkFault
 fn may_accept(place: &Place, limits: PortLimits) -> bool
     ensures { result ≡ may_accept limits place.now }
 {
-    place.accepted < limits.conns
-        && u64::from(place.accepted) < u64::from(place.closed) + u64::from(limits.at_once)
+    let has_room = place.accepted < limits.conns
+        && u64::from(place.accepted) < u64::from(place.closed) + u64::from(limits.at_once);
+    !place.stopped && has_room
 }
 
-// Waits for a client, where one may be accepted, or an open connection.
+// Whether all connections that were accepted are closed, and no more are to come.
+fn is_over(place: &Place, limits: PortLimits) -> bool
+    ensures { result ≡ is_over limits place.now }
+{
+    let is_last = place.accepted == limits.conns || place.stopped;
+    place.closed == place.accepted && is_last
+}
+
+// What is awaited besides the open connections.
+fn awaited_at(place: &Place, limits: PortLimits) -> Awaited
+    ensures { result ≡ awaited_at limits place.now }
+{
+    Awaited {
+        client: may_accept(place, limits),
+        stop: limits.stops && !place.stopped,
+    }
+}
+
+// Whether it is a stop.
+fn is_stop(ready: Ready) -> bool
+    ensures { result ≡ is_stop ready }
+{
+    match ready {
+        Ready::Accepts => false,
+        Ready::Reads(_) => false,
+        Ready::Stops => true,
+    }
+}
+
+// Keeps whether a wait answered a stop.
+fn keep_stop(place: &mut Place, ready: Ready)
+    ensures { place.new ≡ waited_place ready place.old }
+{
+    place.stopped = is_stop(ready) || place.stopped;
+}
+
+// Waits for an open connection, for a client where one may be accepted, and for a stop where one may be asked for. A stop is kept.
 fn wait_ready<P: Port>(
     port: &mut P,
-    place: &Place,
+    place: &mut Place,
     limits: PortLimits,
-    accepts: bool,
 ) -> Result<Ready, LinkFault>
-    requires nothing { place.now.closing ≡ Closing.Nothing }
-    requires none { NoneBroken place.now }
-    requires some { accepts ≡ false → place.now.closed < place.now.accepted }
-    requires may { accepts ≡ may_accept limits place.now }
-    requires stands { Stands (P.told port.old) (P.connections port.old) limits place.now }
-    ensures ready { IfOk result (λ ready. IsReady accepts (P.connections port.new) ready) }
+    requires more { is_over limits place.old ≡ false }
+    requires some { 1 ≤ limits.at_once }
+    requires nothing { place.old.closing ≡ Closing.Nothing }
+    requires none { NoneBroken place.old }
+    requires stands { Stands (P.told port.old) (P.connections port.old) limits place.old }
+    ensures ready { IfOk result (λ ready. IsReady (awaited_at limits place.old) (P.connections port.new) ready) }
     ensures was { IfOk result (λ ready. WasReady ready (P.told port.new)) }
+    ensures place { IsWaited result place.old place.new }
     ensures goes { NextGoes result }
-    ensures waits { WaitsAt limits (P.told port.old) (P.told port.new) (P.connections port.new) place.now }
+    ensures waits { WaitsAt limits (P.told port.old) (P.told port.new) (P.connections port.new) place.old place.new }
     ensures cause { HasOpenCause (P.faults port.old) (P.faults port.new) result }
     ensures fixed { P.fixed port.new ≡ P.fixed port.old }
 {
-    match port.wait(accepts) {
-        Ok(ready) => Ok(ready),
+    match port.wait(awaited_at(place, limits)) {
+        Ok(ready) => {
+            keep_stop(place, ready);
+            Ok(ready)
+        }
         Err(fault) => Err(read_fault(fault)),
     }
 }
@@ -160,54 +201,6 @@ fn take_next<P: Port>(
     }
 }
 
-// Accepts a client or takes of a connection, whichever is ready.
-fn serve_ready<P: Port>(
-    alloc: Global,
-    port: &mut P,
-    place: &mut Place,
-    limits: PortLimits,
-    ready: Ready,
-) -> Result<LinkEvent, LinkFault>
-    requires is { IsReady (may_accept limits place.old) (P.connections port.old) ready }
-    requires was { WasReady ready (P.told port.old) }
-    requires few { limits.conns ≤ 4096 }
-    requires nothing { place.old.closing ≡ Closing.Nothing }
-    requires none { NoneBroken place.old }
-    requires stands { Stands (P.told port.old) (P.connections port.old) limits place.old }
-    ensures takes { TakesNext limits (P.told port.old) (P.told port.new) (P.connections port.new) place.old place.new result }
-    ensures cause { HasOpenCause (P.faults port.old) (P.faults port.new) result }
-    ensures fixed { P.fixed port.new ≡ P.fixed port.old }
-{
-    match ready {
-        Ready::Accepts => open_next(port, place, limits),
-        Ready::Reads(conn) => take_next(alloc, port, place, limits, conn),
-    }
-}
-
-// Waits until a client can be accepted or a connection be taken of, and does that.
-fn wait_next<P: Port>(
-    alloc: Global,
-    port: &mut P,
-    place: &mut Place,
-    limits: PortLimits,
-) -> Result<LinkEvent, LinkFault>
-    requires more { place.old.closed < limits.conns }
-    requires some { 1 ≤ limits.at_once }
-    requires few { limits.conns ≤ 4096 }
-    requires nothing { place.old.closing ≡ Closing.Nothing }
-    requires none { NoneBroken place.old }
-    requires stands { Stands (P.told port.old) (P.connections port.old) limits place.old }
-    ensures takes { TakesNext limits (P.told port.old) (P.told port.new) (P.connections port.new) place.old place.new result }
-    ensures cause { HasOpenCause (P.faults port.old) (P.faults port.new) result }
-    ensures fixed { P.fixed port.new ≡ P.fixed port.old }
-{
-    let accepts = may_accept(place, limits);
-    match wait_ready(port, place, limits, accepts) {
-        Ok(ready) => serve_ready(alloc, port, place, limits, ready),
-        Err(fault) => Err(fault),
-    }
-}
-
 // Closes a connection to which a give failed, and answers that.
 fn drop_broken<P: Port>(
     port: &mut P,
@@ -231,7 +224,47 @@ fn drop_broken<P: Port>(
     Ok(LinkEvent::Closes(conn))
 }
 
-// Ends where all connections were closed, and else waits for the next event.
+// Answers the end, a bounded number of times.
+fn answer_end(place: &mut Place) -> Result<LinkEvent, LinkFault>
+    ensures { AnswersEnd place.old place.new result }
+{
+    if place.ends == u64::MAX {
+        return Err(LinkFault::Memory);
+    }
+    place.ends += 1;
+    Ok(LinkEvent::Ends)
+}
+
+// Behind a stop: ends where no connection is open, and else takes of the next one that can be read of.
+fn end_or_take<P: Port>(
+    alloc: Global,
+    port: &mut P,
+    place: &mut Place,
+    limits: PortLimits,
+) -> Result<LinkEvent, LinkFault>
+    requires stopped { place.old.stopped ≡ true }
+    requires some { 1 ≤ limits.at_once }
+    requires few { limits.conns ≤ 4096 }
+    requires nothing { place.old.closing ≡ Closing.Nothing }
+    requires none { NoneBroken place.old }
+    requires stands { Stands (P.told port.old) (P.connections port.old) limits place.old }
+    ensures takes { TakesNext limits (P.told port.old) (P.told port.new) (P.connections port.new) place.old place.new result }
+    ensures cause { HasOpenCause (P.faults port.old) (P.faults port.new) result }
+    ensures fixed { P.fixed port.new ≡ P.fixed port.old }
+{
+    if is_over(place, limits) {
+        return answer_end(place);
+    }
+    match wait_ready(port, place, limits) {
+        Ok(Ready::Reads(conn)) => take_next(alloc, port, place, limits, conn),
+        // Behind a stop neither a client nor a stop is awaited.
+        Ok(Ready::Accepts) => unreachable!(),
+        Ok(Ready::Stops) => unreachable!(),
+        Err(fault) => Err(fault),
+    }
+}
+
+// Ends where no connection is open and none is to come, and else waits for what can be done next, and does that.
 fn end_or_wait<P: Port>(
     alloc: Global,
     port: &mut P,
@@ -247,18 +280,19 @@ fn end_or_wait<P: Port>(
     ensures cause { HasOpenCause (P.faults port.old) (P.faults port.new) result }
     ensures fixed { P.fixed port.new ≡ P.fixed port.old }
 {
-    if place.closed == limits.conns {
-        if place.ends == u64::MAX {
-            return Err(LinkFault::Memory);
-        }
-        place.ends += 1;
-        return Ok(LinkEvent::Ends);
+    if is_over(place, limits) {
+        return answer_end(place);
     }
-    wait_next(alloc, port, place, limits)
+    match wait_ready(port, place, limits) {
+        Ok(Ready::Accepts) => open_next(port, place, limits),
+        Ok(Ready::Reads(conn)) => take_next(alloc, port, place, limits, conn),
+        Ok(Ready::Stops) => end_or_take(alloc, port, place, limits),
+        Err(fault) => Err(fault),
+    }
 }
 
 // The next event where none was answered that is to be made. A connection to which a give failed is closed first; the link ends where
-// all connections were closed.
+// all connections were closed, and no more are to come.
 fn answer_next<P: Port>(
     alloc: Global,
     port: &mut P,

@@ -2,7 +2,7 @@
 use Rattle.std.specs.List.{prefix_len}
 use Rattle.std.proofs.lemmas.Bool.{lt-ltb}
 use Rattle.std.proofs.Math.Seq.{take-add, take-append_seam}
-use Rattle.ports.proofs.Terms.{Bool, List, None, Ok, Option, Some, [], ap, arith, cond, drop, false, if◌then◌else◌, length, nat_lt, not, refl, subst, suc, sym, take, true, zero, ℕ, ◌++◌, ◌+◌, ◌<◌, ◌∙◌, ◌∷◌, ◌≡◌, ◌≢◌, ◌≤◌, drop-drop, get_or-map, get_or-set_other, get_or-set_same, length-drop, length-map, map-set, nil_from_length, take-append-drop, min, position, slice_index_or, slice_set, unwrap_or, IoFault, Stream, fresh, piece_len, Takes, Input, Ready, Accepts, Reads, IsReady, is_open, open_count, input_stream, streams_of, first_open, first_ready, is_ready, next_ready}
+use Rattle.ports.proofs.Terms.{Bool, List, None, Ok, Option, Some, [], ap, arith, cond, drop, false, if◌then◌else◌, length, nat_lt, not, refl, subst, suc, sym, take, true, zero, ℕ, ◌++◌, ◌+◌, ◌<◌, ◌∙◌, ◌∷◌, ◌≡◌, ◌≢◌, ◌≤◌, drop-drop, get_or-map, get_or-set_other, get_or-set_same, length-drop, length-map, map-set, nil_from_length, take-append-drop, min, position, slice_index_or, slice_set, unwrap_or, IoFault, Stream, fresh, piece_len, Takes, Input, Awaited, Ready, Accepts, Reads, Stops, IsReady, is_open, open_count, input_stream, streams_of, first_open, first_ready, is_ready, next_ready}
 use Rattle.ports.specs.Streams.{TakesAt, after_taken, stream_at}
 
 first_within : (connections : List Bool) → 0 < open_count connections → prefix_len (λ (b : Bool). not b) connections < length connections
@@ -27,23 +27,27 @@ first_open-is connections some =
     let n : ℕ = prefix_len (λ (b : Bool). not b) connections in
     ap (λ (conn : ℕ). is_open conn connections) (found n (nat_lt n (length connections)) (lt-ltb n (length connections) (first_within connections some))) ∙ first_is connections some
 
-first_is_ready : (may_accept : Bool) (connections : List Bool) → (may_accept ≡ false → 0 < open_count connections) → IsReady may_accept connections (first_ready may_accept connections)
-first_is_ready true connections some = refl
-first_is_ready false connections some = first_open-is connections (some refl)
+first_is_ready : (awaited : Awaited) (connections : List Bool) → (awaited.client ≡ false → 0 < open_count connections) → IsReady awaited connections (first_ready awaited connections)
+first_is_ready awaited connections some = by awaited.client refl
+  where
+    by : (client : Bool) → awaited.client ≡ client → IsReady awaited connections (if client then Accepts else Reads (first_open connections))
+    by true is = is
+    by false is = first_open-is connections (some is)
 
-line_is_ready : (may_accept : Bool) (connections : List Bool) (line : Ready) → is_ready may_accept connections line ≡ true → IsReady may_accept connections line
-line_is_ready may_accept connections Accepts is = is
-line_is_ready may_accept connections (Reads conn) is = is
+line_is_ready : (awaited : Awaited) (connections : List Bool) (line : Ready) → is_ready awaited connections line ≡ true → IsReady awaited connections line
+line_is_ready awaited connections Accepts is = is
+line_is_ready awaited connections (Reads conn) is = is
+line_is_ready awaited connections Stops is = is
 
-picked_is_ready : (may_accept : Bool) (connections : List Bool) (line : Ready) (test : Bool) → is_ready may_accept connections line ≡ test → (may_accept ≡ false → 0 < open_count connections)
-    → IsReady may_accept connections (if test then line else first_ready may_accept connections)
-picked_is_ready may_accept connections line true is some = line_is_ready may_accept connections line is
-picked_is_ready may_accept connections line false is some = first_is_ready may_accept connections some
+picked_is_ready : (awaited : Awaited) (connections : List Bool) (line : Ready) (test : Bool) → is_ready awaited connections line ≡ test → (awaited.client ≡ false → 0 < open_count connections)
+    → IsReady awaited connections (if test then line else first_ready awaited connections)
+picked_is_ready awaited connections line true is some = line_is_ready awaited connections line is
+picked_is_ready awaited connections line false is some = first_is_ready awaited connections some
 
 -- what a script makes a wait answer can be answered
-pub next_is_ready : (may_accept : Bool) (connections : List Bool) (script : List Ready) → (may_accept ≡ false → 0 < open_count connections) → IsReady may_accept connections (next_ready may_accept connections script)
-next_is_ready may_accept connections [] some = first_is_ready may_accept connections some
-next_is_ready may_accept connections (line ∷ lines) some = picked_is_ready may_accept connections line (is_ready may_accept connections line) refl some
+pub next_is_ready : (awaited : Awaited) (connections : List Bool) (script : List Ready) → (awaited.client ≡ false → 0 < open_count connections) → IsReady awaited connections (next_ready awaited connections script)
+next_is_ready awaited connections [] some = first_is_ready awaited connections some
+next_is_ready awaited connections (line ∷ lines) some = picked_is_ready awaited connections line (is_ready awaited connections line) refl some
 
 none_left : (n most room : ℕ) (left : List ℕ) → n ≡ min (min most room) (length left) → 1 ≤ most → 0 < room → n ≡ 0 → drop n left ≡ []
 none_left n most room left is goes_on some none = nil_from_length (drop n left) (let size = length-drop n left in omega arith)

@@ -1,6 +1,6 @@
 -- What the calls on a port add to the list of calls that it tells.
-use Rattle.std.specs.Prelude.{◌≡◌, ℕ, Bool, List, [], ◌∷◌, ◌++◌, length, take, Option, Some, None, Result, Ok, Err}
-use Rattle.ports.specs.Terms.{IoFault, Failed, Memory, PortEntry, Ready}
+use Rattle.std.specs.Prelude.{◌≡◌, ℕ, List, [], ◌∷◌, ◌++◌, length, take, Option, Some, None, Result, Ok, Err}
+use Rattle.ports.specs.Terms.{Awaited, IoFault, Failed, Memory, PortEntry, Ready}
 use Rattle.ports.specs.declared.port_calls.PortEntry.TheVariants as entry
 use Rattle.ports.specs.declared.port_calls.FailedCall.{FailedCall}
 use Rattle.ports.specs.declared.port_calls.FailedCall.TheVariants as call
@@ -27,8 +27,8 @@ abbrev pub PortBinds : Option (List PortEntry) → Option (List PortEntry) → �
 PortBinds old new port result = Logs old new (entry_of (λ _. entry.Bound port) call.Bind result)
 
 -- a wait and its answer were told
-abbrev pub PortWaits : Option (List PortEntry) → Option (List PortEntry) → Bool → Result Ready IoFault → Type 0
-PortWaits old new may_accept result = Logs old new (entry_of (λ ready. entry.Waited may_accept ready) call.Wait result)
+abbrev pub PortWaits : Option (List PortEntry) → Option (List PortEntry) → Awaited → Result Ready IoFault → Type 0
+PortWaits old new awaited result = Logs old new (entry_of (λ ready. entry.Waited awaited ready) call.Wait result)
 
 -- an accept of the connection with this number and its answer were told
 abbrev pub PortAccepts : Option (List PortEntry) → Option (List PortEntry) → ℕ → Result (Unit {0}) IoFault → Type 0

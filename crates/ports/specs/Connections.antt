@@ -1,6 +1,6 @@
 -- The connections of a port: of each that was accepted, in order, whether it is open.
 use Rattle.std.specs.Prelude.{◌≡◌, ℕ, zero, suc, ◌+◌, Bool, true, false, List, [], ◌∷◌, ◌++◌, length, Result, Ok, Err, slice_index_or, slice_set}
-use Rattle.ports.specs.Terms.{IoFault, Ready, Accepts, Reads}
+use Rattle.ports.specs.Terms.{Awaited, IoFault, Ready, Accepts, Reads, Stops}
 
 -- how many were accepted
 abbrev pub accepted : List Bool → ℕ
@@ -30,7 +30,8 @@ abbrev pub IsConnectedAfter : List Bool → List Bool → Result (Unit {0}) IoFa
 IsConnectedAfter old new (Ok done) = new ≡ old ++ true ∷ []
 IsConnectedAfter old new (Err fault) = new ≡ old
 
--- a client can be accepted, where that was asked for, or an open connection be read of
-abbrev pub IsReady : Bool → List Bool → Ready → Type 0
-IsReady may_accept connections Accepts = may_accept ≡ true
-IsReady may_accept connections (Reads conn) = is_open conn connections ≡ true
+-- an open connection can be read of; or a client was awaited and can be accepted; or a stop was awaited, and somebody asked for it
+abbrev pub IsReady : Awaited → List Bool → Ready → Type 0
+IsReady awaited connections Accepts = awaited.client ≡ true
+IsReady awaited connections (Reads conn) = is_open conn connections ≡ true
+IsReady awaited connections Stops = awaited.stop ≡ true

@@ -4,6 +4,7 @@ pub use Rattle.rx_base.specs.declared.fault.IoFault.{IoFault}
 pub use Rattle.rx_base.specs.declared.fault.IoFault.TheVariants.{Failed, Memory}
 pub use Rattle.rx_base.specs.Outside.{Stream, fresh, piece_len}
 pub use Rattle.rx_base.specs.Taking.{Takes}
+pub use Rattle.ports.specs.declared.port_calls.Awaited.{Awaited}
 pub use Rattle.ports.specs.declared.port_calls.PortEntry.{PortEntry}
 pub use Rattle.ports.specs.declared.port_calls.Ready.{Ready}
-pub use Rattle.ports.specs.declared.port_calls.Ready.TheVariants.{Accepts, Reads}
+pub use Rattle.ports.specs.declared.port_calls.Ready.TheVariants.{Accepts, Reads, Stops}

@@ -1,7 +1,7 @@
 // A port that is lent: no call changes which object the reference is to.
 ghost use Rattle.std.specs.Borrow.{GName};
 
-use crate::{Port, Ready};
+use crate::{Awaited, Port, Ready};
 use rx_base::{Conn, IoFault};
 
 impl<T: Port> Port for &mut T {
@@ -21,8 +21,8 @@ impl<T: Port> Port for &mut T {
         Port::bind(&mut **self, port)
     }
 
-    fn wait(&mut self, may_accept: bool) -> Result<Ready, IoFault> {
-        Port::wait(&mut **self, may_accept)
+    fn wait(&mut self, awaited: Awaited) -> Result<Ready, IoFault> {
+        Port::wait(&mut **self, awaited)
     }
 
     fn accept(&mut self) -> Result<(), IoFault> {

@@ -15,5 +15,5 @@ mod tame_port;
 
 pub use memory_port::MemoryPort;
 pub use port::Port;
-pub use port_calls::{FailedCall, PortCall, PortEntry, Ready};
+pub use port_calls::{Awaited, FailedCall, PortCall, PortEntry, Ready};
 pub use tame_port::TamePort;

@@ -13,7 +13,7 @@ ghost use Rattle.rx_base.specs.Taking.{IsPart};
 ghost use Rattle.rx_base.specs.Outside.{piece_len};
 
 use crate::port_fails::PortFails;
-use crate::{FailedCall, Port, PortCall, PortEntry, Ready, TamePort};
+use crate::{Awaited, FailedCall, Port, PortCall, PortEntry, Ready, TamePort};
 use rx_base::{Conn, IoFault};
 use std::alloc::Global;
 
@@ -86,21 +86,21 @@ impl Port for MemoryPort {
         self.port.bind(port)
     }
 
-    fn wait(&mut self, may_accept: bool) -> Result<Ready, IoFault>
-        requires some { may_accept ≡ false → 0 < open_count (memory_connections self.old) }
-        ensures ready { IfOk result (λ ready. IsReady may_accept (memory_connections self.old) ready) }
-        ensures call { PortWaits (Some (memory_calls self.old)) (Some (memory_calls self.new)) may_accept result }
+    fn wait(&mut self, awaited: Awaited) -> Result<Ready, IoFault>
+        requires some { awaited.client ≡ false → 0 < open_count (memory_connections self.old) }
+        ensures ready { IfOk result (λ ready. IsReady awaited (memory_connections self.old) ready) }
+        ensures call { PortWaits (Some (memory_calls self.old)) (Some (memory_calls self.new)) awaited result }
         ensures connections { memory_connections self.new ≡ memory_connections self.old }
         ensures cause { HasCause (port_plan self.old).faults (port_plan self.new).faults result }
         ensures answer { AnswersBy (port_fails call.Wait false (port_plan self.old)) result }
         ensures plan { port_plan self.new ≡ after_port_call call.Wait (port_fails call.Wait false (port_plan self.old)) (port_plan self.old) }
-        ensures next { WaitsNext may_accept (memory_connections self.old) (tame_script (clients_of self.old)) (tame_script (clients_of self.new)) result }
+        ensures next { WaitsNext awaited (memory_connections self.old) (tame_script (clients_of self.old)) (tame_script (clients_of self.new)) result }
         ensures inputs { KeepsInputs (clients_of self.old) (clients_of self.new) }
     {
         if self.fails.call_fails(PortCall::Wait, false) {
             return Err(self.port.fail(FailedCall::Wait));
         }
-        self.port.wait(may_accept)
+        self.port.wait(awaited)
     }
 
     /// Past the last input it fails.

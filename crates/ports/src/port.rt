@@ -6,7 +6,7 @@ ghost use Rattle.ports.specs.Calls.{PortBinds, PortWaits, PortAccepts, PortTakes
 ghost use Rattle.rx_base.specs.Faults.{HasCause};
 ghost use Rattle.rx_base.specs.Taking.{IsPart};
 
-use crate::{PortEntry, Ready};
+use crate::{Awaited, PortEntry, Ready};
 use rx_base::{Conn, IoFault};
 
 /// A port at which connections are accepted, of which one or several are open at the same time. They are numbered from 0 in the order in
@@ -39,12 +39,12 @@ pub trait Port {
         ensures cause { HasCause (faults self.old) (faults self.new) result }
         ensures other { connection_faults self.new ≡ connection_faults self.old };
 
-    /// Waits until a client can be accepted, where that is asked for, or an open connection be read of: it has bytes, or its
-    /// client sends no more, or it has failed. Which of several is answered isn't said.
-    fn wait(&mut self, may_accept: bool) -> Result<Ready, IoFault>
-        requires some { may_accept ≡ false → 0 < open_count (connections self.old) }
-        ensures ready { IfOk result (λ ready. IsReady may_accept (connections self.old) ready) }
-        ensures call { PortWaits (told self.old) (told self.new) may_accept result }
+    /// Waits until an open connection can be read of: it has bytes, or its client sends no more, or it has failed. Where that is
+    /// asked for, it waits for a client that can be accepted too, and for a stop. Which of several is answered isn't said.
+    fn wait(&mut self, awaited: Awaited) -> Result<Ready, IoFault>
+        requires some { awaited.client ≡ false → 0 < open_count (connections self.old) }
+        ensures ready { IfOk result (λ ready. IsReady awaited (connections self.old) ready) }
+        ensures call { PortWaits (told self.old) (told self.new) awaited result }
         ensures connections { connections self.new ≡ connections self.old }
         ensures fixed { fixed self.new ≡ fixed self.old }
         ensures cause { HasCause (faults self.old) (faults self.new) result }

@@ -1,11 +1,19 @@
 // What a port was asked and what it answered, as plain data.
 use rx_base::{Bytes, Conn};
 
-/// What can be done without waiting: a client can be accepted, or a connection be read of.
+/// What is awaited besides the connections that are open: a client, and that somebody asks for a stop.
+#[derive(Clone, Copy, Debug, PartialEq, Eq)]
+pub struct Awaited {
+    pub client: bool,
+    pub stop: bool,
+}
+
+/// What can be done without waiting: a client can be accepted, or a connection be read of; or a stop was asked for.
 #[derive(Clone, Copy, Debug, PartialEq, Eq)]
 pub enum Ready {
     Accepts,
     Reads(Conn),
+    Stops,
 }
 
 /// A kind of calls on a port that can fail.
@@ -35,7 +43,7 @@ pub enum FailedCall {
 pub enum PortEntry {
     Bound(u16),
     Waited {
-        may_accept: bool,
+        awaited: Awaited,
         ready: Ready,
     },
     Accepted(Conn),

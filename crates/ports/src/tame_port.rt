@@ -11,7 +11,7 @@ ghost use Rattle.rx_base.specs.Outside.{piece_len};
 ghost use Rattle.std.specs.Vec.Iter.{into_iter_items, into_iter_len};
 
 use crate::input::Input;
-use crate::{FailedCall, Port, PortEntry, Ready};
+use crate::{Awaited, FailedCall, Port, PortEntry, Ready};
 use rx_base::{Bytes, Conn, IoFault};
 use std::alloc::Global;
 use std::vec::IntoIter;
@@ -48,12 +48,13 @@ fn is_open(conn: Conn, opened: &[bool]) -> bool
 }
 
 // Whether this can be answered now.
-fn is_ready(may_accept: bool, opened: &[bool], ready: Ready) -> bool
-    ensures { result ≡ is_ready may_accept opened.now ready }
+fn is_ready(awaited: Awaited, opened: &[bool], ready: Ready) -> bool
+    ensures { result ≡ is_ready awaited opened.now ready }
 {
     match ready {
-        Ready::Accepts => may_accept,
+        Ready::Accepts => awaited.client,
         Ready::Reads(conn) => is_open(conn, opened),
+        Ready::Stops => awaited.stop,
     }
 }
 
@@ -76,11 +77,11 @@ fn first_open(opened: &[bool]) -> Conn
 }
 
 // What is answered where no script says it.
-fn first_ready(may_accept: bool, opened: &[bool]) -> Ready
+fn first_ready(awaited: Awaited, opened: &[bool]) -> Ready
     requires few { length opened.now ≤ 2 ^ 16 }
-    ensures { result ≡ first_ready may_accept opened.now }
+    ensures { result ≡ first_ready awaited opened.now }
 {
-    if may_accept {
+    if awaited.client {
         return Ready::Accepts;
     }
     Ready::Reads(first_open(opened))
@@ -143,8 +144,8 @@ impl TamePort {
     }
 
     // What a wait answers; the script goes on by a line.
-    fn next_ready(&mut self, may_accept: bool) -> Ready
-        ensures ready { result ≡ next_ready may_accept (tame_connections self.old) (tame_script self.old) }
+    fn next_ready(&mut self, awaited: Awaited) -> Ready
+        ensures ready { result ≡ next_ready awaited (tame_connections self.old) (tame_script self.old) }
         ensures script { tame_script self.new ≡ script_rest (tame_script self.old) }
         ensures calls { self.new.calls ≡ self.old.calls }
         ensures count { self.new.count ≡ self.old.count }
@@ -152,11 +153,11 @@ impl TamePort {
         ensures inputs { KeepsInputs self.old self.new }
     {
         if let Some(line) = self.script.next() {
-            if is_ready(may_accept, &self.opened, line) {
+            if is_ready(awaited, &self.opened, line) {
                 return line;
             }
         }
-        first_ready(may_accept, &self.opened)
+        first_ready(awaited, &self.opened)
     }
 }
 
@@ -193,22 +194,22 @@ impl Port for TamePort {
         Ok(())
     }
 
-    fn wait(&mut self, may_accept: bool) -> Result<Ready, IoFault>
-        requires some { may_accept ≡ false → 0 < open_count (tame_connections self.old) }
-        ensures ready { IfOk result (λ ready. IsReady may_accept (tame_connections self.old) ready) }
-        ensures call { PortWaits (Some (tame_calls self.old)) (Some (tame_calls self.new)) may_accept result }
+    fn wait(&mut self, awaited: Awaited) -> Result<Ready, IoFault>
+        requires some { awaited.client ≡ false → 0 < open_count (tame_connections self.old) }
+        ensures ready { IfOk result (λ ready. IsReady awaited (tame_connections self.old) ready) }
+        ensures call { PortWaits (Some (tame_calls self.old)) (Some (tame_calls self.new)) awaited result }
         ensures connections { tame_connections self.new ≡ tame_connections self.old }
         ensures cause { HasCause 0 0 result }
-        ensures next { WaitsNext may_accept (tame_connections self.old) (tame_script self.old) (tame_script self.new) result }
+        ensures next { WaitsNext awaited (tame_connections self.old) (tame_script self.old) (tame_script self.new) result }
         ensures inputs { KeepsInputs self.old self.new }
     {
         match self.calls.reserve(self.count + 1) {
             Ok(()) => {}
             Err(_) => return Err(IoFault::Memory),
         }
-        let ready = self.next_ready(may_accept);
+        let ready = self.next_ready(awaited);
         self.calls
-            .push_reserved(PortEntry::Waited { may_accept, ready });
+            .push_reserved(PortEntry::Waited { awaited, ready });
         Ok(ready)
     }
 

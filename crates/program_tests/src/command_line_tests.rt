@@ -82,10 +82,12 @@ const ACCEPTED: &str = "\
     standby 1 2 3 --budget 1 --record standby => Some(Standby(StandbyCommand { program: \"1\", recorded: \"2\", counts: \"3\", recording: \"standby\", budget: 1 }))\n\
     resume p r q c --record o --report t => Some(Resume(ResumeCommand { program: \"p\", recorded: \"r\", reported: \"q\", counts: \"c\", recording: \"o\", report: \"t\", form: Text, hold: 0, ring: 8, every: 1, frames: 4, budget: 1000000, keep: 4, env: Plain, guard: Off }))\n\
     resume --hold 1000 1 --ring 16 2 --every 64 3 --report 6 --record 5 4 --frames 16 --keep 12 --env zero --budget 1 --form json --guard block --durable on --tell off => Some(Resume(ResumeCommand { program: \"1\", recorded: \"2\", reported: \"3\", counts: \"4\", recording: \"5\", report: \"6\", form: Json, hold: 1000, ring: 16, every: 64, frames: 16, budget: 1, keep: 12, env: Zero, guard: Block }))\n\
-    serve p 80 1 --record r --report t => Some(Serve(ServeCommand { session: RunCommand { program: \"p\", recording: \"r\", report: \"t\", form: Text, frame: Line, window: 4, hold: 0, ring: 8, every: 1, frames: 4, budget: 1000000, keep: 4, env: Plain, guard: Off }, port: 80, conns: 1, patience: 60, at_once: 1 }))\n\
-    serve --patience 0 p --record 80 --report 1 65535 --frame whole 4096 --form json --window 64 --ring 16 --every 64 --frames 16 --budget 68719476736 => Some(Serve(ServeCommand { session: RunCommand { program: \"p\", recording: \"80\", report: \"1\", form: Json, frame: Whole, window: 64, hold: 0, ring: 16, every: 64, frames: 16, budget: 68719476736, keep: 4, env: Plain, guard: Off }, port: 65535, conns: 4096, patience: 0, at_once: 1 }))\n\
-    serve 1 1 1 --record r --report t --patience 3600 --guard extent --keep 2 --env isolate => Some(Serve(ServeCommand { session: RunCommand { program: \"1\", recording: \"r\", report: \"t\", form: Text, frame: Line, window: 4, hold: 0, ring: 8, every: 1, frames: 4, budget: 1000000, keep: 2, env: Isolate, guard: Extent }, port: 1, conns: 1, patience: 3600, at_once: 1 }))\n\
-    serve p 80 2 --at-once 256 --record r --report t => Some(Serve(ServeCommand { session: RunCommand { program: \"p\", recording: \"r\", report: \"t\", form: Text, frame: Line, window: 4, hold: 0, ring: 8, every: 1, frames: 4, budget: 1000000, keep: 4, env: Plain, guard: Off }, port: 80, conns: 2, patience: 60, at_once: 256 }))\n\
+    serve p 80 1 --record r --report t => Some(Serve(ServeCommand { session: RunCommand { program: \"p\", recording: \"r\", report: \"t\", form: Text, frame: Line, window: 4, hold: 0, ring: 8, every: 1, frames: 4, budget: 1000000, keep: 4, env: Plain, guard: Off }, port: 80, conns: 1, patience: 60, at_once: 1, stops: false, drain: 10 }))\n\
+    serve --patience 0 p --record 80 --report 1 65535 --frame whole 4096 --form json --window 64 --ring 16 --every 64 --frames 16 --budget 68719476736 => Some(Serve(ServeCommand { session: RunCommand { program: \"p\", recording: \"80\", report: \"1\", form: Json, frame: Whole, window: 64, hold: 0, ring: 16, every: 64, frames: 16, budget: 68719476736, keep: 4, env: Plain, guard: Off }, port: 65535, conns: 4096, patience: 0, at_once: 1, stops: false, drain: 10 }))\n\
+    serve 1 1 1 --record r --report t --patience 3600 --guard extent --keep 2 --env isolate => Some(Serve(ServeCommand { session: RunCommand { program: \"1\", recording: \"r\", report: \"t\", form: Text, frame: Line, window: 4, hold: 0, ring: 8, every: 1, frames: 4, budget: 1000000, keep: 2, env: Isolate, guard: Extent }, port: 1, conns: 1, patience: 3600, at_once: 1, stops: false, drain: 10 }))\n\
+    serve p 80 2 --at-once 256 --record r --report t => Some(Serve(ServeCommand { session: RunCommand { program: \"p\", recording: \"r\", report: \"t\", form: Text, frame: Line, window: 4, hold: 0, ring: 8, every: 1, frames: 4, budget: 1000000, keep: 4, env: Plain, guard: Off }, port: 80, conns: 2, patience: 60, at_once: 256, stops: false, drain: 10 }))\n\
+    serve p 80 2 --stop input --drain 0 --record none --record-full stop --report t => Some(Serve(ServeCommand { session: RunCommand { program: \"p\", recording: \"none\", report: \"t\", form: Text, frame: Line, window: 4, hold: 0, ring: 8, every: 1, frames: 4, budget: 1000000, keep: 4, env: Plain, guard: Off }, port: 80, conns: 2, patience: 60, at_once: 1, stops: true, drain: 0 }))\n\
+    serve p 80 2 --stop never --drain 3600 --record r --record-full end --report t => Some(Serve(ServeCommand { session: RunCommand { program: \"p\", recording: \"r\", report: \"t\", form: Text, frame: Line, window: 4, hold: 0, ring: 8, every: 1, frames: 4, budget: 1000000, keep: 4, env: Plain, guard: Off }, port: 80, conns: 2, patience: 60, at_once: 1, stops: false, drain: 3600 }))\n\
     diagnose p --record r --report t --diagnosis d => Some(Diagnose(DiagnoseCommand { session: RunCommand { program: \"p\", recording: \"r\", report: \"t\", form: Text, frame: Line, window: 4, hold: 0, ring: 8, every: 1, frames: 4, budget: 1000000, keep: 4, env: Plain, guard: Extent }, diagnosis: \"d\" }))\n\
     diagnose --diagnosis d --hold 7 --keep 8 --env delay --report t p --record r --form json => Some(Diagnose(DiagnoseCommand { session: RunCommand { program: \"p\", recording: \"r\", report: \"t\", form: Json, frame: Line, window: 4, hold: 7, ring: 8, every: 1, frames: 4, budget: 1000000, keep: 8, env: Delay, guard: Extent }, diagnosis: \"d\" }))\n\
     drill 0 1 => Some(Drill(DrillCommand { seed: 0, count: 1 }))\n\
@@ -102,6 +104,10 @@ const REFUSED_ENDS: &str = "\
     --ring 2 --ring 2\n\
     --durable\n\
     --durable yes\n\
+    --record-full\n\
+    --record-full never\n\
+    --stop input\n\
+    --drain 1\n\
     --ring\n\
     --ring \n\
     --ring +5\n\
@@ -277,6 +283,10 @@ const REFUSED: &str = "\n \n\
     serve p 80 1 --record r --report t --at-once 257\n\
     serve p 80 1 --record r --report t --at-once 01\n\
     serve p 80 1 --record r --report t --at-once 2 --at-once 2\n\
+    serve p 80 1 --record r --report t --stop\n\
+    serve p 80 1 --record r --report t --stop on\n\
+    serve p 80 1 --record r --report t --drain 3601\n\
+    serve p 80 1 --record r --report t --drain 01\n\
     run p --record r --report t --at-once 1\n\
     diagnose p --record r --report t\n\
     diagnose p --record r --report t --diagnosis p\n\
@@ -397,6 +407,7 @@ const RUN_USAGE: &str = "run PROGRAM and in any place, each once:
   --guard off or extent or block (off)
   --tell auto or on or off (auto)
   --durable on or off (off)
+  --record-full end or stop (end)
 ";
 
 const RESUME_USAGE: &str = "resume PROGRAM RECORD REPORT COUNTS and in any place, each once:
@@ -413,6 +424,7 @@ const RESUME_USAGE: &str = "resume PROGRAM RECORD REPORT COUNTS and in any place
   --guard off or extent or block (off)
   --tell auto or on or off (auto)
   --durable on or off (off)
+  --record-full end or stop (end)
 ";
 
 const STANDBY_USAGE: &str = "standby PROGRAM RECORD COUNTS and in any place, each once:
@@ -440,6 +452,7 @@ resume PROGRAM RECORD REPORT COUNTS and in any place, each once:
   --guard off or extent or block (off)
   --tell auto or on or off (auto)
   --durable on or off (off)
+  --record-full end or stop (end)
 ";
 
 const SERVE_USAGE: &str =
@@ -458,8 +471,11 @@ const SERVE_USAGE: &str =
   --guard off or extent or block (off)
   --patience 0 to 3600 (60)
   --at-once 1 to 256 (1)
+  --stop never or input (never)
+  --drain 0 to 3600 (10)
   --tell auto or on or off (auto)
   --durable on or off (off)
+  --record-full end or stop (end)
 ";
 
 const DIAGNOSE_USAGE: &str = "diagnose PROGRAM and in any place, each once:
@@ -479,6 +495,7 @@ const DIAGNOSE_USAGE: &str = "diagnose PROGRAM and in any place, each once:
   --guard off or extent or block (extent)
   --tell auto or on or off (auto)
   --durable on or off (off)
+  --record-full end or stop (end)
 drill SEED (0 to 4294967295) COUNT (1 to 100000)
 frame
 unframe
@@ -521,7 +538,7 @@ const SERVE_HELP: &str = "serve PROGRAM PORT CONNS --record NAME --report NAME [
   PROGRAM a name: The file of the program, a static executable.
   PORT 1 to 65535: The port that clients connect to, on 127.0.0.1.
   CONNS 1 to 4096: How many connections are served.
-  --record a name: Where the record of the session is written.
+  --record a name: Where the record of the session is written. With none it isn't.
   --report a name: Where the report of the failures is written.
   --form text or json (text): The form of the report.
   --frame line or length or whole (line): How the bytes of a connection are cut into messages.
@@ -535,8 +552,11 @@ const SERVE_HELP: &str = "serve PROGRAM PORT CONNS --record NAME --report NAME [
   --guard off or extent or block (off): Which accesses to the heap are refused, by its blocks.
   --patience 0 to 3600 (60): For how many seconds a client is waited for. With 0 it is without limit.
   --at-once 1 to 256 (1): How many clients are served at the same time. With 1 it is one after another.
+  --stop never or input (never): Whether a line stop on standard input, or its end, stops it: then no client is accepted any more.
+  --drain 0 to 3600 (10): For how many seconds clients that are connected may stay behind a stop.
   --tell auto or on or off (auto): Whether each recovery is told on standard error as it happens.
   --durable on or off (off): Whether an episode is on the disk before replies that come of it are written.
+  --record-full end or stop (end): Whether the session ends where its record can't be written any more, or only the record stops.
 ";
 
 #[test]

@@ -1,10 +1,16 @@
 -- What calls on a port moved, accepted and closed, and what they made of its connections.
+use Rattle.std.proofs.Common.{not, ◌&&◌}
+use Rattle.std.proofs.lemmas.Bool.{eqb-true, or_cases}
 use Rattle.std.proofs.lemmas.List.Sums.{sum_by-cons}
+use Rattle.ports.specs.declared.port_calls.Awaited.{Awaited}
+use Rattle.ports.specs.declared.port_calls.Ready.TheVariants.{Accepts, Reads, Stops}
+use Rattle.port_link.specs.Served.{IsOver, awaited_of}
 use Rattle.port_link.specs.declared.place.Stage.{Stage}
 use Rattle.port_link.specs.declared.place.Stage.TheVariants.{Broken, Closed, Dropped, Ended, Open, Unopened}
 use Rattle.port_link.proofs.GiveLemmas.{goes_same}
-use Rattle.routes.proofs.Terms.{Bool, List, [], ap, append-nil, append_assoc, arith, cond, false, if◌then◌else◌, length, nat_lt, refl, subst, suc, sym, true, zero, ℕ, ◌++◌, ◌+◌, ◌<◌, ◌==◌, ◌∙◌, ◌∷◌, ◌≡◌, ◌≤◌, and_parts, ltb-true, flat_map-append, count_by, flat_map, Entry, LinkEvent, events_in-append, gave, gave_to, took, events_in, bytes_from, received_from, PortEntry, PortLimits, AreCalls, GoesOn, IsCall, Served, after_call, closed_entries, entries_of, fresh_served, gives_all, gives_part, served_after, takes_bytes, with_part, with_ends, OpenAtMost, bytes_given, bytes_taken, is_accept, is_close, taken_of}
-use Rattle.routes.specs.PortCalls.{given_to}
+use Rattle.routes.proofs.Terms.{Bool, List, [], ap, append-nil, append_assoc, arith, cond, false, if◌then◌else◌, inl, inr, length, nat_lt, refl, subst, suc, sym, true, zero, ℕ, ◌++◌, ◌+◌, ◌<◌, ◌==◌, ◌∙◌, ◌∷◌, ◌≡◌, ◌≤◌, ◌⊎◌, and_parts, ltb-true, flat_map-append, count_by, flat_map, Entry, LinkEvent, events_in-append, gave, gave_to, took, events_in, bytes_from, received_from, PortEntry, PortLimits, AreCalls, GoesOn, IsCall, Served, after_call, closed_entries, entries_of, fresh_served, gives_all, gives_part, served_after, takes_bytes, with_part, with_ends, OpenAtMost, bytes_given, bytes_taken, is_accept, is_close, taken_of, EndsAfter}
+use Rattle.routes.specs.PortCalls.{WasStopped, given_to, is_stopping}
+use Rattle.session_history.specs.declared.ends.SessionEnd.TheVariants as session_end
 use Rattle.links.specs.declared.journal.Entry.TheVariants as entry
 use Rattle.links.specs.declared.journal.LinkEvent.TheVariants as event
 use Rattle.ports.specs.declared.port_calls.FailedCall.TheVariants as call
@@ -83,7 +89,7 @@ gave_closed conn of Closed entries = sym (append-nil (gave conn entries))
 gave_step : (limits : PortLimits) (conn : ℕ) (served : Served) (next : PortEntry) → IsCall limits served next → gave conn (entries_of (after_call served next)) ≡ gave conn (entries_of served) ++ bytes_given conn next
 unfolding after_call
 gave_step limits conn served (made.Bound number) is = absurd is
-gave_step limits conn served (made.Waited may_accept ready) is = sym (append-nil (gave conn (entries_of served)))
+gave_step limits conn served (made.Waited awaited ready) is = sym (append-nil (gave conn (entries_of served)))
 gave_step limits conn served (made.Accepted of) is = gave_one conn (entries_of served) (entry.Took (event.Opens of))
 gave_step limits conn served (made.Took of bytes room) is = gave_taken conn of bytes served
 gave_step limits conn served (made.Gave to bytes offered) is = gave_by conn to (nat_lt (length bytes) offered) bytes served is.2
@@ -124,7 +130,7 @@ took_closed conn of Closed entries = sym (append-nil (took conn entries))
 took_step : (limits : PortLimits) (conn : ℕ) (served : Served) (next : PortEntry) → IsCall limits served next → took conn (entries_of (after_call served next)) ≡ took conn (entries_of served) ++ bytes_taken conn next
 unfolding after_call
 took_step limits conn served (made.Bound number) is = absurd is
-took_step limits conn served (made.Waited may_accept ready) is = sym (append-nil (took conn (entries_of served)))
+took_step limits conn served (made.Waited awaited ready) is = sym (append-nil (took conn (entries_of served)))
 took_step limits conn served (made.Accepted of) is = took_one conn (entries_of served) (event.Opens of)
 took_step limits conn served (made.Took of bytes room) is = took_taken conn of bytes served
 took_step limits conn served (made.Gave to bytes offered) is = took_by conn to (nat_lt (length bytes) offered) bytes served
@@ -190,7 +196,7 @@ closed_given false to bytes served = refl
 accepted_step : (limits : PortLimits) (served : Served) (next : PortEntry) → IsCall limits served next → (after_call served next).accepted ≡ served.accepted + one_if (is_accept next)
 unfolding after_call
 accepted_step limits served (made.Bound number) is = absurd is
-accepted_step limits served (made.Waited may_accept ready) is = omega arith
+accepted_step limits served (made.Waited awaited ready) is = omega arith
 accepted_step limits served (made.Accepted of) is = refl
 accepted_step limits served (made.Took of bytes room) is = let same = accepted_taken of bytes served in omega arith
 accepted_step limits served (made.Gave to bytes offered) is = let same = accepted_given (nat_lt (length bytes) offered) to bytes served in omega arith
@@ -204,7 +210,7 @@ accepted_step limits served (made.Failed (call.Give to)) is = omega arith
 closed_step : (limits : PortLimits) (served : Served) (next : PortEntry) → IsCall limits served next → (after_call served next).closed ≡ served.closed + one_if (is_close next)
 unfolding after_call
 closed_step limits served (made.Bound number) is = absurd is
-closed_step limits served (made.Waited may_accept ready) is = omega arith
+closed_step limits served (made.Waited awaited ready) is = omega arith
 closed_step limits served (made.Accepted of) is = omega arith
 closed_step limits served (made.Took of bytes room) is = let same = closed_taken of bytes served in omega arith
 closed_step limits served (made.Gave to bytes offered) is = let same = closed_given (nat_lt (length bytes) offered) to bytes served in omega arith
@@ -233,12 +239,73 @@ accepted_counted limits calls are = let all = counted (λ served. served.accepte
 pub closed_counted : (limits : PortLimits) (calls : List PortEntry) → AreCalls limits fresh_served calls → (served_after fresh_served calls).closed ≡ count_by is_close calls
 closed_counted limits calls are = let all = counted (λ served. served.closed) is_close limits (closed_step limits) fresh_served calls are in omega arith
 
+-- a stop stays
+stopped_taken : (of : ℕ) (bytes : List ℕ) (served : Served) → (takes_bytes of bytes served).stopped ≡ served.stopped
+stopped_taken of [] served = refl
+stopped_taken of (byte ∷ bytes) served = refl
+
+stopped_given : (cut : Bool) (to : ℕ) (bytes : List ℕ) (served : Served) → (if cut then gives_part to bytes served else gives_all to bytes served).stopped ≡ served.stopped
+stopped_given true to [] served = refl
+stopped_given true to (byte ∷ bytes) served = refl
+stopped_given false to bytes served = refl
+
+-- one that was answered was awaited, and so may be
+stop_asked : (limits : PortLimits) (served : Served) (awaited : Awaited) → awaited ≡ awaited_of limits served → awaited.stop ≡ true → limits.stops ≡ true
+stop_asked limits served awaited is stop = (and_parts limits.stops (not served.stopped) (sym (ap (λ (a : Awaited). a.stop) is) ∙ stop)).0
+
+stopped_step : (limits : PortLimits) (served : Served) (next : PortEntry) → IsCall limits served next → (after_call served next).stopped ≡ true → (served.stopped ≡ true) ⊎ ((limits.stops ≡ true) × (is_stopping next ≡ true))
+unfolding after_call
+stopped_step limits served (made.Bound number) is stops = absurd is
+stopped_step limits served (made.Waited awaited Accepts) is stops = inl stops
+stopped_step limits served (made.Waited awaited (Reads conn)) is stops = inl stops
+stopped_step limits served (made.Waited awaited Stops) is stops = inr (stop_asked limits served awaited is.1 is.2, refl)
+stopped_step limits served (made.Accepted of) is stops = inl stops
+stopped_step limits served (made.Took of bytes room) is stops = inl (sym (stopped_taken of bytes served) ∙ stops)
+stopped_step limits served (made.Gave to bytes offered) is stops = inl (sym (stopped_given (nat_lt (length bytes) offered) to bytes served) ∙ stops)
+stopped_step limits served (made.Closed of) is stops = inl stops
+stopped_step limits served (made.Failed call.Bind) is stops = absurd is
+stopped_step limits served (made.Failed call.Wait) is stops = inl stops
+stopped_step limits served (made.Failed call.Accept) is stops = inl stops
+stopped_step limits served (made.Failed (call.Take of)) is stops = inl stops
+stopped_step limits served (made.Failed (call.Give to)) is stops = inl stops
+
+stopped_by : (limits : PortLimits) (served : Served) (calls : List PortEntry) → AreCalls limits served calls → (served_after served calls).stopped ≡ true → (served.stopped ≡ true) ⊎ WasStopped limits calls
+unfolding served_after AreCalls
+stopped_by limits served [] are stops = inl stops
+stopped_by limits served (next ∷ calls) are stops = elim (stopped_by limits (after_call served next) calls are.1 stops) [
+  | inl here ↦ by (stopped_step limits served next are.0 here)
+  | inr later ↦ inr (later.0, let sum = more in let some = later.1 in omega arith)
+]
+  where
+    more : count_by is_stopping (next ∷ calls) ≡ one_if (is_stopping next) + count_by is_stopping calls
+    more = sum_by-cons (λ (made_call : PortEntry). cond (is_stopping made_call) 1 0) next calls
+
+    by : (served.stopped ≡ true) ⊎ ((limits.stops ≡ true) × (is_stopping next ≡ true)) → (served.stopped ≡ true) ⊎ WasStopped limits (next ∷ calls)
+    by (inl before) = inl before
+    by (inr now) = inr (now.0, (let sum = more in let one : one_if (is_stopping next) ≡ 1 = ap one_if now.1 in omega arith))
+
+-- what is over ends so
+pub ends_over : (limits : PortLimits) (calls : List PortEntry) → AreCalls limits fresh_served calls → IsOver limits (served_after fresh_served calls).accepted (served_after fresh_served calls).closed (served_after fresh_served calls).stopped
+    → EndsAfter limits calls session_end.Finished
+ends_over limits calls are over = (
+  sym (closed_counted limits calls are) ∙ over.0 ∙ accepted_counted limits calls are,
+  elim (or_cases ((served_after fresh_served calls).accepted == limits.conns) (served_after fresh_served calls).stopped over.1) [
+    | inl last ↦ inl (sym (accepted_counted limits calls are) ∙ eqb-true (served_after fresh_served calls).accepted limits.conns last)
+    | inr stop ↦ by (stopped_by limits fresh_served calls are stop)
+  ],
+)
+  where
+    by : (false ≡ true) ⊎ WasStopped limits calls → (count_by is_accept calls ≡ limits.conns) ⊎ WasStopped limits calls
+    by (inl never) = absurd (let wrong : ⊥ = cc in wrong)
+    by (inr was) = inr was
+
 -- at each call no more are open than may be
 few_step : (limits : PortLimits) (served : Served) (next : PortEntry) → IsCall limits served next → served.accepted ≤ served.closed + limits.at_once → one_if (is_accept next) + served.accepted ≤ served.closed + limits.at_once
 few_step limits served (made.Accepted of) is few =
-    let less : served.accepted < served.closed + limits.at_once = ltb-true _ _ (and_parts _ _ is.1).1 in omega arith
+    let less : served.accepted < served.closed + limits.at_once = ltb-true served.accepted (served.closed + limits.at_once) (and_parts (nat_lt served.accepted limits.conns) (nat_lt served.accepted (served.closed + limits.at_once))
+    (and_parts (not served.stopped) (nat_lt served.accepted limits.conns && nat_lt served.accepted (served.closed + limits.at_once)) is.1).1).1 in omega (arith, less)
 few_step limits served (made.Bound number) is few = absurd is
-few_step limits served (made.Waited may_accept ready) is few = omega arith
+few_step limits served (made.Waited awaited ready) is few = omega arith
 few_step limits served (made.Took of bytes room) is few = omega arith
 few_step limits served (made.Gave to bytes offered) is few = omega arith
 few_step limits served (made.Closed of) is few = omega arith

@@ -2,15 +2,16 @@
 use Rattle.links.specs.declared.journal.Entry.TheVariants as entry
 use Rattle.port_link.specs.declared.place.Place.{Place}
 use Rattle.port_link.specs.CallLaws.{served_of-append}
+use Rattle.port_link.specs.Served.{IsOver}
 use Rattle.port_link.specs.Steps.{Calls, WentOn}
-use Rattle.port_link.proofs.EndLemmas.{ended_whole}
+use Rattle.port_link.proofs.EndLemmas.{ended_whole, over_at}
 use Rattle.session_history.specs.declared.ends.SessionEnd.TheVariants as session_end
 use Rattle.session_history.specs.Giving.{AreGiven}
 use Rattle.session_history.specs.Lawful as lawful
 use Rattle.session_history.specs.Owing.{Moment}
 use Rattle.port_link.specs.PortLinks.{told_nothing}
 use Rattle.routes.proofs.Terms.{Bool, List, None, Option, Some, [], ap, append_assoc, false, if◌then◌else◌, refl, subst, sym, true, ℕ, ◌++◌, ◌<◌, ◌==◌, ◌∙◌, ◌∷◌, ◌≡◌, IfSome, is_some, unwrap_or, Send, sent_to, Entry, LinkEvent, gave, took, ComesUntold, Coming, Grew, HasEnded, Told, last_taken, Seen, PortEntry, PortLimits, AreCalls, Served, entries_of, fresh_served, served_after, served_of, IsJustBound, Stands, link_journal, told_at, with_ends, Image, SessionEnd, Stop, came_to, none_had, IsBroken, Session, after_ending, journal_of, AtBreak, IsEnded, before_end, Bounds, nothing_before, Rules, passed_behind, Noted, Keeping, HasRecovered, IsOutcome, Outcome, CalledPort, EndsAfter, GoesOverPort, Port, RecordsAt, Watches}
-use Rattle.routes.proofs.PortCallLemmas.{accepted_counted, closed_counted, given_is, open_at_most, taken_is}
+use Rattle.routes.proofs.PortCallLemmas.{ends_over, given_is, open_at_most, taken_is}
 
 -- what entries gave to a connection was passed to it
 gave_passed : (bounds : Bounds) (conn : ℕ) (before entries : List Entry) → gave conn entries ≡ sent_to conn (passed_behind bounds before entries)
@@ -71,19 +72,17 @@ called limits rules old new connections place session alone bound went stands jo
     made : journal_of session ≡ with_ends place.ends (entries_of (served_after fresh_served went.calls))
     made = sym journal ∙ ap (λ (served : Served). with_ends place.ends (entries_of served)) leads
 
-    ended : 0 < place.ends → ((served_after fresh_served went.calls).accepted ≡ limits.conns) × ((served_after fresh_served went.calls).closed ≡ limits.conns)
-    ended some =
-        let last = stands.ended some in
-        let at = stands.agrees new refl in
-        subst (λ (served : Served). (served.accepted ≡ limits.conns) × (served.closed ≡ limits.conns)) leads (at.accepted ∙ last.0, at.closed ∙ last.1 ∙ last.0)
+    ended : 0 < place.ends → IsOver limits (served_after fresh_served went.calls).accepted (served_after fresh_served went.calls).closed (served_after fresh_served went.calls).stopped
+    ended some = subst (λ (served : Served). IsOver limits served.accepted served.closed served.stopped) leads (over_at limits place (served_of new) (stands.agrees new refl) (stands.ended some))
 
-    finished : session.came ≡ Some session_end.Finished → EndsAfter limits.conns went.calls session_end.Finished
+    finished : session.came ≡ Some session_end.Finished → EndsAfter limits went.calls session_end.Finished
     finished came =
         let last = ended_whole (Some new) connections limits place new stands refl (subst HasEnded (sym journal) (still_ended session is (came_to {rules = rules} {coming = Some ComesUntold} {session = session} {end = session_end.Finished} is.comes came).stands.1)) in
-        let there = subst (λ (served : Served). (served.accepted ≡ limits.conns) × (served.closed ≡ limits.conns)) leads last in
-        (sym (accepted_counted limits went.calls are) ∙ there.0, sym (closed_counted limits went.calls are) ∙ there.1)
+        let there : IsOver limits (served_after fresh_served went.calls).accepted (served_after fresh_served went.calls).closed (served_after fresh_served went.calls).stopped =
+        subst (λ (served : Served). IsOver limits served.accepted served.closed served.stopped) leads last in
+        ends_over limits went.calls are there
 
-    ends : (came : Option SessionEnd) → session.came ≡ came → IfSome came (EndsAfter limits.conns went.calls)
+    ends : (came : Option SessionEnd) → session.came ≡ came → IfSome came (EndsAfter limits went.calls)
     ends None came = tt
     ends (Some session_end.Finished) came = finished came
     ends (Some _) came = tt

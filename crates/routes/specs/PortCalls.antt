@@ -1,7 +1,7 @@
--- The calls on a port, by what they moved on each connection, and by how many connections they opened and closed.
-use Rattle.std.specs.Prelude.{ℕ, ◌+◌, ◌==◌, ◌≤◌, Bool, true, false, List, [], count_by, flat_map, if◌then◌else◌}
+-- The calls on a port, by what they moved on each connection, by how many connections they opened and closed, and by whether a stop was asked for.
+use Rattle.std.specs.Prelude.{◌≡◌, ℕ, ◌+◌, ◌==◌, ◌<◌, ◌≤◌, Bool, true, false, List, [], count_by, flat_map, if◌then◌else◌}
 use Rattle.ports.specs.declared.port_calls.PortEntry.TheVariants as made
-use Rattle.routes.specs.Terms.{Prefix, PortEntry}
+use Rattle.routes.specs.Terms.{Prefix, PortEntry, PortLimits, is_stop}
 
 -- whether a call accepted a connection, and whether it closed one
 abbrev pub is_accept : PortEntry → Bool
@@ -11,6 +11,15 @@ is_accept _ = false
 abbrev pub is_close : PortEntry → Bool
 is_close (made.Closed conn) = true
 is_close _ = false
+
+-- whether a wait answered that a stop was asked for
+abbrev pub is_stopping : PortEntry → Bool
+is_stopping (made.Waited awaited ready) = is_stop ready
+is_stopping _ = false
+
+-- a stop was asked for, by limits under which it may be
+abbrev pub WasStopped : PortLimits → List PortEntry → Type 0
+WasStopped limits calls = (limits.stops ≡ true) × (0 < count_by is_stopping calls)
 
 -- the bytes that a call gave to this connection, and those that it took of it
 abbrev pub bytes_given : ℕ → PortEntry → List ℕ

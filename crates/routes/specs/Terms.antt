@@ -14,7 +14,7 @@ pub use Rattle.links.specs.Received.{bytes_from, received_from}
 pub use Rattle.links.specs.Seen.{IsFreshLink, Seen, no_faults}
 pub use Rattle.ports.specs.declared.port_calls.PortEntry.{PortEntry}
 pub use Rattle.port_link.specs.declared.place.PortLimits.{PortLimits}
-pub use Rattle.port_link.specs.Served.{GoesOn, IsCall, Served, closed_entries, entries_of, fresh_served, gives_all, gives_part, takes_bytes, with_part}
+pub use Rattle.port_link.specs.Served.{GoesOn, IsCall, IsOver, Served, closed_entries, entries_of, fresh_served, gives_all, gives_part, is_stop, takes_bytes, with_part}
 unfoldable pub use Rattle.port_link.specs.Served.{AreCalls, after_call, served_after, served_of}
 pub use Rattle.port_link.specs.Standing.{IsJustBound, Stands, with_ends}
 unfoldable pub use Rattle.port_link.specs.Standing.{link_journal, told_at}

@@ -2,7 +2,7 @@
 use crate::outputs::Kind;
 use crate::seen::Seen;
 use block_book::Ask;
-use command_line::{Command, RunCommand};
+use command_line::{Command, NO_RECORD, RunCommand};
 use elf_file::{ElfRefusal, RefusedField};
 use msg_frame::MAX_MESSAGE;
 use replay::Difference;
@@ -20,6 +20,8 @@ pub enum Value<'a> {
     Read(&'a str),
     /// A file that it writes, and of what kind.
     Written(&'a str, Kind),
+    /// A file that isn't written.
+    NoFile,
     Number(u64),
     Address(u32),
     Ask(Ask),
@@ -34,6 +36,7 @@ impl fmt::Display for Value<'_> {
     fn fmt<W: fmt::Write>(&self, f: &mut fmt::Formatter<W>) -> fmt::Result {
         match self {
             Value::Read(name) | Value::Written(name, _) => write!(f, "{name}"),
+            Value::NoFile => write!(f, "{NO_RECORD}"),
             Value::Number(number) => write!(f, "{number}"),
             Value::Address(address) => write!(f, "0x{address:08x}"),
             Value::Ask(Ask::Malloc { size }) => write!(f, "malloc({size})"),
@@ -88,11 +91,19 @@ fn milliseconds_of(budget: u64) -> u64 {
     budget.div_ceil(A_MILLISECOND)
 }
 
+// The record of this name, as a file that is written, unless it is none.
+fn record_value<'a>(name: &'a str) -> Value<'a> {
+    if name == NO_RECORD {
+        return Value::NoFile;
+    }
+    Value::Written(name, Kind::Record)
+}
+
 // The words of a session.
 fn session_words<'a>(alloc: Global, run: &RunCommand<'a>) -> Result<Vec<Fact<'a>>, AllocError> {
     let words = vec![in alloc;
         named("program", Value::Read(run.program)),
-        named("recording", Value::Written(run.recording, Kind::Record)),
+        named("recording", record_value(run.recording)),
         named("report", Value::Written(run.report, Kind::Report)),
         number("budget", run.budget),
         number("milliseconds", milliseconds_of(run.budget)),
@@ -138,7 +149,7 @@ pub fn words_of<'a>(alloc: Global, command: &Command<'a>) -> Result<Vec<Fact<'a>
             named("program", Value::Read(standby.program)),
             named("recorded", Value::Read(standby.recorded)),
             named("counts", Value::Read(standby.counts)),
-            named("recording", Value::Written(standby.recording, Kind::Record)),
+            named("recording", record_value(standby.recording)),
             number("budget", standby.budget),
             number("milliseconds", milliseconds_of(standby.budget)),
         ]?,
@@ -147,7 +158,7 @@ pub fn words_of<'a>(alloc: Global, command: &Command<'a>) -> Result<Vec<Fact<'a>
             named("recorded", Value::Read(resume.recorded)),
             named("reported", Value::Read(resume.reported)),
             named("counts", Value::Read(resume.counts)),
-            named("recording", Value::Written(resume.recording, Kind::Record)),
+            named("recording", record_value(resume.recording)),
             named("report", Value::Written(resume.report, Kind::Report)),
             number("budget", resume.budget),
             number("milliseconds", milliseconds_of(resume.budget)),
@@ -249,6 +260,11 @@ pub fn add_seen<'a>(facts: &mut Vec<Fact<'a>>, seen: Seen<'a>) -> Result<(), All
         Seen::Unread(file, error) | Seen::Unwritten(file, error) => {
             facts.push(named("file", Value::Read(file)))?;
             facts.push(named("error", Value::Error(error)))?
+        }
+        Seen::Large(file, size, limit) => {
+            facts.push(named("file", Value::Read(file)))?;
+            facts.push(number("size", size))?;
+            facts.push(number("limit", limit))?
         }
         Seen::Field(field) => facts.push(named("field", Value::Field(field)))?,
         Seen::Explained(text) => facts.push(named("explanation", Value::Text(text)))?,

@@ -7,35 +7,36 @@ ghost use Rattle.std.specs.Prelude.{◌≡◌, ◌<◌};
 ghost use Rattle.rx_serve.specs.Status.{status_of};
 
 mod descriptors;
-mod durable;
 mod facts;
 mod helping;
 mod message;
 mod outputs;
 mod readings;
+mod record_files;
 mod rows;
 mod seen;
 mod sentences;
+mod settings;
 mod std_teller;
 
-use command_line::{Command, asked_help, read_command};
+use command_line::{asked_help, read_command};
 use descriptors::hold_closed;
-use durable::durable_through;
-use durable_files::{DiskFiles, Through};
+use durable_files::DiskFiles;
 use facts::words_of;
 use helping::print_help;
 use outputs::{Objection, find_objection};
+use record_files::RecordFiles;
 use rx_base::Steps;
-use rx_io::{StdSink, StdSource};
+use rx_io::{FileFault, StdSink, StdSource};
 use rx_serve::{End, run_rx};
 use sentences::{tell, tell_memory, tell_not_utf8};
-use std::alloc::AllocError;
+use settings::{Settings, settings_of};
 use std::env;
 use std::marker::Brand;
 use std::process::ExitCode;
 use std::sync::ledger::{Blank, Ledger};
 use std_teller::StdTeller;
-use tcp_edge::TcpPortEdge;
+use tcp_edge::{StopInput, TcpPortEdge};
 
 // The status where memory ran out, and where the words are those of no command.
 const NO_MEMORY: u8 = 10;
@@ -44,14 +45,6 @@ const BAD_WORDS: u8 = 2;
 
 // The status where a file can't be written, or would be lost by it.
 const NO_FILE: u8 = 9;
-
-// For how many seconds a client is waited for: what the words of `serve` say. 0 is without limit, and stands where no client comes.
-fn patience_of(rt: &HostRuntime, words: &[String]) -> Result<u64, AllocError> {
-    match read_command(rt.alloc(), words)? {
-        Some(Command::Serve(serve)) => Ok(u64::from(serve.patience)),
-        _ => Ok(0),
-    }
-}
 
 // The status of what speaks against writing the files of these words, which is told, if anything does. Nothing was touched then.
 fn refused_outputs(rt: &HostRuntime, words: &[String]) -> Option<u8> {
@@ -67,28 +60,38 @@ fn refused_outputs(rt: &HostRuntime, words: &[String]) -> Option<u8> {
     }
 }
 
-// Runs the command of these words over the real streams, files and ports, where some files are written through to the disk and a client is waited for so
-// many seconds, and lets a teller know of recoveries.
+// The descriptor of standard input.
+const STANDARD_INPUT: i32 = 0;
+
+// How a command ended, and why a file couldn't be written last, if one couldn't be.
+#[derive(Drop)]
+struct Ended {
+    end: End,
+    fault: Option<FileFault>,
+}
+
+// Runs the command of these words over the real streams, files and ports, as they say of these, and lets a teller know of recoveries.
 fn run<L: Ledger>(
     rt: &HostRuntime,
     words: &[String],
-    through: Option<Through<'_>>,
-    patience: u64,
+    settings: &Settings<'_>,
     teller: &StdTeller<'_>,
     blank: Blank,
-) -> End
+) -> Ended
     requires name { blank.name ≡ L.name }
     requires parts { blank.parts ≡ L.parts }
     requires some { 0 < blank.parts }
-    ensures { result.status ≡ status_of result.answer }
+    ensures { result.end.status ≡ status_of result.end.answer }
 {
     let alloc = rt.alloc();
-    let mut files = DiskFiles::make(rt, alloc, through);
+    let files = DiskFiles::make(rt, alloc, settings.through);
+    let mut files = RecordFiles::make(rt, files, settings.record);
     let mut input = StdSource::make(rt);
     let mut output = StdSink::make(rt);
-    let mut port = TcpPortEdge::make(rt, alloc, patience);
+    let stop = settings.drain.map(|drain| StopInput::make(rt.reader(), STANDARD_INPUT, drain));
+    let mut port = TcpPortEdge::make(rt, alloc, settings.patience, stop);
     let mut steps = Steps::<L>::start(blank);
-    run_rx(
+    let end = run_rx(
         alloc,
         words,
         &mut files,
@@ -97,7 +100,9 @@ fn run<L: Ledger>(
         &mut port,
         &mut steps,
         teller,
-    )
+    );
+    let fault = files.take_fault();
+    Ended { end, fault }
 }
 
 fn main(rt: HostRuntime) -> ExitCode {
@@ -124,25 +129,21 @@ fn main(rt: HostRuntime) -> ExitCode {
     if let Some(status) = refused_outputs(&rt, words.as_slice()) {
         return ExitCode::from(status);
     }
-    let (Ok(patience), Ok(through)) = (
-        patience_of(&rt, words.as_slice()),
-        durable_through(&rt, words.as_slice()),
-    ) else {
+    let Ok(settings) = settings_of(&rt, words.as_slice()) else {
         tell_memory(&rt);
         return ExitCode::from(NO_MEMORY);
     };
     let teller = StdTeller::make(&rt, words.as_slice());
-    let end = run::<Brand>(
+    let Ended { end, fault } = run::<Brand>(
         &rt,
         words.as_slice(),
-        through,
-        patience,
+        &settings,
         &teller,
         Blank::new(1),
     );
     teller.tell_end(&end);
     if end.status != 0 {
-        tell(&rt, end.answer, end.difference, words.as_slice());
+        tell(&rt, &end, words.as_slice(), fault);
     }
     ExitCode::from(end.status)
 }

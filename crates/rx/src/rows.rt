@@ -9,7 +9,7 @@ pub fn head_of(command: &Command<'_>, answer: Answer, seen: Option<&Seen<'_>>) -
     match answer {
         Answer::FileFault => match (command, seen) {
             (_, Some(Seen::Unread(_, _))) => "the file {file} can't be read: {error}",
-            (_, Some(Seen::Unwritten(_, _))) => "the file {file} can't be written: {error}",
+            (_, Some(Seen::Unwritten(_, _))) => "the file {file} couldn't be written: {error}",
             (Command::Run(_) | Command::Serve(_), _) =>
                 "the program file {program} couldn't be read, or the record {recording} or the report {report} couldn't be written: is the disk full?",
             (Command::Diagnose(_), _) =>
@@ -26,16 +26,18 @@ pub fn head_of(command: &Command<'_>, answer: Answer, seen: Option<&Seen<'_>>) -
                 "the program file {program}, the record {recorded}, the report {reported} or the counts {counts} couldn't be read, or the record {recording} or the report {report} couldn't be written: is the disk full?",
             _ => OTHER,
         },
-        Answer::TooLarge => match command {
-            Command::Run(_) | Command::Serve(_) | Command::Diagnose(_) =>
+        Answer::TooLarge => match (command, seen) {
+            (_, Some(Seen::Large(_, _, _))) =>
+                "the file {file} has {size} bytes, and {limit} is the limit",
+            (Command::Run(_) | Command::Serve(_) | Command::Diagnose(_), _) =>
                 "the program file {program} has more than {MAX_PROGRAM} bytes, which is the limit",
-            Command::Asm(_) =>
+            (Command::Asm(_), _) =>
                 "the text {source} has more than {MAX_SOURCE} bytes, which is the limit",
-            Command::Replay(_) | Command::Convert(_) =>
+            (Command::Replay(_) | Command::Convert(_), _) =>
                 "the program file {program} has more than {MAX_PROGRAM} bytes, or the record {recorded} more than {MAX_RECORD}: these are the limits",
-            Command::Standby(_) =>
+            (Command::Standby(_), _) =>
                 "the program file {program} has more than {MAX_PROGRAM} bytes, the record {recorded} more than {MAX_RECORD}, or the counts {counts} more than {MAX_COUNTS}: these are the limits",
-            Command::Resume(_) =>
+            (Command::Resume(_), _) =>
                 "the program file {program} has more than {MAX_PROGRAM} bytes, the record {recorded} more than {MAX_RECORD}, the report {reported} more than {MAX_REPORT}, or the counts {counts} more than {MAX_COUNTS}: these are the limits",
             _ => OTHER,
         },

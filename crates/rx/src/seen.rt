@@ -9,8 +9,8 @@ use command_line::{Command, RunCommand, ServeCommand};
 use elf_file::{RefusedField, field_of_refusal};
 use run_history::Answer;
 use rv_asm::explain;
-use rx_io::{Files, StdFiles};
-use rx_serve::{MAX_PROGRAM, MAX_RECORD, MAX_REPORT, MAX_SOURCE};
+use rx_io::{FileFault, Files, StdFiles};
+use rx_serve::{MAX_COUNTS, MAX_PROGRAM, MAX_RECORD, MAX_REPORT, MAX_SOURCE};
 use schedule_file::{VERSION, read_record, read_unfinished};
 use std::alloc::Global;
 use std::fs::OpenOptions;
@@ -21,8 +21,10 @@ use std::{fs, io};
 pub enum Seen<'a> {
     /// It can't be read now, and why.
     Unread(&'a str, io::Error),
-    /// Nothing can be added to it now, and why.
+    /// It couldn't be written, or nothing can be added to it now, and why.
     Unwritten(&'a str, io::Error),
+    /// It has so many bytes, and more than this limit.
+    Large(&'a str, u64, u64),
     /// The field that a program file is refused for.
     Field(RefusedField),
     /// What is wrong with a refused text.
@@ -73,6 +75,41 @@ fn first_fault<'a>(rt: &HostRuntime, words: &[Fact<'a>]) -> Option<Seen<'a>> {
         let fault = fault_of(rt, &word.value);
         if fault.is_some() {
             return fault;
+        }
+    }
+    None
+}
+
+// A file of a command that couldn't be written as it ran, and why.
+fn written_fault<'a>(words: &[Fact<'a>], fault: FileFault) -> Option<Seen<'a>> {
+    let FileFault { name, error } = fault;
+    let word = words
+        .iter()
+        .find(|word| word.file() == Some(name.as_str()))?;
+    Some(Seen::Unwritten(word.file()?, error))
+}
+
+// How many bytes a file that stands for this name may have, if it is read.
+fn limit_of(name: &str) -> Option<u64> {
+    match name {
+        "program" => Some(MAX_PROGRAM),
+        "source" => Some(MAX_SOURCE),
+        "recorded" => Some(MAX_RECORD),
+        "reported" => Some(MAX_REPORT),
+        "counts" => Some(MAX_COUNTS),
+        _ => None,
+    }
+}
+
+// The first file of a command that is larger than it may be.
+fn first_large<'a>(rt: &HostRuntime, words: &[Fact<'a>]) -> Option<Seen<'a>> {
+    for word in words {
+        if let (Value::Read(file), Some(limit)) = (&word.value, limit_of(word.name)) {
+            if let Ok(found) = fs::metadata(rt, *file) {
+                if found.len() > limit {
+                    return Some(Seen::Large(*file, found.len(), limit));
+                }
+            }
         }
     }
     None
@@ -164,12 +201,17 @@ pub fn seen_behind<'a>(
     answer: Answer,
     command: Command<'a>,
     words: &[Fact<'a>],
+    fault: Option<FileFault>,
 ) -> Option<Seen<'a>>
     requires { HasRanges (shown command) }
 {
     let alloc = rt.alloc();
     match answer {
-        Answer::FileFault => first_fault(rt, words),
+        Answer::FileFault => match fault {
+            Some(fault) => written_fault(words, fault),
+            None => first_fault(rt, words),
+        },
+        Answer::TooLarge => first_large(rt, words),
         Answer::ElfRefused(kind) => {
             let file = loaded(rt, file_named(words, "program")?, MAX_PROGRAM)?;
             let window = window_of(rt, command)?;

@@ -9,6 +9,8 @@ use crate::seen::seen_behind;
 use command_line::{Command, complaint, read_command, usage};
 use replay::Difference;
 use run_history::Answer;
+use rx_io::FileFault;
+use rx_serve::End;
 use std::alloc::AllocError;
 
 // The commands in short.
@@ -66,11 +68,12 @@ fn message_of<'a>(
     answer: Answer,
     difference: Option<Difference>,
     command: Command<'a>,
+    fault: Option<FileFault>,
 ) -> Result<Message<'a>, AllocError>
     requires { HasRanges (shown command) }
 {
     let mut facts = words_of(rt.alloc(), &command)?;
-    let seen = seen_behind(rt, answer, command, facts.as_slice());
+    let seen = seen_behind(rt, answer, command, facts.as_slice(), fault);
     let head = head_of(&command, answer, seen.as_ref());
     let [middle, end] = rest_of(&command, answer, seen.as_ref(), difference);
     add_limits(&mut facts)?;
@@ -87,11 +90,11 @@ fn message_of<'a>(
     })
 }
 
-/// Tells what an answer to these words means, and of a run that isn't the recorded one what differs. The names and numbers in it are those
-/// of the command that the words ask for.
-pub fn tell(rt: &HostRuntime, answer: Answer, difference: Option<Difference>, words: &[String]) {
+/// Tells what the end of the command of these words means, and of a run that isn't the recorded one what differs; and why a file couldn't
+/// be written, if that was it. The names and numbers in it are those of the command that the words ask for.
+pub fn tell(rt: &HostRuntime, end: &End, words: &[String], fault: Option<FileFault>) {
     match read_command(rt.alloc(), words) {
-        Ok(Some(command)) => match message_of(rt, answer, difference, command) {
+        Ok(Some(command)) => match message_of(rt, end.answer, end.difference, command, fault) {
             Ok(message) => {
                 let _ = eprintln!(rt; "rx: {message}");
             }

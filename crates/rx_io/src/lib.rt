@@ -34,7 +34,7 @@ pub use memory_sink::MemorySink;
 pub use memory_source::MemorySource;
 pub use sink::Sink;
 pub use source::Source;
-pub use std_files::StdFiles;
+pub use std_files::{FileFault, StdFiles};
 pub use std_sink::StdSink;
 pub use std_source::StdSource;
 pub use tame_files::TameFiles;

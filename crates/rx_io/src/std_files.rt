@@ -1,14 +1,15 @@
 // The files of the system.
-ghost use Rattle.std.specs.Prelude.{◌≡◌, ◌≤◌, None, IfOk, true, vec_len};
+ghost use Rattle.std.specs.Prelude.{◌≡◌, ◌≤◌, None, IfOk, OnOk, vec_len};
 ghost use Rattle.std.specs.Io.KnownBytes.{Appends};
+ghost use Rattle.rx_base.specs.Faults.{HasCause};
 ghost use Rattle.rx_io.specs.Reading.{ReadsWhole};
 
 use crate::Files;
-use crate::attempts::{TRIES, read_some, write_some};
+use crate::attempts::{TRIES, read_some, try_write};
 use rx_base::{IoFault, LoadFault};
 use std::alloc::Global;
 use std::fs::OpenOptions;
-use std::io::{ErrorKind, Read, Write};
+use std::io::{Error, ErrorKind, Read, Write};
 use std::rt;
 
 // A file that is open for more bytes at its end, under its name.
@@ -18,12 +19,20 @@ struct OpenFile<F> {
     file: F,
 }
 
+/// Why a file couldn't be written, in the system's words, and its name.
+#[derive(Debug, Drop)]
+pub struct FileFault {
+    pub name: String,
+    pub error: Error,
+}
+
 /// The files of the system, by their paths. Of them nothing is told. The one to which bytes were added last stays open.
 #[derive(Drop)]
 pub struct StdFiles<'a, R: rt::Files> {
     rt: &'a R,
     alloc: Global,
     last: Option<OpenFile<R::File>>,
+    fault: Option<FileFault>,
     faults: u64,
 }
 
@@ -35,23 +44,41 @@ impl<'a, R: rt::Files> StdFiles<'a, R> {
             rt,
             alloc,
             last: None,
+            fault: None,
             faults: 0,
         }
     }
+
+    /// Why a file couldn't be written last, if one couldn't be, and memory didn't run out for that. It is told once.
+    pub fn take_fault(&mut self) -> Option<FileFault> {
+        self.fault.take()
+    }
+
+    // A file couldn't be written.
+    fn fail(&mut self, name: &str, error: Error) -> Result<(), IoFault>
+        ensures cause { HasCause self.old.faults self.new.faults result }
+    {
+        self.faults = self.faults.saturating_add(1);
+        self.fault = match String::from_str(self.alloc, name) {
+            Ok(name) => Some(FileFault { name, error }),
+            Err(_) => None,
+        };
+        Err(IoFault::Failed)
+    }
 }
 
-fn open<R: rt::Files>(rt: &R, how: &OpenOptions, name: &str) -> Option<R::File> {
+fn open<R: rt::Files>(rt: &R, how: &OpenOptions, name: &str) -> Result<R::File, Error> {
     for _ in 0..TRIES {
         match how.open(rt, name) {
-            Ok(file) => return Some(file),
+            Ok(file) => return Ok(file),
             Err(e) => {
                 if e.kind() != ErrorKind::Interrupted {
-                    return None;
+                    return Err(e);
                 }
             }
         }
     }
-    None
+    Err(Error::from(ErrorKind::Interrupted))
 }
 
 // All that a reader has left, of which no more than one byte past the limit is taken.
@@ -81,18 +108,18 @@ fn read_whole<R: Read>(reader: &mut R, alloc: Global, limit: u64) -> Result<Vec<
     Err(LoadFault::Failed)
 }
 
-// Writes all of the bytes, or says that it failed.
-fn write_whole<W: Write>(writer: &mut W, bytes: &[u8]) -> bool
-    ensures { result ≡ true → Appends (W.contents writer.old) (W.contents writer.new) bytes.now }
+// Writes all of the bytes, or says why that failed.
+fn write_whole<W: Write>(writer: &mut W, bytes: &[u8]) -> Result<(), Error>
+    ensures { OnOk result (Appends (W.contents writer.old) (W.contents writer.new) bytes.now) }
 {
     let mut rest = bytes;
     'pieces: while rest.len() > 0 {
-        let Some(count) = write_some(writer, rest) else {
-            return false;
-        };
-        (_, rest) = rest.split_at(count);
+        match try_write(writer, rest) {
+            Ok(count) => (_, rest) = rest.split_at(count),
+            Err(error) => return Err(error),
+        }
     }
-    true
+    Ok(())
 }
 
 fn load_from<R: rt::Files>(
@@ -103,7 +130,7 @@ fn load_from<R: rt::Files>(
 ) -> Result<Vec<u8>, LoadFault>
     ensures within { IfOk result (λ bytes. vec_len bytes ≤ limit) }
 {
-    let Some(mut file) = open(rt, OpenOptions::new().read(true), name) else {
+    let Ok(mut file) = open(rt, OpenOptions::new().read(true), name) else {
         return Err(LoadFault::Failed);
     };
     read_whole(&mut file, alloc, limit)
@@ -116,21 +143,22 @@ fn add_to<R: rt::Files>(
     last: &mut Option<OpenFile<R::File>>,
     name: &str,
     bytes: &[u8],
-) -> bool {
+) -> Result<(), Error> {
     if let Some(open) = last {
         if open.name.as_str() == name {
             return write_whole(&mut open.file, bytes);
         }
     }
-    let Some(mut file) = open(rt, OpenOptions::new().append(true).create(true), name) else {
-        return false;
+    let mut file = match open(rt, OpenOptions::new().append(true).create(true), name) {
+        Ok(file) => file,
+        Err(error) => return Err(error),
     };
-    let is_written = write_whole(&mut file, bytes);
+    let written = write_whole(&mut file, bytes);
     *last = match String::from_str(alloc, name) {
         Ok(name) => Some(OpenFile { name, file }),
         Err(_) => None,
     };
-    is_written
+    written
 }
 
 impl<R: rt::Files> Files for StdFiles<'_, R> {
@@ -159,18 +187,16 @@ impl<R: rt::Files> Files for StdFiles<'_, R> {
             OpenOptions::new().write(true).create(true).truncate(true),
             name,
         );
-        if made.is_none() {
-            self.faults = self.faults.saturating_add(1);
-            return Err(IoFault::Failed);
+        match made {
+            Ok(_) => Ok(()),
+            Err(error) => self.fail(name, error),
         }
-        Ok(())
     }
 
     fn add(&mut self, name: &str, bytes: &[u8]) -> Result<(), IoFault> {
-        if !add_to(self.rt, self.alloc, &mut self.last, name, bytes) {
-            self.faults = self.faults.saturating_add(1);
-            return Err(IoFault::Failed);
+        match add_to(self.rt, self.alloc, &mut self.last, name, bytes) {
+            Ok(()) => Ok(()),
+            Err(error) => self.fail(name, error),
         }
-        Ok(())
     }
 }

@@ -117,15 +117,15 @@ drained : (source source_later : Option Stream) (events : List _) → StopsTrunk
 drained None later events stops = tt
 drained (Some stream) later events stops = stops.1
 
--- and each connection of a port was accepted and closed
+-- and each connection of a port was closed
 served_all : (limits : PortLimits) (rules : Rules) (calls calls_later : Option (List PortEntry)) (session : Session) → session.came ≡ Some session_end.Finished → GoesOverPort limits rules calls calls_later session
-    → IfSome calls (λ before. IsServed limits.conns before calls_later)
+    → IfSome calls (λ before. IsServed limits before calls_later)
 served_all limits rules None later session came goes = tt
 served_all limits rules (Some before) None session came goes = absurd goes
 served_all limits rules (Some before) (Some later) session came goes = record {
   calls = goes.calls;
   made = ap Some goes.grew;
-  ends = subst (λ (end : Option SessionEnd). IfSome end (EndsAfter limits.conns goes.calls)) came goes.ends;
+  ends = subst (λ (end : Option SessionEnd). IfSome end (EndsAfter limits goes.calls)) came goes.ends;
 }
 
 -- of the answers of the allocator of a run the first ones stand in the record, and the others are the tail

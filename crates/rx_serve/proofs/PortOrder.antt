@@ -120,7 +120,7 @@ opened_numbered conn served is numbered =
 after_numbered : (limits : PortLimits) (served : Served) (next : PortEntry) → IsCall limits served next → IsNumbered served → IsNumbered (after_call served next)
 unfolding after_call
 after_numbered limits served (made.Bound number) is numbered = absurd is
-after_numbered limits served (made.Waited may_accept ready) is numbered = record { events = numbered.events; fresh = numbered.fresh }
+after_numbered limits served (made.Waited awaited ready) is numbered = record { events = numbered.events; fresh = numbered.fresh }
 after_numbered limits served (made.Accepted conn) is numbered =
     let here = is.0 in record {
       events = opened_numbered conn served here numbered;

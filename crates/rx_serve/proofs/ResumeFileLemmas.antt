@@ -3,9 +3,9 @@ use Rattle.run_history.specs.declared.answer.Answer.TheVariants as answer
 use Rattle.schedule_file.specs.Telling.{answer_of}
 use Rattle.report_reading.specs.Cutting as report_cut
 use Rattle.report_reading.specs.Refusals as report
-use Rattle.rx_serve.proofs.Terms.{Bool, List, None, Ok, Option, Some, [], arith, false, length, subst, true, ℕ, ◌+◌, ◌∷◌, ◌≡◌, ◌≤◌, Err, if◌then◌else◌, is_some, ◌==◌, FileCall, Loaded, Calls, Contents, Answer, Unfinished, is_line, judged_from, judged_lines, judged_under, lines_of, refused_behind, unfinished_last, unfinished_line, end_of, head_of, ReadReport, calls_then, front_behind, front_first, CallsFront, ResumeValue, counts_limit, program_limit, record_limit, report_limit, HasFile, LoadsFile, CallsAnswer, FourTexts, HasHandingCause, IsHanded, LargeCounts, LargeRecord, LargeReport, LoadsFour, ReadsAdopted, loading_four}
+use Rattle.rx_serve.proofs.Terms.{Bool, List, None, Ok, Option, Some, [], ap, arith, false, length, refl, subst, true, ℕ, ◌+◌, ◌-◌, ◌∷◌, ◌≡◌, ◌≤◌, Err, if◌then◌else◌, is_some, ◌==◌, FileCall, Loaded, Calls, Contents, Answer, Unfinished, is_line, judged_from, judged_lines, judged_under, lines_of, refused_behind, unfinished_last, unfinished_line, end_of, head_of, ReadReport, calls_then, front_behind, front_first, CallsFront, ResumeValue, counts_limit, program_limit, record_limit, report_limit, HasFile, LoadsFile, CallsAnswer, FourTexts, HasHandingCause, IsHanded, LargeCounts, LargeRecord, LargeReport, LoadsFour, ReadsAdopted, loading_four}
 use Rattle.rx_serve.proofs.CallingLemmas.{load_front}
-use Rattle.rx_serve.proofs.RecordLemmas.{behind_few, lines_few}
+use Rattle.rx_serve.proofs.RecordLemmas.{LeavesFew, behind_few, head_long, lines_leave}
 
 -- ---- what was loaded
 
@@ -93,17 +93,16 @@ unfinished_from_few version number line (first ∷ lines) is = by (is_some (answ
     by true rest last is = let few = rest is in omega (arith, few)
     by false rest last is = last is
 
-unfinished_few : (line : ℕ) (lines : List (List ℕ)) → judged_lines unfinished_last lines ≡ Some line → line ≤ 2 + length lines
-unfinished_few line [] is = let same : 1 ≡ line = cc in omega (arith, same)
-unfinished_few line (first ∷ lines) is =
-    elim (head_of first) as (λ head. judged_under unfinished_last head lines ≡ Some line → line ≤ 2 + length (first ∷ lines)) [
-      | None ↦ λ none. let same : 1 ≡ line = cc in omega (arith, same)
-      | Some head ↦ λ some. let few = unfinished_from_few head.version 2 line lines some in omega (arith, few)
-    ] is
+unfinished_few : (line : ℕ) (lines : List (List ℕ)) (most : ℕ) → LeavesFew lines most → judged_lines unfinished_last lines ≡ Some line → line ≤ 1 + (most - 9)
+unfinished_few line [] most leaves is = let same : 1 ≡ line = cc in omega (arith, same)
+unfinished_few line (first ∷ lines) most leaves is =
+    elim (head_of first) as (λ head. head_of first ≡ head → judged_under unfinished_last head lines ≡ Some line → line ≤ 1 + (most - 9)) [
+      | None ↦ λ at none. let same : 1 ≡ line = cc in omega (arith, same)
+      | Some head ↦ λ at some. let few = unfinished_from_few head.version 2 line lines some in let long = head_long first (ap is_some at) in omega (arith, few, long, leaves)
+    ] refl is
 
-pub unfinished_line_few : (text : List ℕ) (line : ℕ) → unfinished_line text ≡ Some line → line ≤ 2 + length text
-unfinished_line_few text line is =
-    omega (arith, unfinished_few line (lines_of text) is, lines_few text)
+pub unfinished_line_few : (text : List ℕ) (line : ℕ) → unfinished_line text ≡ Some line → line ≤ 1 + (length text - 9)
+unfinished_line_few text line is = unfinished_few line (lines_of text) (length text) (lines_leave text) is
 
 -- ---- so is one at which a report is refused
 

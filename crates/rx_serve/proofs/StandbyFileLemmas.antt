@@ -3,6 +3,7 @@ use Rattle.run_history.specs.declared.answer.Answer.TheVariants as answer
 use Rattle.schedule_file.specs.declared.recorded.Line.{Line}
 use Rattle.rx_serve.proofs.Terms.{Global, List, Option, [], ap, arith, length, length-append, subst, ℕ, ◌++◌, ◌+◌, ◌∷◌, ◌≡◌, ◌≤◌, Err, Result, Vec, FileCall, Loaded, Calls, Contents, Answer, Recorded, end_line, head_line, line_text, lines_text, IsReading, calls_then, front_behind, front_first, CallsFront, StandbyValue, counts_limit, program_limit, record_limit, HasFile, LoadsFile, CallsAnswer, LoadsTexts, OfCounts, OfProgram, OfRecord, loading}
 use Rattle.rx_serve.proofs.CallingLemmas.{load_front}
+use Rattle.rx_serve.proofs.RecordLemmas.{head_line_long}
 
 -- ---- what was loaded
 
@@ -62,10 +63,10 @@ lines_few : (lines : List Line) → length lines ≤ length (lines_text lines)
 lines_few [] = omega arith
 lines_few (line ∷ lines) = omega (arith, line_some line, lines_few lines, length-append (line_text line) (lines_text lines))
 
--- a record has no more answers of the allocator than its text has bytes
-pub answers_few : (text : List ℕ) (recorded : Recorded) → IsReading text recorded → length recorded.lines ≤ length text
+-- a record has no more answers of the allocator than its text has bytes behind the first line
+pub answers_few : (text : List ℕ) (recorded : Recorded) → IsReading text recorded → length recorded.lines + 10 ≤ length text
 answers_few text recorded reading =
     let head : List ℕ = head_line recorded.version recorded.window recorded.frame in
     let end : List ℕ = end_line recorded.steps recorded.taken in
     let lines : List ℕ = lines_text recorded.lines in
-    omega (arith, lines_few recorded.lines, ap length reading.1, length-append head (lines ++ end), length-append lines end)
+    omega (arith, lines_few recorded.lines, head_line_long recorded.version recorded.window recorded.frame, ap length reading.1, length-append head (lines ++ end), length-append lines end)

@@ -2,7 +2,7 @@
 use Rattle.std.specs.Prelude.{◌≡◌, ℕ, List, ◌++◌, true, Option, Some, IfSome}
 use Rattle.std.specs.Io.KnownBytes.{Appends}
 use Rattle.session_history.specs.declared.ends.SessionEnd.TheVariants as session_end
-use Rattle.rx_serve.specs.Terms.{IsDrained, Prefix, sent_to, PortEntry, payload, Answer, output, Session, journal_of, IsEnd, Rules, is_open, EndsAfter, given_to, Port, Route, Trunk}
+use Rattle.rx_serve.specs.Terms.{IsDrained, Prefix, sent_to, PortEntry, PortLimits, payload, Answer, output, Session, journal_of, IsEnd, Rules, is_open, EndsAfter, given_to, Port, Route, Trunk}
 use Rattle.rx_serve.specs.Outside.{Outside}
 
 -- the trunk of input and output
@@ -32,13 +32,14 @@ abbrev pub PassedOver : Route → Rules → Session → Answer → Type 0
 PassedOver (Trunk source source_later sink sink_later) rules session end = IfSome sink (λ before. PassedTrunk rules session end before sink_later)
 PassedOver (Port limits calls calls_later) rules session end = IfSome calls (λ before. PassedCalls rules session end before calls_later)
 
--- the calls that were made behind those before are such as stand at Finished: so many connections were accepted, and each was closed
-pub record IsServed (conns : ℕ) (before : List PortEntry) (later : Option (List PortEntry)) : Type 0 where
+-- the calls that were made behind those before are such as stand at Finished: each connection that was accepted was closed, and as many were accepted as
+-- the limits say, unless a stop was asked for
+pub record IsServed (limits : PortLimits) (before : List PortEntry) (later : Option (List PortEntry)) : Type 0 where
   pub calls : List PortEntry
   pub made : later ≡ Some (before ++ calls)
-  pub ends : EndsAfter conns calls session_end.Finished
+  pub ends : EndsAfter limits calls session_end.Finished
 
--- it was served to its end: no byte of the source is left, or every connection was accepted and closed
+-- it was served to its end: no byte of the source is left, or each connection was closed, and no more are to come
 abbrev pub IsDone : Route → Type 0
 IsDone (Trunk source source_later sink sink_later) = IfSome source (λ _. IsDrained source_later)
-IsDone (Port limits calls calls_later) = IfSome calls (λ before. IsServed limits.conns before calls_later)
+IsDone (Port limits calls calls_later) = IfSome calls (λ before. IsServed limits before calls_later)

@@ -30,9 +30,9 @@ pub record HasNotBound (value : ServeValue) (calls calls_later : Option (List Po
   pub untouched : IsUntouched old new
   pub nothing : HasNoSession end
 
--- how many clients a `serve` accepts, and how many it has at the same time at most
+-- how many clients a `serve` accepts, how many it has at the same time at most, and whether it may be stopped
 abbrev pub limits_of : ServeValue → PortLimits
-limits_of value = record { conns = value.conns; at_once = value.at_once }
+limits_of value = record { conns = value.conns; at_once = value.at_once; stops = value.stops }
 
 -- The port was bound, behind the first lines of both files, and a session of the program served its connections. Nothing was read of the input, nor
 -- written to the output. No give that failed is answered.

@@ -78,6 +78,7 @@ fn serve_port_noted<R: AccessRule, F: Files, P: Port, T: Teller, L: Ledger>(
     let limits = PortLimits {
         conns: serve.conns as Conn,
         at_once: serve.at_once as u16,
+        stops: serve.stops,
     };
     let answer = serve_port(alloc, session, port, limits, &mut notes, teller, steps);
     let _ = notes.is_whole();

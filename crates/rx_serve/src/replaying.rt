@@ -18,8 +18,8 @@ use schedule_file::{RecordRefusal, Recorded, read_record};
 use std::alloc::Global;
 use std::sync::ledger::Ledger;
 
-/// The greatest number of bytes of a record: 64 MiB.
-pub const MAX_RECORD: u64 = 64 << 20;
+/// The greatest number of bytes of a record: 4 GiB.
+pub const MAX_RECORD: u64 = 4 << 30;
 
 // Loads a record and reads it.
 fn load_record<F: Files>(alloc: Global, files: &mut F, name: &str) -> Result<Recorded, Answer>

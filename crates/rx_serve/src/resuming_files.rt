@@ -25,8 +25,8 @@ use rx_io::Files;
 use schedule_file::{Finish, Line, RecordRefusal, Unfinished, VERSION, read_unfinished};
 use std::alloc::{AllocError, Global};
 
-/// The greatest number of bytes of a report: 64 MiB.
-pub const MAX_REPORT: u64 = 64 << 20;
+/// The greatest number of bytes of a report: 1 GiB.
+pub const MAX_REPORT: u64 = 1 << 30;
 
 /// The bytes of the four files.
 #[derive(Drop)]

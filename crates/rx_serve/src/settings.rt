@@ -7,8 +7,6 @@ use command_line::RunCommand;
 use rx_base::MAX_ITEMS;
 use rx_engine::Options;
 
-/// How many items a session may receive.
-
 /// How many events a session may have.
 pub const MAX_EVENTS: u64 = 1 << 32;
 

@@ -66,19 +66,41 @@ pub fn longest_idle<S: Drop>(clients: &mut [Client<S>], now: Instant) -> Option<
     longest
 }
 
-// What is seen of a client of which the system answered this.
-fn seen_of(
-    answered: i16,
-    idle_since: Option<Instant>,
-    now: Instant,
-    patience: Option<Duration>,
-) -> Seen {
-    if answered != 0 {
-        return Seen::Ready;
+/// Until when clients are waited for: each for the patience, and behind a stop all until it is over.
+#[derive(Clone, Copy)]
+pub struct Waiting {
+    pub patience: Option<Duration>,
+    pub until: Option<Instant>,
+}
+
+impl Waiting {
+    // What is seen of a client of which the system answered this.
+    fn seen(&self, answered: i16, idle_since: Option<Instant>, now: Instant) -> Seen {
+        if let Some(until) = self.until {
+            if now >= until {
+                return Seen::Late;
+            }
+        }
+        if answered != 0 {
+            return Seen::Ready;
+        }
+        match (idle_since, self.patience) {
+            (Some(since), Some(patience)) if now.duration_since(since) >= patience => Seen::Late,
+            _ => Seen::Quiet,
+        }
     }
-    match (idle_since, patience) {
-        (Some(since), Some(patience)) if now.duration_since(since) >= patience => Seen::Late,
-        _ => Seen::Quiet,
+
+    /// How long is waited where a client has been idle for so long: without limit where there is none.
+    pub fn left(&self, idle: Option<Duration>, now: Instant) -> Option<Duration> {
+        let of_idle = match (self.patience, idle) {
+            (Some(patience), Some(idle)) => Some(patience.saturating_sub(idle)),
+            _ => None,
+        };
+        let of_stop = self.until.map(|until| until.duration_since(now));
+        match (of_idle, of_stop) {
+            (Some(idle), Some(stop)) => Some(idle.min(stop)),
+            (idle, stop) => idle.or(stop),
+        }
     }
 }
 
@@ -87,10 +109,10 @@ pub fn note_answers<S: Drop>(
     clients: &mut [Client<S>],
     answers: &[pollfd],
     now: Instant,
-    patience: Option<Duration>,
+    waiting: Waiting,
 ) {
     'clients: for (client, answer) in clients.iter_mut().zip(answers) {
-        client.seen = seen_of(answer.revents, client.idle_since, now, patience);
+        client.seen = waiting.seen(answer.revents, client.idle_since, now);
     }
 }
 

@@ -4,9 +4,11 @@ ghost use Rattle.ports.specs.Connections.{is_open};
 
 use crate::setting::patience_of;
 use crate::sockets::Sockets;
-use ports::{Port, Ready};
+use crate::stop_input::StopInput;
+use ports::{Awaited, Port, Ready};
 use rx_base::{Conn, IoFault};
 use std::alloc::Global;
+use std::io::Read;
 use std::net::{Ipv4Addr, Net, TcpListener};
 use std::time::Clock;
 
@@ -15,11 +17,12 @@ use std::time::Clock;
 ///
 /// Clients that can be read of take turns, and one that waits to be accepted comes before them. A client that has sent and taken
 /// nothing for the whole patience has its turn too, and then its take fails. A give waits within the patience for a client that
-/// doesn't read, and all others wait with it.
+/// doesn't read, and all others wait with it. Behind a stop the port is free again, and clients that are still connected when the time
+/// for that is over are as those that were idle for too long.
 #[derive(Drop)]
-pub struct TcpPortEdge<'a, R: Net + Clock> {
+pub struct TcpPortEdge<'a, R: Net + Clock, I: Read + Drop> {
     system: &'a R,
-    sockets: Sockets<R::Listener, R::Stream>,
+    sockets: Sockets<R::Listener, R::Stream, I>,
     opened: Vec<bool>,
     faults: u64,
     connection_faults: u64,
@@ -35,17 +38,22 @@ fn is_open(conn: Conn, opened: &[bool]) -> bool
     }
 }
 
-impl<'a, R: Net + Clock> TcpPortEdge<'a, R> {
+impl<'a, R: Net + Clock, I: Read + Drop> TcpPortEdge<'a, R, I> {
     /// It listens at no port yet. A client that is idle for longer than `patience` seconds is a take that fails, and a give that
-    /// waits for longer fails; at 0 it waits without limit.
-    pub fn make(system: &'a R, alloc: Global, patience: u64) -> TcpPortEdge<'a, R>
-        ensures connections { ⟦<TcpPortEdge<'a, R> as Port>⟧.connections result ≡ [] }
-        ensures faults { ⟦<TcpPortEdge<'a, R> as Port>⟧.faults result ≡ 0 }
-        ensures connection_faults { ⟦<TcpPortEdge<'a, R> as Port>⟧.connection_faults result ≡ 0 }
+    /// waits for longer fails; at 0 it waits without limit. A stop is asked for by `stop`, if there is such an input.
+    pub fn make(
+        system: &'a R,
+        alloc: Global,
+        patience: u64,
+        stop: Option<StopInput<I>>,
+    ) -> TcpPortEdge<'a, R, I>
+        ensures connections { ⟦<TcpPortEdge<'a, R, I> as Port>⟧.connections result ≡ [] }
+        ensures faults { ⟦<TcpPortEdge<'a, R, I> as Port>⟧.faults result ≡ 0 }
+        ensures connection_faults { ⟦<TcpPortEdge<'a, R, I> as Port>⟧.connection_faults result ≡ 0 }
     {
         TcpPortEdge {
             system,
-            sockets: Sockets::make(alloc, patience_of(patience)),
+            sockets: Sockets::make(alloc, patience_of(patience), stop),
             opened: Vec::new(alloc),
             faults: 0,
             connection_faults: 0,
@@ -53,7 +61,7 @@ impl<'a, R: Net + Clock> TcpPortEdge<'a, R> {
     }
 }
 
-impl<R: Net + Clock> Port for TcpPortEdge<'_, R> {
+impl<R: Net + Clock, I: Read + Drop> Port for TcpPortEdge<'_, R, I> {
     ghost told = { λ _. None };
 
     ghost connections = { λ s. s.opened.items };
@@ -80,10 +88,11 @@ impl<R: Net + Clock> Port for TcpPortEdge<'_, R> {
         }
     }
 
-    fn wait(&mut self, may_accept: bool) -> Result<Ready, IoFault> {
-        match self.sockets.wait(self.system, may_accept) {
-            Ok(Ready::Accepts) if may_accept => Ok(Ready::Accepts),
+    fn wait(&mut self, awaited: Awaited) -> Result<Ready, IoFault> {
+        match self.sockets.wait(self.system, awaited) {
+            Ok(Ready::Accepts) if awaited.client => Ok(Ready::Accepts),
             Ok(Ready::Reads(conn)) if is_open(conn, &self.opened) => Ok(Ready::Reads(conn)),
+            Ok(Ready::Stops) if awaited.stop => Ok(Ready::Stops),
             Err(IoFault::Memory) => Err(IoFault::Memory),
             _ => {
                 self.faults = self.faults.saturating_add(1);

@@ -113,6 +113,9 @@ fn ready_of(word: &str) -> Result<Ready, Fail> {
     if word == "client" {
         return Ok(Ready::Accepts);
     }
+    if word == "stop" {
+        return Ok(Ready::Stops);
+    }
     Ok(Ready::Reads(word.parse::<Conn>()?))
 }
 

@@ -79,6 +79,7 @@ fn ready_shown(alloc: Global, ready: Ready) -> Result<String, AllocError> {
     match ready {
         Ready::Accepts => String::from_str(alloc, "client"),
         Ready::Reads(conn) => format!(in alloc; "{conn}"),
+        Ready::Stops => String::from_str(alloc, "stop"),
     }
 }
 
@@ -86,10 +87,11 @@ fn ready_shown(alloc: Global, ready: Ready) -> Result<String, AllocError> {
 fn port_call_shown(alloc: Global, call: &PortEntry) -> Result<String, AllocError> {
     match call {
         PortEntry::Bound(port) => format!(in alloc; " bound {port}"),
-        PortEntry::Waited { may_accept, ready } => {
-            let asked = if *may_accept { "any" } else { "open" };
+        PortEntry::Waited { awaited, ready } => {
+            let asked = if awaited.client { "any" } else { "open" };
+            let or = if awaited.stop { "-or-stop" } else { "" };
             let ready = ready_shown(alloc, *ready)?;
-            format!(in alloc; " {asked} {ready}")
+            format!(in alloc; " {asked}{or} {ready}")
         }
         PortEntry::Accepted(conn) => format!(in alloc; " accepted {conn}"),
         PortEntry::Took { conn, bytes, room } => {

@@ -1,9 +1,30 @@
-use Rattle.port_link.proofs.StepLemmas.{end_takes_none, memory_takes}
+use Rattle.port_link.proofs.Terms.{sym, ◌∙◌}
+use Rattle.port_link.proofs.StepLemmas.{answered_takes, wait_fails, wait_then}
 use Rattle.port_link.proofs.taking.end_or_wait.Goals as goal
 
-pub returns-then-place-clause-takes : goal.returns-then-place-clause-takes
-returns-then-place-clause-takes g c = memory_takes c.args.limits (g.P.Port.told c.args.port.now) (g.P.Port.connections c.args.port.now) c.args.place.now c.requires.stands
+pub returns-then-is_over-clause-takes : goal.returns-then-is_over-clause-takes
+returns-then-is_over-clause-takes g c =
+    answered_takes c.args.limits (g.P.Port.told c.args.port.now) (g.P.Port.connections c.args.port.now) c.args.place.now c.requires.stands c.answer_end.new.place c.answer_end.result (sym c.is_over.ensures ∙ c.if-is_over.true) c.answer_end.ensures
 
-pub returns-then-place-limits-clause-takes : goal.returns-then-place-limits-clause-takes
-returns-then-place-limits-clause-takes g c =
-    end_takes_none c.args.limits (g.P.Port.told c.args.port.now) (g.P.Port.connections c.args.port.now) c.args.place.now c.requires.stands c.if-place-limits.true
+pub returns-in-Ok-Accepts-clause-takes : goal.returns-in-Ok-Accepts-clause-takes
+returns-in-Ok-Accepts-clause-takes g c =
+    let told = g.P.Port.told in
+    wait_then c.args.limits (told c.args.port.now) (told c.wait_ready.new.port) (told c.open_next.new.port) (g.P.Port.connections c.wait_ready.new.port) (g.P.Port.connections c.open_next.new.port) c.args.place.now c.in-Ok-Accepts.field-0
+    c.wait_ready.new.place c.open_next.new.place c.open_next.result c.in-Ok-Accepts.ensures.place c.in-Ok-Accepts.ensures.waits c.open_next.ensures.takes
+
+pub returns-in-Ok-Reads-clause-takes : goal.returns-in-Ok-Reads-clause-takes
+returns-in-Ok-Reads-clause-takes g c =
+    let told = g.P.Port.told in
+    wait_then c.args.limits (told c.args.port.now) (told c.wait_ready.new.port) (told c.take_next.new.port) (g.P.Port.connections c.wait_ready.new.port) (g.P.Port.connections c.take_next.new.port) c.args.place.now c.in-Ok-Reads.field-0
+    c.wait_ready.new.place c.take_next.new.place c.take_next.result c.in-Ok-Reads.ensures.place c.in-Ok-Reads.ensures.waits c.take_next.ensures.takes
+
+pub returns-in-Ok-Stops-clause-takes : goal.returns-in-Ok-Stops-clause-takes
+returns-in-Ok-Stops-clause-takes g c =
+    let told = g.P.Port.told in
+    wait_then c.args.limits (told c.args.port.now) (told c.wait_ready.new.port) (told c.end_or_take.new.port) (g.P.Port.connections c.wait_ready.new.port) (g.P.Port.connections c.end_or_take.new.port) c.args.place.now c.in-Ok-Stops.field-0
+    c.wait_ready.new.place c.end_or_take.new.place c.end_or_take.result c.in-Ok-Stops.ensures.place c.in-Ok-Stops.ensures.waits c.end_or_take.ensures.takes
+
+pub returns-in-Err-clause-takes : goal.returns-in-Err-clause-takes
+returns-in-Err-clause-takes g c =
+    wait_fails c.args.limits (g.P.Port.told c.args.port.now) (g.P.Port.told c.wait_ready.new.port) (g.P.Port.connections c.wait_ready.new.port) c.args.place.now c.wait_ready.new.place c.in-Err.fault c.in-Err.ensures.goes c.in-Err.ensures.place
+    c.in-Err.ensures.waits

@@ -4,5 +4,5 @@ use Rattle.ports.proofs.tame_port.TamePortPort.wait.Goals as goal
 
 pub returns-clause-ready : goal.returns-clause-ready
 returns-clause-ready c =
-    subst (λ (ready : Ready). IsReady c.args.may_accept c.args.self.now.opened.items ready) (sym c.next_ready-ready.ensures.ready)
-    (next_is_ready c.args.may_accept c.args.self.now.opened.items (into_iter_items c.args.self.now.script) c.requires.some)
+    subst (λ (ready : Ready). IsReady c.args.awaited c.args.self.now.opened.items ready) (sym c.next_ready-ready.ensures.ready)
+    (next_is_ready c.args.awaited c.args.self.now.opened.items (into_iter_items c.args.self.now.script) c.requires.some)
